@@ -15,14 +15,14 @@ entry_own (None ∷ os) zero a = refl
 entry_own (Some b ∷ os) zero a = refl
 entry_own (o ∷ os) (suc n) a = entry_own os n a
 
--- and then the position isn't free
+-- the position isn't free after a value is put there
 pub entry_filled_own : {A : Type 0} (os : List (Option A)) (n : ℕ) (a : A) → is_free_at (put_entry os n a) n ≡ false
 entry_filled_own [] n a = refl
 entry_filled_own (None ∷ os) zero a = refl
 entry_filled_own (Some b ∷ os) zero a = refl
 entry_filled_own (o ∷ os) (suc n) a = entry_filled_own os n a
 
--- what is read at other positions stays
+-- the entries at other positions are unchanged
 pub entry_other : {A : Type 0} (os : List (Option A)) (n m : ℕ) (a : A) → (n ≡ m → ⊥)
     → entry_at (put_entry os n a) m ≡ entry_at os m
 entry_other [] n m a h = refl
@@ -31,7 +31,7 @@ entry_other (o ∷ os) zero (suc m) a h = refl
 entry_other (o ∷ os) (suc n) zero a h = refl
 entry_other (o ∷ os) (suc n) (suc m) a h = entry_other os n m a (λ e. h (ap (λ (k : ℕ). suc k) e))
 
--- and so does whether they are free
+-- other positions stay free if they were
 pub free_other : {A : Type 0} (os : List (Option A)) (n m : ℕ) (a : A) → (n ≡ m → ⊥)
     → is_free_at (put_entry os n a) m ≡ is_free_at os m
 free_other [] n m a h = refl
@@ -74,14 +74,14 @@ place_own [] t i a = refl
 place_own (row ∷ rows) zero i a = entry_own row i a
 place_own (row ∷ rows) (suc t) i a = place_own rows t i a
 
--- and then the place isn't free
+-- the place isn't free after a value is put there
 pub place_filled_own : {A : Type 0} (rows : List (List (Option A))) (t i : ℕ) (a : A)
     → is_free_at (row_at (put_place rows t (suc i) a) t) i ≡ false
 place_filled_own [] t i a = refl
 place_filled_own (row ∷ rows) zero i a = entry_filled_own row i a
 place_filled_own (row ∷ rows) (suc t) i a = place_filled_own rows t i a
 
--- what is read at other places stays
+-- the entries at other places are unchanged
 pub place_other : {A B : Type 0} (f : List (Option A) → ℕ → B)
     → ((os : List (Option A)) (n m : ℕ) (a : A) → (n ≡ m → ⊥) → f (put_entry os n a) m ≡ f os m)
     → (rows : List (List (Option A))) (u j t i : ℕ) (a : A) → (u ≡ t → j ≡ suc i → ⊥)

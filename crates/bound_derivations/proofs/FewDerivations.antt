@@ -1,5 +1,5 @@
--- Rounds find at most 36,000 bounds of a valid program: at most 3,000 before the first round, and then each find leaves
--- fewer bounds missing, of which there are at most 33,000.
+-- Rounds make at most 36,000 derivations for a valid program: at most 3,000 before the first round, and then each one
+-- leaves fewer bounds missing, of which there are at most 33,000.
 use Rattle.std.proofs.Common.{◌≡◌, ℕ, suc, ◌+◌, ◌<◌, ◌≤◌, Bool, true, false, List, [], ◌∷◌, ◌++◌, length, map, filter, None}
 use Rattle.std.proofs.Common.{refl, sym, ap, ◌∙◌, subst, arith, All, append_assoc}
 use Rattle.std.proofs.lemmas.List.{append-nil, length-append, length-map}
@@ -34,7 +34,7 @@ filter-short test (x ∷ xs) = go (test x) refl (filter-short test xs)
     go true e rest = rw e (omega (arith, rest))
     go false e rest = rw e (omega (arith, rest))
 
--- there is a find for each empty rule
+-- there is a derivation for each infeasible rule
 empties-count : (q : Searches) (ts : List ℕ) (fs : List Derivation) → AreEmptyDerivations q ts fs → length fs ≡ length ts
 empties-count q [] fs e = ap (λ (xs : List Derivation). length xs) e
 empties-count q (t ∷ ts) fs (multipliers, h, (rest, e, more)) =
@@ -64,8 +64,8 @@ first-few q p valid fs h =
     never : List Derivation
     never = map (never_derivation p) (zeroed p h.is_empty h.is_unreached)
 
--- finds that are justified after others, each with a key of a rule, lower the number of missing bounds by at least
--- their number
+-- derivations that are justified after others, each with a key of a rule, lower the number of missing bounds by at
+-- least their own number
 falls : (s : Setting) (old fs more : List Derivation) → StandAfter s fs more → All (FindsMissing s.program old) more
     → missing s.program (bounds_of s.program (fs ++ more)) + length more ≤ missing s.program (bounds_of s.program fs)
 falls s old fs [] h k =
@@ -85,7 +85,7 @@ falls s old fs (f ∷ more) h k =
     ap (λ (xs : List Derivation). missing s.program (bounds_of s.program xs)) (append_assoc fs (f ∷ []) more) in
     omega (arith, here, later, same)
 
--- of two lists of justified finds, the second is justified after the first
+-- the second part of a justified list is justified after the first
 stand-rest : (s : Setting) (earlier xs ys : List Derivation) → StandAfter s earlier (xs ++ ys) → StandAfter s (earlier ++ xs) ys
 stand-rest s earlier [] ys h = subst (λ (fs : List Derivation). StandAfter s fs ys) (sym (append-nil earlier)) h
 stand-rest s earlier (x ∷ xs) ys h =
@@ -93,7 +93,7 @@ stand-rest s earlier (x ∷ xs) ys h =
     (stand-rest s (earlier ++ x ∷ []) xs ys h.1)
 
 module _ (q : Searches) (s : Setting) (valid : IsValid s.program) (right : AreRight q s) (one : AreOne q) where
-  -- this many are found and missing together
+  -- the number of derivations and missing bounds together is limited
   made-count : (fs : List Derivation) → IsMade q s fs → length fs + missing s.program (bounds_of s.program fs) ≤ 36000
   made-count fs (Begun h) =
       let few = first-few q s.program valid fs h in
@@ -106,6 +106,6 @@ module _ (q : Searches) (s : Setting) (valid : IsValid s.program) (right : AreRi
       let long = length-append old more in
       omega (arith, before, fewer, long)
 
-  -- so rounds find few bounds
+  -- rounds make few derivations
   pub made-few : (fs : List Derivation) → IsMade q s fs → length fs ≤ 36000
   made-few fs h = let all = made-count fs h in omega (arith, all)

@@ -1,4 +1,4 @@
--- The table stays the index of the list when a find is taken.
+-- The table stays the index of the list when a derivation is added.
 use Rattle.std.proofs.Common.{◌≡◌, ◌⊎◌, inl, inr, ℕ, zero, suc, ◌+◌, ◌<◌, ◌≤◌, ◌&&◌, Bool, true, false, cond}
 use Rattle.std.proofs.Common.{List, [], ◌∷◌, ◌++◌, length, map, Option, Some, None, refl, sym, ◌∙◌, ap, subst, arith}
 use Rattle.std.specs.Prelude.{slice_get, slice_index_or}
@@ -43,7 +43,7 @@ long_at (row ∷ rows) (n ∷ ns) zero e = let h : length row ≡ n = cc in h
 long_at (row ∷ rows) (n ∷ ns) (suc t) e =
     let h : map (λ (r : List (Option Stored)). length r) rows ≡ ns = cc in long_at rows ns t h
 
--- which is the arity of its target
+-- this is the arity of the rule's target
 pub arity_at : (p : Program) (rules : List Rule) (t : ℕ) (r : Rule) → slice_get rules t ≡ Some r
     → slice_index_or (map (λ (r : Rule). arity_of p r.target) rules) t 0 ≡ arity_of p r.target
 arity_at p [] t r e = absurd (let f : ⊥ = cc in f)
@@ -121,7 +121,7 @@ first_of-alone : (o : Option Bound) → plain.first_of o None ≡ o
 first_of-alone None = refl
 first_of-alone (Some b) = refl
 
--- a bound that is written at open keys is that of one find more
+-- writing a bound at open keys gives the bounds with one derivation more
 bounds_taken : (p : Program) (old new : Table) (derivations : List Derivation) (g : plain.Derivation) (n : ℕ) → AreDerivedBounds p old derivations
     → AreOpen p (derivations_of derivations) g.keys → IsWritten old g.keys g.bound n new
     → (t i : ℕ) → bounds_in new t i ≡ plain.bounds_of p (derivations_of derivations ++ g ∷ []) t i
@@ -146,7 +146,7 @@ bounds_taken p old new derivations g n derived open_keys written t i = by_cases 
         ∙ (ap (plain.first_of (plain.bounds_of p (derivations_of derivations) t i)) (found-later g [] t i m)
         ∙ first_of-alone (plain.bounds_of p (derivations_of derivations) t i)))))
 
--- and its number is that of one find more
+-- writing its number gives the numbers with one derivation more
 numbers_taken : (p : Program) (old new : Table) (derivations : List Derivation) (g : plain.Derivation) → AreDerivedBounds p old derivations
     → AreOpen p (derivations_of derivations) g.keys → IsWritten old g.keys g.bound (length derivations + 1) new
     → (t i : ℕ) → number_at new t i ≡ plain.number_in (derivations_of derivations ++ g ∷ []) t i
@@ -181,13 +181,13 @@ numbers_taken p old new derivations g derived open_keys written t i = by_cases (
         ∙ (first_fails (has_key g.keys (suc t) i) (is_free old (suc t) i) (length derivations + 1) (number_at old (suc t) i) m
         ∙ (derived.numbers (suc t) i ∙ sym (number-other 0 (derivations_of derivations) g (suc t) i m)))
 
--- what is written at keys, with a number, is written at the same keys with the same number
+-- writing the same bound at the same keys, with the same number
 written_same : (old new : Table) (xs ys : List ResultVariable) (b : Bound) (m n : ℕ) → xs ≡ ys → m ≡ n
     → IsWritten old xs b m new → IsWritten old ys b n new
 written_same old new xs ys b m n e f h =
     subst (λ (ks : List ResultVariable). IsWritten old ks b n new) e (subst (λ (k : ℕ). IsWritten old xs b k new) f h)
 
--- a find whose keys were open is taken where its bound is written at them with its number
+-- a derivation with open keys is added by writing its bound at them with its number
 pub taken : (p : Program) (old new : Table) (derivations whole : List Derivation) (f : Derivation) (keys : List ResultVariable) (n : ℕ)
     → whole ≡ derivations ++ f ∷ [] → keys ≡ (derivation_of f).keys → n ≡ length derivations + 1
     → IsWritten old keys (derivation_of f).bound n new → AreDerivedBounds p old derivations → AreOpen p (derivations_of derivations) (derivation_of f).keys

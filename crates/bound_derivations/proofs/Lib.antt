@@ -1,4 +1,4 @@
--- lists of what is stored, and rows of them
+-- lists of entries, and rows of them
 pub mod Entries
 -- tables in which bounds are written by key
 pub mod Writes
@@ -6,9 +6,9 @@ pub mod Writes
 pub mod Room
 -- the table stays the index of the list
 pub mod IndexStays
--- the lemmas of finds
+-- the lemmas of derivations
 pub mod Cites
--- what is known at first
+-- the bounds known initially
 pub mod StartIndex
 -- times, sizes and numbers by key
 pub mod TablesByKey

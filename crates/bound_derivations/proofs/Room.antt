@@ -1,4 +1,4 @@
--- There is room for what is found: of a valid program few bounds are missing, and each find leaves fewer.
+-- There is room for each derivation: for a valid program few bounds are missing, and each derivation leaves fewer.
 use Rattle.std.proofs.Common.{◌≡◌, ◌⊎◌, inl, inr, ℕ, ◌+◌, ◌*◌, ◌-◌, ◌<◌, ◌≤◌, ◌^◌, Bool, true, false, cond, List, []}
 use Rattle.std.proofs.Common.{◌∷◌, ◌++◌, length, Option, Some, None, refl, sym, ◌∙◌, ap, subst, arith}
 use Rattle.std.specs.Prelude.{⊤}
@@ -26,7 +26,7 @@ use Rattle.bound_derivations.specs.declared.derivation.Derivation.{Derivation}
 use Rattle.bound_derivations.specs.Books.{AreDerivedBounds, IsKey, AreOpen}
 use Rattle.bound_derivations.specs.Views.{derivations_of}
 
--- what a test counts for is at most 1
+-- a test counts for at most 1
 one_at_most : (v : Bool) → cond v 1 0 ≤ 1
 one_at_most true = omega arith
 one_at_most false = omega arith
@@ -48,7 +48,7 @@ places_few p v (Some a) =
     let few = few-places p.symbols a v.symbols in
     omega (arith, long, few)
 
--- so few sizes are missing after rules
+-- few sizes are missing after rules
 sizes_few : (p : Program) → IsValid p → (b : Bounds) (ts : List ℕ) → all_unsized p b ts ≤ 32 * length ts
 sizes_few p v b [] = omega arith
 sizes_few p v b (t ∷ ts) =
@@ -73,7 +73,7 @@ key_of_rule p t i k = (k.rule, place k.place)
     place (inl e) = inl (sym e)
     place (inr is) = inr is
 
--- a find whose keys were open leaves fewer bounds missing
+-- a derivation with open keys leaves fewer bounds missing
 pub find_falls : (p : Program) (fs : List plain.Derivation) (g : plain.Derivation) → AreOpen p fs g.keys
     → missing p (plain.bounds_of p (fs ++ g ∷ [])) < missing p (plain.bounds_of p fs)
 find_falls p fs g are = go g.keys refl are
@@ -101,11 +101,11 @@ first_of_alone None = refl
 first_of_alone (Some b) = refl
 
 module _ (p : Program) (fs : List plain.Derivation) (g : plain.Derivation) where
-  -- the find with these keys alone
+  -- the derivation with these keys alone
   abbrev pub derivation_at : List ResultVariable → plain.Derivation
   derivation_at keys = record { keys = keys; node = g.node; premises = g.premises; bound = g.bound }
 
-  -- with one key more all is known that was
+  -- with one key more, every known bound stays known
   known_still : (k : ResultVariable) (ks : List ResultVariable) (t i : ℕ) (b : Bound)
       → plain.bounds_of p (fs ++ derivation_at ks ∷ []) t i ≡ Some b
       → plain.bounds_of p (fs ++ derivation_at (k ∷ ks) ∷ []) t i ≡ Some b
@@ -124,7 +124,7 @@ module _ (p : Program) (fs : List plain.Derivation) (g : plain.Derivation) where
           (λ m. absurd (none_some b
           (sym (bounds_of-new p fs (derivation_at ks ∷ []) t i e ∙ found-later (derivation_at ks) [] t i m) ∙ h)))
 
-  -- and a bound fewer is missing
+  -- with one key more, one bound fewer is missing
   one_falls : (k : ResultVariable) (ks : List ResultVariable) → has_key ks k.rule k.place ≡ false → IsKey p k.rule k.place
       → plain.bounds_of p fs k.rule k.place ≡ None
       → missing p (plain.bounds_of p (fs ++ derivation_at (k ∷ ks) ∷ []))
@@ -136,7 +136,7 @@ module _ (p : Program) (fs : List plain.Derivation) (g : plain.Derivation) where
       (bounds_of-new p fs (derivation_at (k ∷ ks) ∷ []) k.rule k.place none
       ∙ found-here (derivation_at (k ∷ ks)) [] k.rule k.place (has_key-first k ks))
 
-  -- the same for each key
+  -- with each key more, one bound fewer is missing
   all_fall : (keys : List ResultVariable) → AreDistinct keys → All (λ k. IsKey p k.rule k.place) keys
       → All (λ k. plain.bounds_of p fs k.rule k.place ≡ None) keys
       → missing p (plain.bounds_of p (fs ++ derivation_at keys ∷ [])) + length keys ≤ missing p (plain.bounds_of p fs)
@@ -152,12 +152,12 @@ module _ (p : Program) (fs : List plain.Derivation) (g : plain.Derivation) where
       (All-head (λ x. plain.bounds_of p fs x.rule x.place ≡ None) k ks unknown) in
       omega (arith, rest, less)
 
-  -- a find whose keys were open leaves at least as many bounds fewer missing as it has keys
+  -- a derivation with open keys leaves fewer bounds missing, by at least the number of its keys
   pub find_falls_by : AreDistinct g.keys → AreOpen p fs g.keys
       → missing p (plain.bounds_of p (fs ++ g ∷ [])) + length g.keys ≤ missing p (plain.bounds_of p fs)
   find_falls_by apart are = all_fall g.keys apart are.each are.unknown
 
--- so there is a number for a find whose keys are open
+-- there is a number for a derivation with open keys
 pub room_for : (p : Program) (tab : Table) (derivations : List Derivation) (keys : List ResultVariable) → AreDerivedBounds p tab derivations
     → AreOpen p (derivations_of derivations) keys → length derivations + 1 < 2 ^ 32 - 1
 room_for p tab derivations keys derived are =

@@ -146,7 +146,7 @@ start_long n os h =
     sym (length-map os bound_stored)
     ∙ (ap length h.bounds ∙ (length-map (range_with_len 0 n) (λ i. Some (Input i)) ∙ length-range_with_len 0 n))
 
--- the table before anything is found is the index of no finds
+-- the initial table is the index of the empty list
 pub started : (p : Program) (tab : Table) (derivations : List Derivation) → IsValid p
     → AreStartTimes (length p.rules) tab.times.items → AreStartSizes p (rows_of tab) → derivations ≡ [] → AreDerivedBounds p tab derivations
 started p tab derivations valid times sizes none = record {

@@ -14,12 +14,12 @@ use Rattle.bound_derivations.specs.declared.derivation.Derivation.{Derivation}
 use Rattle.bound_derivations.specs.Books.{AreDerivedBounds}
 use Rattle.bound_derivations.specs.Views.{derivations_of}
 
--- the bounds of a table that is the index of finds are those that are known with them
+-- the bounds of a table that is the index of derivations are those known with them
 pub bounds_by_derivations : (p : Program) (tab : Table) (derivations : List Derivation) → AreDerivedBounds p tab derivations
     → bounds_in tab ≡ plain.bounds_of p (derivations_of derivations)
 bounds_by_derivations p tab derivations derived = λ j t i. derived.bounds t i j
 
--- and so are its times and sizes
+-- its times and sizes are those known with them
 pub table_by_derivations : (p : Program) (tab : Table) (derivations : List Derivation) → AreDerivedBounds p tab derivations
     → table_of tab ≡ over (plain.bounds_of p (derivations_of derivations))
 table_by_derivations p tab derivations derived = table_by_key tab ∙ ap over (bounds_by_derivations p tab derivations derived)
@@ -29,13 +29,13 @@ known_stored : (o : Option Stored) → is_some o ≡ not (lacks (bound_stored o)
 known_stored None = refl
 known_stored (Some s) = refl
 
--- something is stored of a key where a bound is known with the finds, and nowhere else
+-- a key has an entry exactly if a bound of it is known with the derivations
 pub known_by_derivations : (p : Program) (tab : Table) (derivations : List Derivation) → AreDerivedBounds p tab derivations → (t i : ℕ)
     → is_some (stored_in tab t i) ≡ not (lacks (plain.bounds_of p (derivations_of derivations) t i))
 known_by_derivations p tab derivations derived t i =
     known_stored (stored_in tab t i) ∙ ap (λ (o : Option Bound). not (lacks o)) (derived.bounds t i)
 
--- as many bounds are missing in it as with the finds
+-- as many bounds are missing in the table as with the derivations
 pub missing_by_derivations : (p : Program) (tab : Table) (derivations : List Derivation) → AreDerivedBounds p tab derivations
     → missing p (bounds_in tab) ≡ missing p (plain.bounds_of p (derivations_of derivations))
 missing_by_derivations p tab derivations derived = ap (missing p) (bounds_by_derivations p tab derivations derived)

@@ -7,7 +7,7 @@ use Rattle.size_bounds.specs.Tables.{entry_at, row_at, bound_stored, lemma_store
 use Rattle.bound_derivations.specs.Views.{derivation_of}
 use Rattle.bound_derivations.specs.Worked.{TablesAreReadByKey, ValuesArePutByKey, DerivedBoundsHaveTheirDerivations}
 
--- what is read of tables by key
+-- reading tables by key
 pub read_by_key : TablesAreReadByKey
 read_by_key = record {
   time = λ tab s e. (
@@ -30,7 +30,7 @@ read_by_key = record {
   );
 }
 
--- what is written
+-- writing tables by key
 pub put_by_key : ValuesArePutByKey
 put_by_key = record {
   time = refl;
@@ -44,7 +44,7 @@ put_by_key = record {
   beyond = refl;
 }
 
--- tables of one find
+-- tables of one derivation
 pub have_their_derivations : DerivedBoundsHaveTheirDerivations
 have_their_derivations = record {
   bound = λ p tab f derived k. derived.bounds 1 0

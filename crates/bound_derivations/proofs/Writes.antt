@@ -16,7 +16,7 @@ use Rattle.bound_derivations.specs.ByKey.{IsWritten}
 use Rattle.bound_derivations.proofs.Entries.{entry_own, entry_filled_own, entry_other, free_other, time_other, time_long}
 use Rattle.bound_derivations.proofs.Entries.{place_own, place_filled_own, place_other, place_long}
 
--- what is stored, and whether there is room for it, once a value is put at this key
+-- the entry at a key, and whether it is free, after a value is put at this key
 pub own : (old new : Table) (t i : ℕ) (s : Stored) → new.times.items ≡ put_time old.times.items t i s
     → rows_of new ≡ put_place (rows_of old) t i s
     → (stored_in new t i ≡ cond (is_free old t i) (Some s) (stored_in old t i)) × (is_free new t i ≡ false)
@@ -29,7 +29,7 @@ own old new t (suc i) s times rows = (
   ap (λ (rs : List (List (Option Stored))). is_free_at (row_at rs t) i) rows ∙ place_filled_own (rows_of old) t i s,
 )
 
--- and at another key
+-- the entry at a key, and whether it is free, after a value is put at another key
 pub other : (old new : Table) (u j t i : ℕ) (s : Stored) → new.times.items ≡ put_time old.times.items u j s
     → rows_of new ≡ put_place (rows_of old) u j s → (u ≡ t → j ≡ i → ⊥)
     → (stored_in new t i ≡ stored_in old t i) × (is_free new t i ≡ is_free old t i)
@@ -52,7 +52,7 @@ apart k t i m e f =
     true_false (sym (subst (λ (n : ℕ). has_key (k ∷ []) t n ≡ true) f
     (subst (λ (n : ℕ). has_key (k ∷ []) n k.place ≡ true) e (has_key-first k []))) ∙ m)
 
--- what is stored of each key, and whether it is free, once a value is put at one
+-- the entry of each key, and whether it is free, after a value is put at one
 pub put_at : (old new : Table) (k : ResultVariable) (s : Stored) → new.times.items ≡ put_time old.times.items k.rule k.place s
     → rows_of new ≡ put_place (rows_of old) k.rule k.place s → (t i : ℕ)
     → (stored_in new t i ≡ cond (has_key (k ∷ []) t i && is_free old t i) (Some s) (stored_in old t i))
@@ -105,7 +105,7 @@ put_written old new k s times rows = record {
   rows = ap (map (λ (row : List (Option Stored)). length row)) rows ∙ place_long (rows_of old) k.rule k.place s;
 }
 
--- with no keys nothing is written
+-- writing at no keys changes nothing
 pub none_written : (old : Table) (b : Bound) (n : ℕ) → IsWritten old [] b n old
 none_written old b n = record {
   bounds = λ t i. refl;

@@ -1,4 +1,4 @@
--- The book of finds: the table is the index of the list.
+-- The derivations with their table by key: the table is the index of the list.
 use Rattle.std.specs.Prelude.{◌≡◌, ◌⊎◌, ℕ, suc, ◌+◌, ◌-◌, ◌<◌, ◌≤◌, ◌^◌, List, ◌∷◌, length, map, Option, None}
 use Rattle.std.specs.List.{All}
 use Rattle.model.specs.Programs.{Program, arity_of}
@@ -22,8 +22,8 @@ pub record HasKeys (p : Program) (tab : Table) : Type 0 where
   pub rows : map (λ (row : List (Option Stored)). length row) (rows_of tab)
       ≡ arity_of p p.start ∷ map (λ r. arity_of p r.target) p.rules
 
--- the table is the index of these finds: it has the bounds that are known with them, and the numbers of their lemmas;
--- and together with the missing bounds they are few enough for each lemma to have a number
+-- the table is the index of these derivations: it has their known bounds, and the numbers of their lemmas; and the
+-- derivations and the missing bounds together are few enough for each lemma to have a number
 pub record AreDerivedBounds (p : Program) (tab : Table) (derivations : List Derivation) : Type 0 where
   pub bounds : (t i : ℕ) → bounds_in tab t i ≡ plain.bounds_of p (derivations_of derivations) t i
   pub numbers : (t i : ℕ) → number_at tab t i ≡ plain.number_in (derivations_of derivations) t i
@@ -35,7 +35,7 @@ pub record IsKey (p : Program) (t i : ℕ) : Type 0 where
   pub rule : IsRule p t
   pub place : (i ≡ 0) ⊎ IsPlace p t i
 
--- these are keys of rules of the program, none of which has a known bound with the finds; and there is at least one
+-- these are keys of rules of the program, at least one, none of which has a known bound with the derivations
 pub record AreOpen (p : Program) (fs : List plain.Derivation) (keys : List ResultVariable) : Type 0 where
   pub some : 1 ≤ length keys
   pub each : All (λ k. IsKey p k.rule k.place) keys

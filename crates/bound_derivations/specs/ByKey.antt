@@ -28,7 +28,7 @@ abbrev pub put_time : {A : Type 0} → List (Option A) → ℕ → ℕ → A →
 put_time times t zero a = put_entry times t a
 put_time times t (suc i) a = times
 
--- and among rows of sizes at a place from 1
+-- puts a value at a place from 1 on, among rows of sizes
 abbrev pub put_place : {A : Type 0} → List (List (Option A)) → ℕ → ℕ → A → List (List (Option A))
 put_place [] t i a = []
 put_place (row ∷ rows) zero zero a = row ∷ rows

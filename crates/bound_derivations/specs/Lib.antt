@@ -1,10 +1,10 @@
 -- tables by key
 pub mod ByKey
--- finds as plain data
+-- derivations as plain data
 pub mod Views
 -- the table as the index of the list
 pub mod Books
--- what is known at first
+-- the bounds known initially
 pub mod Starting
 -- worked values
 pub mod Worked

@@ -32,6 +32,6 @@ pub record AreFirstRows (p : Program) (rules : List Rule) (rows : List (List (Op
   pub is : rows ≡ first ∷ empty_rows p rules
   pub row : IsStartRow (arity_of p p.start) first
 
--- and of all rules of a program
+-- the initial sizes of all rules of a program
 abbrev pub AreStartSizes : Program → List (List (Option Stored)) → Type 0
 AreStartSizes p rows = AreFirstRows p p.rules rows

@@ -16,7 +16,7 @@ node_of (nodes.Rank n) = plain.RankBy (rank_of n)
 node_of (nodes.Spread m) = plain.SpreadBy (member_of m)
 node_of (nodes.Cycle members) = plain.CycleBy (map member_of members.items)
 
--- a find as plain data
+-- a derivation as plain data
 abbrev pub derivation_of : Derivation → plain.Derivation
 derivation_of f = record {
   keys = map result_variable_of f.keys.items;
@@ -25,6 +25,6 @@ derivation_of f = record {
   bound = bound_of f.bound;
 }
 
--- finds as plain data
+-- derivations as plain data
 abbrev pub derivations_of : List Derivation → List plain.Derivation
 derivations_of fs = map derivation_of fs

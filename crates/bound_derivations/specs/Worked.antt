@@ -1,4 +1,4 @@
--- Worked values: what is read of tables by key, what is written, and which tables are the index of one find.
+-- Worked values: reading tables by key, writing them, and which tables are the index of one derivation.
 use Rattle.std.specs.Prelude.{◌≡◌, ℕ, true, false, [], ◌∷◌, Some, None}
 use Rattle.bound_expr.specs.Views.{bound_of}
 use Rattle.bound_fixpoint.specs.Keys.{key}
@@ -35,7 +35,7 @@ pub record ValuesArePutByKey : Type 0 where
   pub filled : is_free_at {A = ℕ} (Some 5 ∷ None ∷ []) 0 ≡ false
   pub beyond : is_free_at {A = ℕ} (Some 5 ∷ None ∷ []) 2 ≡ false
 
--- the table of one find has its bound at its key, with the number 1 and no other
+-- the table of one derivation has its bound at its key, with the number 1 and no other
 pub record DerivedBoundsHaveTheirDerivations : Type 0 where
   pub bound : (p : Program) (tab : Table) (f : Derivation) → AreDerivedBounds p tab (f ∷ []) → (derivation_of f).keys ≡ key 1 0 ∷ []
       → bounds_in tab 1 0 ≡ Some (derivation_of f).bound

@@ -1,4 +1,4 @@
-//! Builds the lemmas of finds, in one pass.
+//! Builds the lemmas of derivations, in one pass.
 
 ghost use Rattle.std.specs.Prelude.{◌≡◌, map, IfOk};
 ghost use Rattle.model.specs.Programs.{Program};
@@ -19,8 +19,9 @@ use model::Memory;
 use size_bounds::{Table, uses_of_premises};
 use std::alloc::Global;
 
-/// Builds a lemma for each find, in order. Its uses cite the lemmas of the find's premises, by the numbers of the
-/// table: the virtual entry first, if it is needed, and then each other lemma once, in the order of the premises.
+/// Builds a lemma for each derivation, in order. Its uses cite the lemmas of the derivation's premises, by the numbers
+/// of the table: the virtual entry first, if it is needed, and then each other lemma once, in the order of the
+/// premises.
 ///
 /// # Errors
 ///
@@ -37,7 +38,7 @@ pub fn lemmas(
     Ok(lemmas)
 }
 
-// A lemma for each find, in order, which cites lemmas by the numbers of a table.
+// A lemma for each derivation, in order, which cites lemmas by the numbers of a table.
 fn lemmas_by_numbers(
     alloc: Global,
     table: &Table,
@@ -53,7 +54,7 @@ fn lemmas_by_numbers(
     Ok(lemmas)
 }
 
-// The lemma of a find.
+// The lemma of a derivation.
 fn lemma(alloc: Global, table: &Table, derivation: Derivation) -> Result<Proof, Memory>
     ensures { IfOk result (λ lemma. proof_of lemma
         ≡ lemma_by (number_at table.now) (node_of derivation.node) (map result_variable_of derivation.premises.items)) }

@@ -1,4 +1,4 @@
-//! The book of finds: the list of derivations, with a table by key as its index.
+//! The list of derivations, with a table by key as its index.
 
 ghost use Rattle.std.specs.Prelude.{◌≡◌, ◌+◌, ◌-◌, ◌<◌, ◌^◌, ◌∷◌, ◌++◌, [], length, map, OnOk};
 ghost use Rattle.bound_expr.specs.Views.{bound_of};
@@ -14,8 +14,8 @@ use model::Memory;
 use size_bounds::Table;
 use std::alloc::Global;
 
-/// The derivations found so far, one after the other, and a table by key that is their index: lemmas are numbered from
-/// 1 in the order of finds.
+/// The derivations so far, in order, and a table by key that is their index: lemmas are numbered from 1 in the order
+/// of derivations.
 #[derive(Debug, Drop)]
 pub struct DerivedBounds {
     pub table: Table,
@@ -23,7 +23,7 @@ pub struct DerivedBounds {
 }
 
 impl DerivedBounds {
-    /// Appends a find, and writes a copy of its bound at each of its keys, with the number of the find.
+    /// Appends a derivation, and writes a copy of its bound at each of its keys, with its number.
     ///
     /// # Errors
     ///

@@ -1,8 +1,8 @@
-//! The derivations found so far: a list of finds, and a table by key as its index.
+//! The derivations found so far: a list, and a table by key as its index.
 //!
-//! Builds on `bound_fixpoint` (what a list of finds means) and `size_bounds` (tables). Main guarantee: the table has
-//! exactly the bounds and the lemma numbers that `bound_fixpoint` reads off the list, and the lemmas are made from the
-//! list in one pass.
+//! Builds on `bound_fixpoint` (what a list of derivations means) and `size_bounds` (tables). Main guarantee: the table
+//! has exactly the bounds and the lemma numbers that `bound_fixpoint` reads off the list, and the lemmas are built
+//! from the list in one pass.
 #![tactic(auto)]
 
 mod by_key;

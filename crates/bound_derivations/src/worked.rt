@@ -12,7 +12,7 @@ pub fn values_are_put_by_key()
     ensures { ValuesArePutByKey }
 {}
 
-/// A table that is the index of one find has its bound, with the number 1, only at its key.
+/// A table that is the index of one derivation has its bound, with the number 1, only at its key.
 pub fn derived_bounds_have_their_derivations()
     ensures { DerivedBoundsHaveTheirDerivations }
 {}

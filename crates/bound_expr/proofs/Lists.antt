@@ -64,7 +64,7 @@ pub substituted-with_part : (bs : Parts) (b : plain.Bound) (sizes : List plain.B
 substituted-with_part NoParts b sizes = refl
 substituted-with_part (Part c cs) b sizes = ap (Part (substituted c sizes)) (substituted-with_part cs b sizes)
 
--- what all parts read, the part at a place reads
+-- the part at a place reads only inputs that all parts may read
 pub ReadsBelow-at : (n : ℕ) (xs : List Bound) (i : ℕ) (x : Bound) → AllReadBelow n (parts_of (bounds_of xs))
     → i < length xs
     → x ≡ get_or xs i x → ReadsBelow n (bound_of x)

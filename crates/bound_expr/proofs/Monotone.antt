@@ -15,26 +15,26 @@ mutual
   val-grows (MaximumOf bs) based m n below = val_maximum-grows bs based.1 m n below
   val-grows (PowerOf c e) based m n below = pow-le-pow_right based.0 (val-grows e based.1 m n below)
 
-  -- the same for the sum of several such bounds
+  -- the sum of bounds with such bases grows with its inputs
   pub val_sum-grows : (bs : Parts) → AreBased bs → (m n : List ℕ) → IsBelow m n → val_sum bs m ≤ val_sum bs n
   val_sum-grows NoParts based m n below = omega arith
   val_sum-grows (Part b bs) based m n below =
       omega (arith, val-grows b based.0 m n below, val_sum-grows bs based.1 m n below)
 
-  -- the same for their product
+  -- the product of bounds with such bases grows with its inputs
   pub val_product-grows : (bs : Parts) → AreBased bs → (m n : List ℕ) → IsBelow m n
       → val_product bs m ≤ val_product bs n
   val_product-grows NoParts based m n below = omega arith
   val_product-grows (Part b bs) based m n below =
       mul-le-mul (val-grows b based.0 m n below) (val_product-grows bs based.1 m n below)
 
-  -- and so does their maximum
+  -- the maximum of bounds with such bases grows with its inputs
   pub val_maximum-grows : (bs : Parts) → AreBased bs → (m n : List ℕ) → IsBelow m n
       → val_maximum bs m ≤ val_maximum bs n
   val_maximum-grows NoParts based m n below = omega arith
   val_maximum-grows (Part b bs) based m n below =
       omega (arith, val-grows b based.0 m n below, val_maximum-grows bs based.1 m n below)
 
--- so each bound with such bases grows with its inputs
+-- each bound with such bases grows with its inputs
 pub grows : GrowsWithInputs
 grows = record { each = λ b based m n below. val-grows b based m n below }

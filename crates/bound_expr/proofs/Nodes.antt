@@ -7,9 +7,9 @@ use Rattle.bound_expr.specs.Numbers.{IsSmallConstant, IsTidyNumber, HasTidyNumbe
 use Rattle.bound_expr.specs.Tidy.{IsTidyNode, IsTidy}
 use Rattle.bound_expr.specs.Substitution.{substituted, all_substituted, SubstitutionKeeps}
 
--- what holds of each node holds, too, where every node that has it has another fact
+-- a property of each node of a bound, if another one implies it at every node
 mutual
-  -- what follows from a fact at any node holds of all nodes of a bound that have the fact
+  -- a property that another one implies at every node holds of all nodes of a bound that have the other
   pub EachNode-weaker : (P Q : Bound → Type 0) → ((b : Bound) → P b → Q b) → (b : Bound) → EachNode P b → EachNode Q b
   EachNode-weaker P Q step (Constant c) each = step (Constant c) each
   EachNode-weaker P Q step (Input i) each = step (Input i) each
@@ -18,7 +18,7 @@ mutual
   EachNode-weaker P Q step (MaximumOf bs) each = (step (MaximumOf bs) each.0, EachNodeOfAll-weaker P Q step bs each.1)
   EachNode-weaker P Q step (PowerOf c e) each = (step (PowerOf c e) each.0, EachNode-weaker P Q step e each.1)
 
-  -- and of all nodes of several bounds that have it
+  -- it holds of all nodes of several bounds that have the other
   pub EachNodeOfAll-weaker : (P Q : Bound → Type 0) → ((b : Bound) → P b → Q b) → (bs : Parts) → EachNodeOfAll P bs
       → EachNodeOfAll Q bs
   EachNodeOfAll-weaker P Q step NoParts each = tt
@@ -66,8 +66,8 @@ EachNode-size Q of [] each i = of.zero
 EachNode-size Q of (s ∷ sizes) each zero = each.0
 EachNode-size Q of (s ∷ sizes) each (suc i) = EachNode-size Q of sizes each.1 i
 
--- what holds of the constants and powers of a bound and of each node of the sizes holds of each node of the
--- substitution
+-- a property of the constants and powers of a bound and of each node of the sizes is one of each node of the
+-- substituted bound
 module _ (P Q : Bound → Type 0) (of : IsOfNumbers Q) (constant : (c : ℕ) → P (Constant c) → Q (Constant c))
     (power : (c : ℕ) (e : Bound) → P (PowerOf c e) → Q (PowerOf c e)) (sizes : List Bound)
     (each : EachNodeOfAll Q (parts_of sizes)) where
@@ -92,17 +92,17 @@ pub bases-of_numbers : (n : ℕ) → IsOfNumbers (IsBasedFrom n)
 bases-of_numbers n =
     record { zero = tt; sum = λ bs. tt; product = λ bs. tt; maximum = λ bs. tt; power = λ c e f has. has }
 
--- that constants are small
+-- that constants are small is a property of numbers
 pub constants-of_numbers : IsOfNumbers IsSmallConstant
 constants-of_numbers =
     record { zero = omega arith; sum = λ bs. tt; product = λ bs. tt; maximum = λ bs. tt; power = λ c e f has. has }
 
--- that numbers are tidy
+-- that numbers are tidy is a property of numbers
 pub tidy-of_numbers : IsOfNumbers IsTidyNumber
 tidy-of_numbers =
     record { zero = omega arith; sum = λ bs. tt; product = λ bs. tt; maximum = λ bs. tt; power = λ c e f has. has }
 
--- that inputs are among the first n
+-- that inputs are among the first n is a property of numbers
 pub inputs-of_numbers : (n : ℕ) → IsOfNumbers (IsInputBelow n)
 inputs-of_numbers n =
     record { zero = tt; sum = λ bs. tt; product = λ bs. tt; maximum = λ bs. tt; power = λ c e f has. has }
@@ -111,7 +111,7 @@ inputs-of_numbers n =
 abbrev pub IsAny : Bound → Type 0
 IsAny b = Unit {0}
 
--- which holds of every bound
+-- a property that every bound has
 mutual
   -- each node of a bound has the fact that asks nothing
   pub EachNode-any : (b : Bound) → EachNode IsAny b

@@ -8,7 +8,7 @@ pub parts_of-list_of : (ps : Parts) → parts_of (list_of ps) ≡ ps
 parts_of-list_of NoParts = refl
 parts_of-list_of (Part b bs) = ap (Part b) (parts_of-list_of bs)
 
--- and the list of the parts of a list is the list
+-- the list of the parts made from a list is the list
 pub list_of-parts_of : (bs : List Bound) → list_of (parts_of bs) ≡ bs
 list_of-parts_of [] = refl
 list_of-parts_of (b ∷ bs) = ap (λ (cs : List Bound). b ∷ cs) (list_of-parts_of bs)

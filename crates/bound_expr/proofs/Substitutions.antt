@@ -23,13 +23,13 @@ mutual
   val-substituted (MaximumOf bs) sizes m = val_maximum-substituted bs sizes m
   val-substituted (PowerOf c e) sizes m = ap (λ (v : ℕ). c ^ v) (val-substituted e sizes m)
 
-  -- the same for a sum whose parts have sizes put for their inputs
+  -- the value of a sum with sizes substituted for its inputs
   pub val_sum-substituted : (bs : Parts) (sizes : List Bound) (m : List ℕ)
       → val_sum (all_substituted bs sizes) m ≡ val_sum bs (values_of sizes m)
   val_sum-substituted NoParts sizes m = refl
   val_sum-substituted (Part b bs) sizes m = omega (arith, val-substituted b sizes m, val_sum-substituted bs sizes m)
 
-  -- the same for a product of such parts
+  -- the value of a product with sizes substituted for its inputs
   pub val_product-substituted : (bs : Parts) (sizes : List Bound) (m : List ℕ)
       → val_product (all_substituted bs sizes) m ≡ val_product bs (values_of sizes m)
   val_product-substituted NoParts sizes m = refl
@@ -37,7 +37,7 @@ mutual
       ap (λ (v : ℕ). v * val_product (all_substituted bs sizes) m) (val-substituted b sizes m)
       ∙ ap (λ (v : ℕ). val b (values_of sizes m) * v) (val_product-substituted bs sizes m)
 
-  -- and so has a maximum of such parts
+  -- the value of a maximum with sizes substituted for its inputs
   pub val_maximum-substituted : (bs : Parts) (sizes : List Bound) (m : List ℕ)
       → val_maximum (all_substituted bs sizes) m ≡ val_maximum bs (values_of sizes m)
   val_maximum-substituted NoParts sizes m = refl

@@ -31,5 +31,5 @@ bound_of-Max v = search (rules, the_lemmas)
 pub bound_of-Power : (c : ℕ) (e : Box Bound Global) → bound_of (Power c e) ≡ PowerOf c (bound_of e.value)
 bound_of-Power c e = search (rules, the_lemmas)
 
--- what a bound is seen as, whichever kind it is of
+-- the view of a bound, for each kind
 pub ruleset seen = (bound_of-Const, bound_of-Var, bound_of-Sum, bound_of-Prod, bound_of-Max, bound_of-Power)

@@ -1,4 +1,4 @@
--- The worked values: what is measured, what holds of numbers, and what is tidy.
+-- The worked values of measures, of properties of numbers, and of tidy bounds.
 use Rattle.std.proofs.Common.{refl, arith}
 use Rattle.bound_expr.specs.Worked.{MeasuresAreWorkedOut, NumbersAreWorkedOut, TidyBoundsAreWorkedOut}
 use Rattle.bound_expr.specs.Worked.{SubstitutionIsWorkedOut}
@@ -31,7 +31,7 @@ numbers = record {
   reads_more = λ h. omega (arith, h.1.1.0.1);
 }
 
--- what is tidy, and what isn't
+-- bounds that are tidy, and others
 pub tidy_bounds : TidyBoundsAreWorkedOut
 tidy_bounds = record {
   tidy = (
@@ -47,6 +47,6 @@ tidy_bounds = record {
   constant_beyond = λ h. omega (arith, h.1.1.0);
 }
 
--- what is substituted
+-- a substitution
 pub substitution : SubstitutionIsWorkedOut
 substitution = record { outcome = refl }

@@ -1,4 +1,4 @@
--- what public contracts cite
+-- The definitions that public contracts cite.
 pub mod Views
 pub mod Limits
 pub mod Numbers
@@ -8,7 +8,7 @@ pub mod Capped
 pub mod Substitution
 pub mod Growth
 pub mod Worked
--- what proofs and the crates above cite besides
+-- further definitions that proofs and the crates above cite
 pub mod Kinds
 -- the crates below, which callers name through this one
 pub use Rattle.model.specs as model

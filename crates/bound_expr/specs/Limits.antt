@@ -9,7 +9,7 @@ constant_limit = 2 ^ 127 - 1
 abbrev pub cap : ℕ
 cap = constant_limit + 1
 
--- the number behind the maximum base of a power
+-- the maximum base of a power plus one
 abbrev pub too_large_base : ℕ
 too_large_base = 2 ^ 64
 

@@ -7,11 +7,11 @@ use Rattle.bound_expr.specs.Limits.{constant_limit}
 abbrev pub HasBasesFrom : ℕ → Bound → Type 0
 HasBasesFrom n b = EachNode (IsBasedFrom n) b
 
--- and in each of the parts
+-- every base in each of the parts is at least n
 abbrev pub HaveBasesFrom : ℕ → Parts → Type 0
 HaveBasesFrom n bs = EachNodeOfAll (IsBasedFrom n) bs
 
--- where it is a constant, it is at most 2^127 - 1
+-- a bound that is a constant is at most 2^127 - 1
 abbrev pub IsSmallConstant : Bound → Type 0
 IsSmallConstant (Constant c) = c ≤ constant_limit
 IsSmallConstant _ = ⊤
@@ -20,11 +20,11 @@ IsSmallConstant _ = ⊤
 abbrev pub HasSmallConstants : Bound → Type 0
 HasSmallConstants b = EachNode IsSmallConstant b
 
--- and of each of the parts
+-- every constant in each of the parts is small
 abbrev pub HaveSmallConstants : Parts → Type 0
 HaveSmallConstants bs = EachNodeOfAll IsSmallConstant bs
 
--- where it is a constant it is at most 2^127 - 1, and where it is a power its base is at least 2
+-- a bound that is a constant is at most 2^127 - 1, and one that is a power has a base of at least 2
 abbrev pub IsTidyNumber : Bound → Type 0
 IsTidyNumber (Constant c) = c ≤ constant_limit
 IsTidyNumber (PowerOf c e) = 2 ≤ c
@@ -34,11 +34,11 @@ IsTidyNumber _ = ⊤
 abbrev pub HasTidyNumbers : Bound → Type 0
 HasTidyNumbers b = EachNode IsTidyNumber b
 
--- and those of each of the parts
+-- every number in each of the parts is tidy
 abbrev pub HaveTidyNumbers : Parts → Type 0
 HaveTidyNumbers bs = EachNodeOfAll IsTidyNumber bs
 
--- where it is an input, it is one of the first n
+-- a bound that is an input is one of the first n
 abbrev pub IsInputBelow : ℕ → Bound → Type 0
 IsInputBelow n (Input i) = i < n
 IsInputBelow n _ = ⊤
@@ -47,6 +47,6 @@ IsInputBelow n _ = ⊤
 abbrev pub ReadsBelow : ℕ → Bound → Type 0
 ReadsBelow n b = EachNode (IsInputBelow n) b
 
--- and every input of each of the parts
+-- every input in each of the parts is one of the first n
 abbrev pub AllReadBelow : ℕ → Parts → Type 0
 AllReadBelow n bs = EachNodeOfAll (IsInputBelow n) bs

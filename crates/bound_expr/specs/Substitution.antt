@@ -28,7 +28,7 @@ values_of sizes m = map (λ s. val s m) sizes
 pub record SubstitutesValues (b : Bound) (sizes : List Bound) (outcome : Bound) : Type 0 where
   pub each : (m : List ℕ) → val outcome m ≡ val b (values_of sizes m)
 
--- what holds of the numbers of a bound and of the sizes holds of what the substitution gives; inputs are those of the
+-- a property of the numbers of a bound and of the sizes is one of the substituted bound; its inputs are those of the
 -- sizes
 pub record SubstitutionKeeps (b : Bound) (sizes : List Bound) (outcome : Bound) : Type 0 where
   pub bases : (n : ℕ) → HasBasesFrom n b → HaveBasesFrom n (parts_of sizes) → HasBasesFrom n outcome

@@ -9,17 +9,17 @@ abbrev pub part_count : Parts → ℕ
 part_count NoParts = 0
 part_count (Part b bs) = 1 + part_count bs
 
--- it is no sum
+-- the bound is no sum
 abbrev pub IsNoSum : Bound → Type 0
 IsNoSum (SumOf bs) = ⊥
 IsNoSum _ = ⊤
 
--- it is no product
+-- the bound is no product
 abbrev pub IsNoProduct : Bound → Type 0
 IsNoProduct (ProductOf bs) = ⊥
 IsNoProduct _ = ⊤
 
--- it is no maximum
+-- the bound is no maximum
 abbrev pub IsNoMaximum : Bound → Type 0
 IsNoMaximum (MaximumOf bs) = ⊥
 IsNoMaximum _ = ⊤

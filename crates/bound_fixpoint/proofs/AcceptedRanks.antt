@@ -1,4 +1,4 @@
--- The answer to a rank question over bounds is a node that is accepted over them.
+-- A ranking function found with the known bounds is a node that is accepted over these bounds.
 use Rattle.std.proofs.Common.{◌≡◌, inl, inr, ℕ, zero, suc, true, List, Option, Some, None, refl, sym, ◌∙◌, ap, subst}
 use Rattle.std.proofs.Common.{slice_get}
 use Rattle.rule_questions.specs.model.Programs.{Program, Rule}
@@ -17,7 +17,7 @@ use Rattle.bound_fixpoint.specs.Sets.{IsSetOfRule, AreShutOf}
 use Rattle.bound_fixpoint.specs.Right.{IsRanking, IsQuestion}
 use Rattle.bound_fixpoint.proofs.EntryBounds.{entry_timed, entry_sized}
 
--- a rule, or the virtual entry, that leads somewhere and isn't the virtual entry is a rule
+-- a number with a target symbol, other than 0, is the number of a rule
 pub leading_rule : (p : Program) (u a : ℕ) → target_of p u ≡ Some a → (u ≡ 0 → ⊥) → IsRule p u
 leading_rule p zero a leads other = absurd (other refl)
 leading_rule p (suc k) a leads other = go (slice_get p.rules k) refl
@@ -49,7 +49,7 @@ module _ (s : Setting) (b : Bounds) (begun : IsKnown (b 0 0)) where
       member u (inl e) = subst (λ (n : ℕ). IsRule s.program n) (sym e) rule
       member u (inr h) = leading_rule s.program u h.from h.leads (not_the_entry u h.untimed)
 
-  -- what ranks the rule over its set is accepted where it composes a small bound
+  -- a node that ranks the rule over its set is accepted if its bound is within the limit on nodes
   pub accepted_rank : (t : ℕ) (set : List ℕ) (shut : List SymbolPlace) (node : RankNode) → IsRanking s set t shut node
       → IsSetOfRule s.program b t set → AreShutOf s.program b set shut → IsSmallComposed s.rewrite
       (rank_time s node (over b))

@@ -1,4 +1,5 @@
--- What nodes rest on by numbers: all that is cited is accepted, and states what the lemmas with these numbers state.
+-- The premises of nodes by the numbers of lemmas: all cited facts are accepted, and they are those that the lemmas
+-- with these numbers state.
 use Rattle.std.proofs.Common.{◌≡◌, ◌≢◌, ◌⊎◌, inl, inr, ℕ, ◌==◌, Bool, not, true, false, List, [], ◌∷◌, filter, refl}
 use Rattle.std.proofs.Common.{sym, ap, subst, All}
 use Rattle.std.specs.List.{Contains}
@@ -41,7 +42,7 @@ in-once (m ∷ ns) n h = go (eqb_tells n m) (is_in-cases n m ns h) (in-once ns n
         or_right (n == m) (is_in n (filter (λ k. not (k == m)) (once ns)))
         (is_in-filter (λ k. not (k == m)) (once ns) n (ih later) (ap not t))
 
--- what is in a list of which each number is taken once is in the list itself
+-- a number in a list without repetitions is in the list itself
 pub once-in : (ns : List ℕ) (n : ℕ) → is_in n (once ns) ≡ true → is_in n ns ≡ true
 once-in [] n h = h
 once-in (m ∷ ns) n h = go (is_in-cases n m (filter (λ k. not (k == m)) (once ns)) h) (eqb_tells n m) (once-in ns n)
@@ -54,7 +55,7 @@ once-in (m ∷ ns) n h = go (is_in-cases n m (filter (λ k. not (k == m)) (once 
     go (inr later) by_cases ih = or_right (n == m) (is_in n ns) (ih ((filter-in (λ k. not (k == m)) (once ns) n later).0))
 
 module _ (s : Setting) (past : List (List Fact)) where
-  -- what is cited is stated
+  -- a cited fact is stated
   pub cites-state : (ns : List ℕ) (n : ℕ) (f : Fact) → is_in n ns ≡ true → Contains (facts_of_lemma past n) f
       → Contains (joined_facts s past (cites ns)) f
   cites-state [] n f m h = absurd (no_is_not_yes false refl m)
@@ -81,14 +82,14 @@ module _ (s : Setting) (past : List (List Fact)) where
           go (inl (t, e)) = or_left (x == x) (is_in x xs) t
           go (inr (t, e)) = absurd (e refl)
 
-  -- what holds of all facts of each lemma that is cited holds of all that is stated by citing them
+  -- a property of all facts of each cited lemma is one of all facts that citing them states
   pub cites-all : (P : Fact → Type 0) (ns : List ℕ) → ((n : ℕ) → All P (facts_of_lemma past n))
       → All P (joined_facts s past (cites ns))
   cites-all P [] h = All-nil P
   cites-all P (k ∷ ns) h = All-append P (facts_of_lemma past k) (joined_facts s past (cites ns)) (h k)
       (cites-all P ns h)
 
-  -- the same with the virtual entry first
+  -- with the virtual entry among the cited lemmas, a cited fact is stated
   pub uses-state : (ns : List ℕ) (n : ℕ) (f : Fact) → is_in n ns ≡ true → (n ≡ 0 → Contains (start_facts s.program) f)
       → (n ≢ 0 → Contains (facts_of_lemma past n) f) → Contains (joined_facts s past (uses_from ns)) f
   uses-state ns n f m from_start from_lemma = go (is_in 0 ns) refl (eqb_tells n 0)
@@ -124,7 +125,7 @@ module _ (s : Setting) (past : List (List Fact)) where
       go true e = rw e (tt, cites-accepted (once (filter (λ k. not (k == 0)) ns)) each)
       go false e = rw e (cites-accepted (once (filter (λ k. not (k == 0)) ns)) each)
 
-  -- what holds of all facts of the virtual entry and of each lemma holds of all that is stated by citing them
+  -- a property of all facts of the virtual entry and of each lemma is one of all facts that citing them states
   pub uses-all : (P : Fact → Type 0) (ns : List ℕ) → All P (start_facts s.program) →
       ((n : ℕ) → All P (facts_of_lemma past n))
       → All P (joined_facts s past (uses_from ns))

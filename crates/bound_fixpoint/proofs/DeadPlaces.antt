@@ -27,7 +27,7 @@ use Rattle.bound_fixpoint.proofs.RuleNumbers.{rule_in, place_in}
 use Rattle.bound_fixpoint.proofs.DeadRules.{dead_by}
 use Rattle.bound_fixpoint.proofs.FirstDerivationsStand.{cuts, nevers}
 
--- the keys of places that are listed
+-- a listed place i has its key (t, i) among the keys of the list
 has_place_key : (t : ℕ) (js : List ℕ) (i : ℕ) → is_in i js ≡ true → has_key (map (λ j. key t j) js) t i ≡ true
 has_place_key t [] i m = absurd (no_is_not_yes false refl m)
 has_place_key t (j ∷ js) i m =
@@ -40,7 +40,7 @@ has_place_key t (j ∷ js) i m =
 has_key_after : (p : Program) (t i : ℕ) → IsPlace p t i → has_key (keys_after p t) t i ≡ true
 has_key_after p t i place = has_place_key t (places_at p (target_of p t)) i (place_in p t i place)
 
--- a rule with a place leads to a symbol that has some
+-- if rule t has a result variable, its target symbol has places
 placed : (p : Program) (t i : ℕ) → IsPlace p t i → has_places p (target_of p t) ≡ true
 placed p t i place =
     subst (λ (o : Option ℕ). has_places p o ≡ true) (sym place.target)
@@ -50,7 +50,7 @@ placed p t i place =
     below zero low = absurd (omega (arith, low))
     below (suc n) low = grind arith
 
--- with these finds the size at a place after one of these rules is found
+-- the `never` derivations of the rules ts bound every result variable of these rules
 never_found : (p : Program) (ts : List ℕ) (t i : ℕ) → is_in t ts ≡ true → IsPlace p t i
     → bound_found (map (never_derivation p) ts) t i ≡ None → ⊥
 never_found p [] t i m place e = no_is_not_yes false refl m
@@ -69,7 +69,7 @@ never_found p (u ∷ ts) t i m place e =
         (λ l. rest l (sym (found-later (never_derivation p u) (map (never_derivation p) ts) t i k) ∙ e))
 
 module _ (q : Searches) (s : Setting) where
-  -- before the first round no size is missing after a rule that never runs
+  -- in the initial list every result variable of a dead rule has its bound
   first_known : (fs : List Derivation) (h : AreFirst q s.program fs) → (t i : ℕ) → IsRule s.program t → IsPlace s.program t i
       → is_dead h.is_empty h.is_unreached t ≡ true → bounds_of s.program fs t i ≡ None → ⊥
   first_known fs h t i rule place dead missing =
@@ -86,7 +86,7 @@ module _ (q : Searches) (s : Setting) where
           (is_in-filter (is_dead h.is_empty h.is_unreached) (rule_numbers s.program) t
           (rule_in s.program t rule.rule rule.numbered) dead) (placed s.program t i place)
 
-  -- a rule that never runs is found before the first round
+  -- a dead rule is marked dead by the initial derivations
   told_dead : (fs : List Derivation) (h : AreFirst q s.program fs) → (t : ℕ) → IsRule s.program t
       → IsDead s.program h.is_empty t → is_dead h.is_empty h.is_unreached t ≡ true
   told_dead fs h t rule dead = by_cases (h.is_empty t) (λ e. rw e refl) (λ e. rw e (live e dead))
@@ -96,7 +96,7 @@ module _ (q : Searches) (s : Setting) where
       live e (inr out) = (h.unreached t rule e).1 out
 
   module _ (cs : List (List ResultVariable)) (are : AreComponentsOf q s.program cs) where
-    -- so a rule with a place whose size is missing with finds that rounds make isn't one of these
+    -- a rule with a result variable that has no bound after some rounds isn't dead
     pub missing_live : (fs : List Derivation) → IsMade q s fs → (t i : ℕ) → IsRule s.program t → IsPlace s.program t i
         → bounds_of s.program fs t i ≡ None → ¬ (IsDead s.program are.is_empty t)
     missing_live fs (Begun h) t i rule place missing dead =

@@ -1,4 +1,4 @@
--- What finds state by number: a bound that is found is a fact of the lemma whose number its key has.
+-- The facts of derivations by number: a derived bound is a fact of the lemma with its key's number.
 use Rattle.std.proofs.Common.{◌≡◌, ℕ, suc, ◌+◌, true, false, List, [], ◌∷◌, map, Some, refl, sym, ◌∙◌}
 use Rattle.std.proofs.Common.{ap, arith}
 use Rattle.std.specs.List.{Contains}
@@ -13,21 +13,21 @@ use Rattle.bound_fixpoint.proofs.ListMembers.{contains-first, contains-later, co
 use Rattle.bound_fixpoint.proofs.Keys.{has_key-contained}
 use Rattle.bound_fixpoint.proofs.DerivationLists.{found-here, found-later}
 
--- the facts of these finds, find by find
+-- the facts of these derivations, one list for each
 abbrev pub facts_of_derivations : List Derivation → List (List Fact)
 facts_of_derivations fs = map facts_of_derivation fs
 
--- a find states its bound at each of its keys
+-- a derivation states its bound at each of its keys
 pub derivation_states : (f : Derivation) (t i : ℕ) → has_key f.keys t i ≡ true
     → Contains (facts_of_derivation f) (place_fact t i f.bound)
 derivation_states f t i m =
     contains-map (λ (k : ResultVariable). fact_at k f.bound) (key t i) f.keys (has_key-contained f.keys t i m)
 
--- a find whose only key is the time of a rule states this time and nothing else
+-- a derivation whose only key is the time of a rule states this time and nothing else
 pub derivation_states_alone : (f : Derivation) (t : ℕ) → f.keys ≡ time_key t ∷ [] → facts_of_derivation f ≡ Time t f.bound ∷ []
 derivation_states_alone f t e = ap (map (λ (k : ResultVariable). fact_at k f.bound)) e
 
--- the find of a key that is found, by its number
+-- the derivation of a key, by its number
 pub record IsAtNumber (n : ℕ) (fs : List Derivation) (t i : ℕ) (c : Bound) (m : ℕ) : Type 0 where
   pub derivation : Derivation
   pub among : Contains fs derivation
@@ -37,7 +37,7 @@ pub record IsAtNumber (n : ℕ) (fs : List Derivation) (t i : ℕ) (c : Bound) (
   pub number : m ≡ suc (n + place)
   pub lemma : facts_of_lemma (facts_of_derivations fs) (suc place) ≡ facts_of_derivation derivation
 
--- a key that is found has the number of a find which has it
+-- a derived key has the number of a derivation with this key
 pub at_number : (n : ℕ) (fs : List Derivation) (t i : ℕ) (c : Bound) → bound_found fs t i ≡ Some c
     → IsAtNumber n fs t i c (number_from n fs t i)
 at_number n [] t i c e = absurd (none_some c e)
@@ -67,7 +67,7 @@ at_number n (f ∷ fs) t i c e =
       lemma = rest.lemma;
     }
 
--- the lemma with the number of a key that is found states all that a find which has it does
+-- the lemma with the number of a derived key states all facts of a derivation with this key
 pub found_lemma : (fs : List Derivation) (t i : ℕ) (c : Bound) → bound_found fs t i ≡ Some c
     → (f : Derivation) × Contains fs f × (has_key f.keys t i ≡ true) × (f.bound ≡ c)
     × (facts_of_lemma (facts_of_derivations fs) (number_from 0 fs t i) ≡ facts_of_derivation f)

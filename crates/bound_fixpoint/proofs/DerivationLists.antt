@@ -1,5 +1,5 @@
--- Finds one after another: the first find of a key counts, so what is known stays as it is when finds are added, and so
--- does its number.
+-- Lists of derivations: the first derivation of a key counts, so known bounds and their numbers stay when derivations
+-- are added.
 use Rattle.std.proofs.Common.{◌≡◌, ◌⊎◌, inl, inr, ℕ, zero, suc, Bool, true, false, List, [], ◌∷◌, ◌++◌}
 use Rattle.std.proofs.Common.{Option, Some, None, refl, sym, ◌∙◌, ap}
 use Rattle.std.specs.List.{Contains}
@@ -15,7 +15,7 @@ pub first_of-some : (x y : Option Bound) (b : Bound) → x ≡ Some b → first_
 first_of-some None y b e = absurd (none_some b e)
 first_of-some (Some a) y b e = e
 
--- and else the second
+-- if there is no first value, the second one is taken
 pub first_of-none : (x y : Option Bound) → x ≡ None → first_of x y ≡ y
 first_of-none None y e = refl
 first_of-none (Some a) y e = absurd (none_some a (sym e))
@@ -36,7 +36,7 @@ pub first_of-assoc : (x y z : Option Bound) → first_of x (first_of y z) ≡ fi
 first_of-assoc None y z = refl
 first_of-assoc (Some a) y z = refl
 
--- what is found of a key in joined lists is what is found in the first, or else in the second
+-- the derived bound of a key in appended lists is that in the first one, or else that in the second
 pub found-append : (fs gs : List Derivation) (t i : ℕ)
     → bound_found (fs ++ gs) t i ≡ first_of (bound_found fs t i) (bound_found gs t i)
 found-append [] gs t i = refl
@@ -48,20 +48,20 @@ found-append (f ∷ fs) gs t i = go (has_key f.keys t i) refl (found-append fs g
     go true e ih = rw e refl
     go false e ih = rw e ih
 
--- what is known with joined lists is what is known with the first, or else what is found in the second
+-- the known bound of a key with appended lists is that with the first one, or else the one derived in the second
 pub bounds_of-append : (p : Program) (fs gs : List Derivation) (t i : ℕ)
     → bounds_of p (fs ++ gs) t i ≡ first_of (bounds_of p fs t i) (bound_found gs t i)
 bounds_of-append p fs gs t i =
     ap (λ (o : Option Bound). first_of (start_bounds p t i) o) (found-append fs gs t i)
     ∙ first_of-assoc (start_bounds p t i) (bound_found fs t i) (bound_found gs t i)
 
--- a known bound stays when finds are added
+-- a known bound stays when derivations are added
 pub bounds_of-kept : (p : Program) (fs gs : List Derivation) (t i : ℕ) (b : Bound) → bounds_of p fs t i ≡ Some b
     → bounds_of p (fs ++ gs) t i ≡ Some b
 bounds_of-kept p fs gs t i b e =
     bounds_of-append p fs gs t i ∙ first_of-some (bounds_of p fs t i) (bound_found gs t i) b e
 
--- so what isn't missing isn't missing with more finds
+-- a key that isn't missing isn't missing after more derivations
 pub known_stays : (p : Program) (fs gs : List Derivation) (t i : ℕ) → lacks (bounds_of p fs t i) ≡ false
     → lacks (bounds_of p (fs ++ gs) t i) ≡ false
 known_stays p fs gs t i e = ap lacks (bounds_of-append p fs gs t i) ∙ first (bounds_of p fs t i) e
@@ -70,7 +70,7 @@ known_stays p fs gs t i e = ap lacks (bounds_of-append p fs gs t i) ∙ first (b
     first None k = absurd (let none : ⊥ = cc in none)
     first (Some b) k = refl
 
--- and neither is what is found in them
+-- a key that the added derivations have isn't missing
 pub found_known : (p : Program) (fs gs : List Derivation) (t i : ℕ) → lacks (bound_found gs t i) ≡ false
     → lacks (bounds_of p (fs ++ gs) t i) ≡ false
 found_known p fs gs t i e = ap lacks (bounds_of-append p fs gs t i) ∙ second (bounds_of p fs t i)
@@ -79,7 +79,7 @@ found_known p fs gs t i e = ap lacks (bounds_of-append p fs gs t i) ∙ second (
     second None = e
     second (Some b) = refl
 
--- of a key that isn't known, what added finds say is known
+-- an unknown key gets the bound that the added derivations give
 pub bounds_of-new : (p : Program) (fs gs : List Derivation) (t i : ℕ) → bounds_of p fs t i ≡ None
     → bounds_of p (fs ++ gs) t i ≡ bound_found gs t i
 bounds_of-new p fs gs t i e =
@@ -91,17 +91,17 @@ pub bounds_of-missing : (p : Program) (fs gs : List Derivation) (t i : ℕ) → 
 bounds_of-missing p fs gs t i e =
     first_of-missing (bounds_of p fs t i) (bound_found gs t i) (sym (bounds_of-append p fs gs t i) ∙ e)
 
--- what the first find says of its keys counts
+-- a derivation gives the bound of its keys
 pub found-here : (f : Derivation) (fs : List Derivation) (t i : ℕ) → has_key f.keys t i ≡ true
     → bound_found (f ∷ fs) t i ≡ Some f.bound
 found-here f fs t i e = rw e refl
 
--- where it hasn't the key, what the others say counts
+-- if the first derivation hasn't the key, the others give its bound
 pub found-later : (f : Derivation) (fs : List Derivation) (t i : ℕ) → has_key f.keys t i ≡ false
     → bound_found (f ∷ fs) t i ≡ bound_found fs t i
 found-later f fs t i e = rw e refl
 
--- a bound that is found is that of a find which has the key
+-- a derived bound is that of a derivation with the key
 pub found-derivation : (fs : List Derivation) (t i : ℕ) (b : Bound) → bound_found fs t i ≡ Some b
     → (f : Derivation) × Contains fs f × (has_key f.keys t i ≡ true) × (f.bound ≡ b)
 found-derivation [] t i b e = absurd (none_some b e)
@@ -117,7 +117,7 @@ found-derivation (f ∷ fs) t i b e = by_cases (has_key f.keys t i) here (λ m. 
         → (g : Derivation) × Contains (f ∷ fs) g × (has_key g.keys t i ≡ true) × (g.bound ≡ b)
     later rest = (rest.0, contains-later rest.0 f fs rest.1, rest.2, rest.3)
 
--- the number of a key that is found stays when finds are added
+-- the number of a derived key stays when derivations are added
 pub number_from-kept : (n : ℕ) (fs gs : List Derivation) (t i : ℕ) (b : Bound) → bound_found fs t i ≡ Some b
     → number_from n (fs ++ gs) t i ≡ number_from n fs t i
 number_from-kept n [] gs t i b e = absurd (none_some b e)
@@ -132,7 +132,7 @@ number_from-kept n (f ∷ fs) gs t i b e =
         → number_from n (f ∷ fs ++ gs) t i ≡ number_from n (f ∷ fs) t i
     later m ih = rw m ih
 
--- and so does that of its lemma
+-- the number of its lemma stays when derivations are added
 pub number_in-kept : (fs gs : List Derivation) (t i : ℕ) (b : Bound) → bound_found fs t i ≡ Some b
     → number_in (fs ++ gs) t i ≡ number_in fs t i
 number_in-kept fs gs zero i b e = refl

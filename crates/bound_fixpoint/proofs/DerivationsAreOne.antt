@@ -1,4 +1,4 @@
--- Where answers are one, so is the last list of finds, and so is the reason of each bound that is missing.
+-- If answers are unique, so is the last list of derivations, and so is the reason of each missing bound.
 use Rattle.std.proofs.Common.{◌≡◌, ◌⊎◌, inl, inr, ℕ, zero, suc, true, List, [], ◌∷◌, ◌++◌, refl, sym, ◌∙◌, ap}
 use Rattle.std.proofs.Common.{subst, arith}
 use Rattle.rule_questions.specs.cert_rules.Nodes.{ResultVariable}
@@ -26,7 +26,7 @@ answers_one a = record {
   sizes = λ b keys x y h k. sym h ∙ k;
 }
 
--- a list with nothing behind it is itself
+-- appending the empty list changes nothing
 pub append-none : (fs : List Derivation) → fs ++ [] ≡ fs
 append-none [] = refl
 append-none (f ∷ fs) = ap (λ (gs : List Derivation). f ∷ gs) (append-none fs)
@@ -46,7 +46,7 @@ lacks_one : (v w : NoBound) → Lacks v ≡ Lacks w → v ≡ w
 lacks_one v w e = cc
 
 module _ (q : Searches) (one : AreOne q) (s : Setting) where
-  -- finds with those of a further round
+  -- derivations with those of a further round
   abbrev Follows : List Derivation → List Derivation → Type 0
   Follows old new = (more : List Derivation) × IsRound q s old more × (new ≡ old ++ more)
 
@@ -57,14 +57,14 @@ module _ (q : Searches) (one : AreOne q) (s : Setting) where
   begin_one : (x y : List Derivation) → AreFirst q s.program x → AreFirst q s.program y → x ≡ y
   begin_one x y h k = first_one q one s.program x y h k
 
-  -- finds that are made are those after this many rounds
+  -- derivations made by rounds are those after some number of rounds
   made_after : (fs : List Derivation) → IsMade q s fs
       → (n : ℕ) × IsAfter (AreFirst q s.program) Follows begin_one next_one n fs
   made_after fs (Begun h) = (0, h)
   made_after fs (Made {fs = old} {more = more} m r) =
       let before = made_after old m in (suc before.0, (old, before.1, (more, r, refl)))
 
-  -- after a first round to the last ones finds are the first ones or those
+  -- if the first round leads to the last derivations, any derivations are the initial or the last ones
   pub made_of_two : (first last : List Derivation) → AreFirst q s.program first → IsRound q s first last → IsRound q s
       (first ++ last) [] → (fs : List Derivation) → IsMade q s fs → (fs ≡ first) ⊎ (fs ≡ first ++ last)
   made_of_two first last begins round closed fs made =
@@ -78,7 +78,7 @@ module _ (q : Searches) (one : AreOne q) (s : Setting) where
           (first, begins, (last, round, refl)) ([], closed, sym (append-none (first ++ last))) n (suc n)
           (omega arith) fs h)
 
-  -- the last finds are one list
+  -- the last list of derivations is unique
   pub last_one : (x y : List Derivation) → IsLast q s x → IsLast q s y → x ≡ y
   last_one x y h k =
       let a = made_after x h.made in
@@ -100,7 +100,7 @@ module _ (q : Searches) (one : AreOne q) (s : Setting) where
   one_time t (TimeOf u) (SizesOf keys) a b = absurd b
   one_time t (SizesOf keys) y a b = absurd a
 
-  -- so it has one reason
+  -- the reason of a missing time is unique
   pub time_reason : (fs : List Derivation) (t : ℕ) (v w : NoBound) → IsNoBound q s fs t 0 v → IsNoBound q s fs t 0 w
       → v ≡ w
   time_reason fs t v w h k = reason_by fs t 0 (one_time t) v w h k
@@ -119,12 +119,13 @@ module _ (q : Searches) (one : AreOne q) (s : Setting) where
         ap (λ (ks : List ResultVariable). SizesOf ks)
         (component_one cs apart keys others t (suc i) (of_these a.0 keys a.1 a.2) a.3 (of_these b.0 others b.1 b.2) b.3)
 
-    -- so the reason why a bound is missing is one
+    -- the reason of a missing bound is unique
     pub reason_one : (fs : List Derivation) (t i : ℕ) (v w : NoBound) → IsNoBound q s fs t i v → IsNoBound q s fs t i w
         → v ≡ w
     reason_one fs t i v w h k = reason_by fs t i (one_target t i) v w h k
 
--- rounds make one last list of finds, and a bound that is missing has one reason, a size where components are apart
+-- rounds make one last list of derivations; a missing bound has one reason, if components are disjoint in the case of
+-- a size
 pub last_derivations_one : LastDerivationsAreOne
 last_derivations_one = record {
   last = λ a s x y h k. last_one (searches_of a) (answers_one a) s x y h k;

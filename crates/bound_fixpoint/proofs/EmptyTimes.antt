@@ -1,4 +1,4 @@
--- Empty rules have a time with all finds that rounds make.
+-- An infeasible rule has the time 0 in every list of derivations that rounds make.
 use Rattle.std.proofs.Common.{◌≡◌, ℕ, List, filter, Some, ◌∙◌, ap}
 use Rattle.rule_questions.specs.model.Bounds.{Constant}
 use Rattle.rule_questions.proofs.model.Membership.{is_in-filter}
@@ -14,7 +14,7 @@ use Rattle.bound_fixpoint.proofs.MissingBounds.{rule_bounds}
 use Rattle.bound_fixpoint.proofs.RuleNumbers.{rule_in}
 use Rattle.bound_fixpoint.proofs.ZeroTimes.{empties_zero, zero_found}
 
--- the time of an empty rule is 0 with the first finds, and stays so
+-- the time of an infeasible rule is 0 in the initial list, and in every later one
 pub empty_timed : (q : Searches) (s : Setting) (fs : List Derivation) → IsMade q s fs → (t : ℕ) → IsRule s.program t
     → IsEmpty q t → bounds_of s.program fs t 0 ≡ Some (Constant 0)
 empty_timed q s fs (Begun h) t rule empty =

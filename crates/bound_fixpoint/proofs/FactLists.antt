@@ -19,7 +19,7 @@ pub place_fact_of : (b : Bounds) (t i : ℕ) (c : Bound) → b t i ≡ Some c �
 place_fact_of b t zero c e = e
 place_fact_of b t (suc i) c e = e
 
--- what isn't the first element is in the rest
+-- an element other than the first one is in the rest
 passed : (x y : Fact) (ys : List Fact) → (y ≡ x → ⊥) → Contains (y ∷ ys) x → Contains ys x
 passed x y ys other h = go (contains-cases x y ys h)
   where
@@ -31,7 +31,7 @@ passed x y ys other h = go (contains-cases x y ys h)
 size_time : (u i t : ℕ) (c d : Bound) → Size u i c ≡ Time t d → ⊥
 size_time u i t c d e = cc
 
--- and a time isn't a size
+-- a time isn't a size
 time_size : (u t i : ℕ) (c d : Bound) → Time u c ≡ Size t i d → ⊥
 time_size u t i c d e = cc
 
@@ -39,7 +39,7 @@ time_size u t i c d e = cc
 time_rule : (u t : ℕ) (c d : Bound) → Time u c ≡ Time t d → u ≡ t
 time_rule u t c d e = cc
 
--- and have one bound
+-- equal times have equal bounds
 time_bound : (u t : ℕ) (c d : Bound) → Time u c ≡ Time t d → c ≡ d
 time_bound u t c d e = cc
 
@@ -47,7 +47,7 @@ time_bound u t c d e = cc
 size_rule : (u j t i : ℕ) (c d : Bound) → Size u j c ≡ Size t i d → u ≡ t
 size_rule u j t i c d e = cc
 
--- and at one place
+-- equal sizes have equal places
 size_place : (u j t i : ℕ) (c d : Bound) → Size u j c ≡ Size t i d → j ≡ i
 size_place u j t i c d e = cc
 
@@ -56,7 +56,7 @@ other_time : (u t : ℕ) (c d : Bound) → (u == t) ≡ false → Time u c ≡ T
 other_time u t c d n e =
     no_is_not_yes (u == t) n (subst (λ (m : ℕ). (u == m) ≡ true) (time_rule u t c d e) (same_number u))
 
--- nor are two sizes at different places
+-- sizes at different places differ
 other_size : (u j t i : ℕ) (c d : Bound) → ((u == t) && (j == i)) ≡ false → Size u j c ≡ Size t i d → ⊥
 other_size u j t i c d n e =
     no_is_not_yes ((u == t) && (j == i)) n
@@ -85,7 +85,7 @@ same_time b (Time u d ∷ facts) are t c h =
     later : (u == t) ≡ false → time_in facts t ≡ b t 0 → time_in (Time u d ∷ facts) t ≡ b t 0
     later e ih = rw e ih
 
--- and so is a size
+-- a size is looked up among the facts as it is known
 pub same_size : (b : Bounds) (facts : List Fact) → AreFactsOf b facts → (t i : ℕ) (c : Bound)
     → Contains facts (Size t i c) → size_in facts t i ≡ size_by b t i
 same_size b [] are t i c h = absurd (contains-none (Size t i c) h)
@@ -168,7 +168,7 @@ stating_numbered (facts ∷ past) (suc (suc n)) f h =
     let rest = stating_numbered past (suc n) f h in
     record { least = omega arith; earlier = omega (arith, rest.earlier) }
 
--- what holds of all facts of all lemmas holds of those of each
+-- a property of all facts of all lemmas is one of those of each
 pub lemma-all : (P : Fact → Type 0) (past : List (List Fact)) → All (All P) past → (n : ℕ)
     → All P (facts_of_lemma past n)
 lemma-all P past h zero = All-nil P

@@ -1,4 +1,4 @@
--- The finds before the first round are justified.
+-- The derivations before the first round are justified.
 use Rattle.std.proofs.Common.{◌≡◌, inl, inr, ℕ, ◌≤◌, ◌==◌, Bool, not, true, false, List, [], ◌∷◌, ◌++◌}
 use Rattle.std.proofs.Common.{length, map, filter, Some, None, refl, sym, ◌∙◌, ap, subst, arith, All}
 use Rattle.std.proofs.lemmas.Bool.{and_parts, and_from, not-true, not_from_false, or_left, or_right}
@@ -53,7 +53,7 @@ pub keys_after-sound : (p : Program) (t u i : ℕ) → has_key (keys_after p t) 
 keys_after-sound p t u i m =
     let both = places_of t (places_at p (target_of p t)) u i m in (both.0, in_places p t i both.1)
 
--- they are of that rule
+-- the keys after a rule are of that rule
 after_of_rule : (p : Program) (t : ℕ) → AreOfRule t (keys_after p t)
 after_of_rule p t =
     all-has_key (λ k. k.rule ≡ t) (keys_after p t) (λ u i m. sym (keys_after-sound p t u i m).0)
@@ -70,7 +70,7 @@ in-left n (x ∷ xs) ys m =
     (λ e. or_left (n == x) (is_in n (xs ++ ys)) (subst (λ (k : ℕ). (n == k) ≡ true) e (same_number n)))
     (λ l. or_right (n == x) (is_in n (xs ++ ys)) (in-left n xs ys l))
 
--- and so is one in the second
+-- a member of the second list is one of the appended list
 in-right : (n : ℕ) (xs ys : List ℕ) → is_in n ys ≡ true → is_in n (xs ++ ys) ≡ true
 in-right n [] ys m = m
 in-right n (x ∷ xs) ys m = or_right (n == x) (is_in n (xs ++ ys)) (in-right n xs ys m)
@@ -79,7 +79,7 @@ in-right n (x ∷ xs) ys m = or_right (n == x) (is_in n (xs ++ ys)) (in-right n 
 zero_known : (b : Bounds) (k : ResultVariable) → at_key b k ≡ Some (Constant 0) → IsKnown (at_key b k)
 zero_known b k e = (Constant 0, e)
 
--- finds of empty rules are justified over no bounds at all
+-- the derivations of infeasible rules are justified over no bounds
 empties_stand : (q : Searches) (s : Setting) (right : AreRight q s) (ts : List ℕ)
     → ((t : ℕ) → is_in t ts ≡ true → IsRule s.program t) → (fs : List Derivation) → AreEmptyDerivations q ts fs
     → All (Stands s (bounds_of s.program [])) fs
@@ -108,7 +108,7 @@ module _ (q : Searches) (s : Setting) (fs : List Derivation) (h : AreFirst q s.p
   abbrev pub sized_ones : List ℕ
   sized_ones = zeroed s.program h.is_empty h.is_unreached
 
-  -- their finds
+  -- the keys of the times of infeasible rules
   abbrev pub dead_keys : List ResultVariable
   dead_keys = map time_key empty_ones
 
@@ -123,7 +123,7 @@ module _ (q : Searches) (s : Setting) (fs : List Derivation) (h : AreFirst q s.p
   empty_rule t m =
       let kept = filter-in h.is_empty (rule_numbers s.program) t m in (in_rules s.program t kept.0, kept.1)
 
-  -- and each such rule is among them
+  -- each infeasible rule is among the listed ones
   empty_there : (t : ℕ) → IsRule s.program t → h.is_empty t ≡ true → is_in t empty_ones ≡ true
   empty_there t rule e =
       is_in-filter h.is_empty (rule_numbers s.program) t (rule_in s.program t rule.rule rule.numbered) e
@@ -167,7 +167,7 @@ module _ (q : Searches) (s : Setting) (fs : List Derivation) (h : AreFirst q s.p
                 (and_from (not (h.is_empty t)) (h.is_unreached t) (not_from_false (h.is_empty t) e) out)),
           )
 
-  -- the finds of empty rules say that their times are 0
+  -- the derivations of infeasible rules state that their times are 0
   zero_empties : AreZeroTimesOf empty_ones h.empties
   zero_empties = empties_zero q empty_ones h.empties h.are_empties
 
@@ -180,32 +180,32 @@ module _ (q : Searches) (s : Setting) (fs : List Derivation) (h : AreFirst q s.p
   ascending : AscendFrom 1 (rule_numbers s.program)
   ascending = range_ascends 1 (length s.program.rules)
 
-  -- with the finds of empty rules alone their times are known to be 0
+  -- after the derivations of infeasible rules their times are known to be 0
   empty_known : (t : ℕ) → is_in t empty_ones ≡ true → bounds_of s.program h.empties t 0 ≡ Some (Constant 0)
   empty_known t m =
       rule_bounds s.program h.empties t 0 (empty_rule t m).0 ∙ zero_found empty_ones h.empties zero_empties t m
 
-  -- and those of rules that are cut off are missing
+  -- after these the times of unreached rules are missing
   cut_missing : (t : ℕ) → is_in t cut_ones ≡ true → bounds_of s.program h.empties t 0 ≡ None
   cut_missing t m =
       rule_bounds s.program h.empties t 0 (cut_rule t m).0
       ∙ zero_missing empty_ones h.empties zero_empties t 0
       (λ k place. no_is_not_yes (h.is_empty t) (cut_rule t m).1 (empty_rule t k).1)
 
-  -- with all times before the first round that of each rule that never runs and leads to places is 0
+  -- after all times before the first round that of each dead rule with places is 0
   dead_known : (t : ℕ) → is_in t sized_ones ≡ true → bounds_of s.program (h.empties ++ cuts) t 0 ≡ Some (Constant 0)
   dead_known t m =
       let rule = sized_rule t m in
       rule_bounds s.program (h.empties ++ cuts) t 0 rule.0
       ∙ zero_found (empty_ones ++ cut_ones) (h.empties ++ cuts) zero_both t rule.2
 
-  -- and each size is missing
+  -- after all times before the first round each size is missing
   size_missing : (t i : ℕ) → IsRule s.program t → 1 ≤ i → bounds_of s.program (h.empties ++ cuts) t i ≡ None
   size_missing t i rule low =
       rule_bounds s.program (h.empties ++ cuts) t i rule
       ∙ zero_missing (empty_ones ++ cut_ones) (h.empties ++ cuts) zero_both t i (λ k place. omega (arith, place, low))
 
-  -- the finds of empty rules come first
+  -- the derivations of infeasible rules are justified
   empties_first : AreRight q s → StandAfter s [] h.empties
   empties_first right =
       stand_over s [] [] h.empties (begins_itself [])
@@ -224,7 +224,7 @@ module _ (q : Searches) (s : Setting) (fs : List Derivation) (h : AreFirst q s.p
       (path_on s.program h.is_empty (λ e. has_key dead_keys e 0)
       (λ e rule k. has_time_key empty_ones e (empty_there e rule k)) s.program.start r.source way)
 
-  -- the find of an unreached rule is justified
+  -- the derivation of an unreached rule is justified
   cut_stands : (t : ℕ) → is_in t cut_ones ≡ true → Stands s (bounds_of s.program h.empties) (unreached_derivation dead_keys t)
   cut_stands t m = record {
     keys = refl;
@@ -244,7 +244,7 @@ module _ (q : Searches) (s : Setting) (fs : List Derivation) (h : AreFirst q s.p
     bound = refl;
   }
 
-  -- then those of unreached rules come
+  -- the derivations of unreached rules are justified after those of infeasible ones
   cuts_first : StandAfter s h.empties cuts
   cuts_first =
       stand_over s h.empties h.empties cuts (begins_itself h.empties)
@@ -257,7 +257,7 @@ module _ (q : Searches) (s : Setting) (fs : List Derivation) (h : AreFirst q s.p
       (unreached_zero dead_keys cut_ones))
       (zero_fresh (bounds_of s.program h.empties) cut_ones cuts (unreached_zero dead_keys cut_ones) cut_missing))
 
-  -- a find of sizes after a rule that never runs is justified
+  -- the derivation of the sizes after a dead rule is justified
   never_stands : (t : ℕ) → is_in t sized_ones ≡ true
       → Stands s (bounds_of s.program (h.empties ++ cuts)) (never_derivation s.program t)
   never_stands t m = record {
@@ -283,7 +283,7 @@ module _ (q : Searches) (s : Setting) (fs : List Derivation) (h : AreFirst q s.p
           let here = keys_after-sound s.program t u i k in
           size_missing u i (subst (λ (n : ℕ). IsRule s.program n) here.0 (sized_rule t m).0) here.1.least
 
-  -- and last those of sizes
+  -- the derivations of sizes are justified last
   nevers_first : StandAfter s (h.empties ++ cuts) nevers
   nevers_first =
       stand_over s (h.empties ++ cuts) (h.empties ++ cuts) nevers (begins_itself (h.empties ++ cuts))
@@ -300,7 +300,7 @@ module _ (q : Searches) (s : Setting) (fs : List Derivation) (h : AreFirst q s.p
       (of_each_in (λ (t : ℕ). AreFresh (bounds_of s.program (h.empties ++ cuts)) (keys_after s.program t)) sized_ones
       never_fresh)))
 
-  -- so the finds before the first round are justified
+  -- the derivations before the first round are justified
   pub first_stand : AreRight q s → StandAfter s [] fs
   first_stand right =
       subst (λ (xs : List Derivation). StandAfter s [] xs) (sym h.in_order)

@@ -1,4 +1,4 @@
--- Where answers are one, so are the finds before the first round.
+-- If each search has at most one answer, there is at most one list of derivations before the first round.
 use Rattle.std.proofs.Common.{◌≡◌, ℕ, ◌==◌, Bool, true, false, List, [], ◌∷◌, ◌++◌, filter, map}
 use Rattle.std.proofs.Common.{refl, sym, ◌∙◌, ap, subst}
 use Rattle.std.proofs.lemmas.Bool.{or_left, or_right}
@@ -17,7 +17,7 @@ use Rattle.bound_fixpoint.specs.Right.{AreOne}
 use Rattle.bound_fixpoint.proofs.RuleNumbers.{in_rules}
 use Rattle.bound_fixpoint.proofs.DeadRules.{path_on}
 
--- tests that are the same for all numbers of a list keep the same of them
+-- two tests that agree on a list filter it alike
 filter-same : (f g : ℕ → Bool) (ns : List ℕ) → ((n : ℕ) → is_in n ns ≡ true → f n ≡ g n) → filter f ns ≡ filter g ns
 filter-same f g [] h = refl
 filter-same f g (n ∷ ns) h = go (f n) refl (filter-same f g ns (λ m i. h m (or_right (m == n) (is_in m ns) i)))
@@ -32,7 +32,7 @@ filter-same f g (n ∷ ns) h = go (f n) refl (filter-same f g ns (λ m i. h m (o
 no_point_one : (xs ys : List ℕ) → NoPoint xs ≡ NoPoint ys → xs ≡ ys
 no_point_one xs ys e = cc
 
--- the finds of rules that are empty are one list
+-- there is at most one list of derivations of infeasible rules
 empties_one : (q : Searches) → AreOne q → (ts : List ℕ) (x y : List Derivation) → AreEmptyDerivations q ts x → AreEmptyDerivations q ts y
     → x ≡ y
 empties_one q one [] x y h k = h ∙ sym k
@@ -42,20 +42,20 @@ empties_one q one (t ∷ ts) x y h k =
     h.2.1 ∙ (ap (λ (m : List ℕ). empty_derivation t m ∷ h.2.0) same
     ∙ (ap (λ (fs : List Derivation). empty_derivation t k.0 ∷ fs) rest ∙ sym k.2.1))
 
--- the finds before the first round, with the empty rules, those that are unreached beside them, and those that never
--- run and lead to a place
+-- the initial list: the derivations of the infeasible rules, one for each unreached feasible rule, and one for each
+-- dead rule whose target has places
 abbrev joined : Program → List Derivation → List ℕ → List ℕ → List ℕ → List Derivation
 joined p empties dead cut zeros = empties
     ++ (map (unreached_derivation (map time_key dead)) cut ++ map (never_derivation p) zeros)
 
 module _ (q : Searches) (one : AreOne q) (p : Program) (x y : List Derivation) (h : AreFirst q p x) (k : AreFirst q p y) where
-  -- the same rules are empty
+  -- the same rules are infeasible
   same_empty : (t : ℕ) → IsRule p t → h.is_empty t ≡ k.is_empty t
   same_empty t rule =
       same_tests (h.is_empty t) (k.is_empty t) (λ e. (k.empty t rule).1 ((h.empty t rule).0 e))
       (λ e. (h.empty t rule).1 ((k.empty t rule).0 e))
 
-  -- and of the others the same are unreached
+  -- among the feasible rules the same ones are unreached
   same_unreached : (t : ℕ) → IsRule p t → h.is_empty t ≡ false → h.is_unreached t ≡ k.is_unreached t
   same_unreached t rule e =
       let here = h.unreached t rule e in
@@ -80,7 +80,7 @@ module _ (q : Searches) (one : AreOne q) (p : Program) (x y : List Derivation) (
       go true e = rw (e, sym (same_empty t rule) ∙ e) refl
       go false e = rw (e, sym (same_empty t rule) ∙ e) (same_unreached t rule e)
 
-  -- the first finds are one list
+  -- the initial list is unique
   pub first_one : x ≡ y
   first_one =
       h.in_order ∙ (ap (λ (fs : List Derivation). joined p fs (filter h.is_empty (rule_numbers p))

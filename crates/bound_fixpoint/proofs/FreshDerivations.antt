@@ -34,7 +34,7 @@ range_ascends n (suc k) = (
       (range_ascends (n + 1) k),
 )
 
--- and so do those of them that pass a test
+-- the numbers that pass a test ascend if all do
 pub filter_ascends : (test : ℕ → Bool) (n : ℕ) (ns : List ℕ) → AscendFrom n ns → AscendFrom n (filter test ns)
 filter_ascends test n [] h = tt
 filter_ascends test n (m ∷ ns) h = go (test m) refl (filter_ascends test (suc m) ns h.1)
@@ -47,7 +47,7 @@ filter_ascends test n (m ∷ ns) h = go (test m) refl (filter_ascends test (suc 
 abbrev pub AreOfRule : ℕ → List ResultVariable → Type 0
 AreOfRule t keys = All (λ k. k.rule ≡ t) keys
 
--- the keys of each find are of one rule, and these rules ascend, from this number on
+-- the keys of each derivation are of one rule, and these rules ascend, from this number on
 abbrev pub RulesAscend : ℕ → List Derivation → Type 0
 RulesAscend n [] = Unit {0}
 RulesAscend n (f ∷ fs) = (t : ℕ) × (n ≤ t) × AreOfRule t f.keys × RulesAscend (suc t) fs
@@ -57,7 +57,7 @@ pub rules_lower : (n m : ℕ) (fs : List Derivation) → n ≤ m → RulesAscend
 rules_lower n m [] low h = tt
 rules_lower n m (f ∷ fs) low (t, least, own, rest) = (t, omega (arith, low, least), own, rest)
 
--- finds that are made of ascending rules are such
+-- derivations made of ascending rules have ascending rules
 pub made_ascend : (make : ℕ → Derivation) → ((t : ℕ) → AreOfRule t (make t).keys) → (n : ℕ) (ts : List ℕ) → AscendFrom n ts
     → RulesAscend n (map make ts)
 made_ascend make own n [] h = tt
@@ -67,17 +67,17 @@ made_ascend make own n (t ∷ ts) h = (t, h.0, own t, made_ascend make own (suc 
 abbrev pub AreFresh : Bounds → List ResultVariable → Type 0
 AreFresh b keys = All (λ k. at_key b k ≡ None) keys
 
--- nor is one of the keys of any of these finds
+-- none of the keys of these derivations is known
 abbrev pub AllFresh : Bounds → List Derivation → Type 0
 AllFresh b fs = All (λ f. AreFresh b f.keys) fs
 
--- the keys of each find are fresh after those before it
+-- the keys of each derivation are unknown after those before it
 abbrev pub FreshAfter : Program → List Derivation → List Derivation → Type 0
 FreshAfter p earlier [] = Unit {0}
 FreshAfter p earlier (f ∷ fs) = AreFresh (bounds_of p earlier) f.keys × FreshAfter p (earlier ++ f ∷ []) fs
 
 module _ (p : Program) (earlier : List Derivation) (f : Derivation) (t : ℕ) (own : AreOfRule t f.keys) where
-  -- keys of another rule stay fresh after a find
+  -- keys of another rule stay unknown after a derivation
   other_rule : (u : ℕ) (keys : List ResultVariable) → t < u → AreOfRule u keys → AreFresh (bounds_of p earlier) keys
       → AreFresh (bounds_of p (earlier ++ f ∷ [])) keys
   other_rule u keys more others fresh =
@@ -95,7 +95,7 @@ module _ (p : Program) (earlier : List Derivation) (f : Derivation) (t : ℕ) (o
               let same : v ≡ t = has_key-all (λ k. k.rule ≡ t) f.keys v i own k in
               absurd (omega (arith, other, same, more))
 
-  -- and so do those of finds of later rules
+  -- keys of derivations of later rules stay unknown
   pub later_rules : (fs : List Derivation) (n : ℕ) → t < n → RulesAscend n fs → AllFresh (bounds_of p earlier) fs
       → AllFresh (bounds_of p (earlier ++ f ∷ [])) fs
   later_rules [] n more h fresh = All-nil (λ g. AreFresh (bounds_of p (earlier ++ f ∷ [])) g.keys)
@@ -106,7 +106,8 @@ module _ (p : Program) (earlier : List Derivation) (f : Derivation) (t : ℕ) (o
       (later_rules fs (suc u) (omega (arith, more, least)) rest
       (All-tail (λ x. AreFresh (bounds_of p earlier) x.keys) g fs fresh))
 
--- where the rules of finds ascend and all are fresh at first, each is after those before it
+-- if the rules of derivations ascend and all their keys are unknown at first, the keys of each are unknown after those
+-- before it
 pub fresh_by_rules : (p : Program) (fs : List Derivation) (n : ℕ) (earlier : List Derivation) → RulesAscend n fs
     → AllFresh (bounds_of p earlier) fs → FreshAfter p earlier fs
 fresh_by_rules p [] n earlier h fresh = tt
@@ -117,19 +118,19 @@ fresh_by_rules p (f ∷ fs) n earlier (t, least, own, rest) fresh = (
       (All-tail (λ x. AreFresh (bounds_of p earlier) x.keys) f fs fresh)),
 )
 
--- finds that begin with these begin with what these begin with
+-- a prefix of a list is one of a longer list
 pub begins_later : (before earlier more : List Derivation) → IsBeginning before earlier → IsBeginning before (earlier ++ more)
 begins_later before earlier more b = record {
   between = b.between ++ more;
   same = sym (append_assoc before b.between more) ∙ ap (λ (xs : List Derivation). xs ++ more) b.same;
 }
 
--- finds begin with themselves
+-- a list is a prefix of itself
 pub begins_itself : (fs : List Derivation) → IsBeginning fs fs
 begins_itself fs = record { between = []; same = append-nil fs }
 
--- finds that are all justified over the same earlier ones, with keys that are new one after the other, are justified
--- after them
+-- derivations that are all justified over the same prefix, with keys unknown one after the other, are justified after
+-- the list
 pub stand_over : (s : Setting) (before earlier fs : List Derivation) → IsBeginning before earlier
     → All (Stands s (bounds_of s.program before)) fs → FreshAfter s.program earlier fs → StandAfter s earlier fs
 stand_over s before earlier [] begins stand fresh = tt
@@ -144,7 +145,7 @@ stand_over s before earlier (f ∷ fs) begins stand fresh = (
       (All-tail (Stands s (bounds_of s.program before)) f fs stand) fresh.1,
 )
 
--- justified finds behind justified finds are justified
+-- justified derivations after justified ones are justified together
 pub stand-append : (s : Setting) (earlier xs ys : List Derivation) → StandAfter s earlier xs → StandAfter s (earlier ++ xs) ys
     → StandAfter s earlier (xs ++ ys)
 stand-append s earlier [] ys h k = subst (λ (fs : List Derivation). StandAfter s fs ys) (append-nil earlier) k

@@ -19,7 +19,7 @@ has_key-first k keys =
     or_left ((k.rule == k.rule) && (k.place == k.place)) (has_key keys k.rule k.place)
     (and_from (k.rule == k.rule) (k.place == k.place) (same_number k.rule) (same_number k.place))
 
--- and where it is among the rest of them
+-- a key among the rest of the keys is among all
 pub has_key-later : (k : ResultVariable) (keys : List ResultVariable) (t i : ℕ) → has_key keys t i ≡ true → has_key (k ∷ keys) t i ≡ true
 has_key-later k keys t i m = or_right ((k.rule == t) && (k.place == i)) (has_key keys t i) m
 
@@ -49,7 +49,7 @@ contained-has_key (x ∷ keys) k h =
     (λ e. subst (λ (y : ResultVariable). has_key (x ∷ keys) y.rule y.place ≡ true) e (has_key-first x keys))
     (λ m. has_key-later x keys k.rule k.place (contained-has_key keys k m))
 
--- and they have no other
+-- a key found among keys is one of them
 pub has_key-contained : (keys : List ResultVariable) (t i : ℕ) → has_key keys t i ≡ true → Contains keys (key t i)
 has_key-contained [] t i m = absurd (has_key-none t i m)
 has_key-contained (k ∷ keys) t i m =
@@ -57,7 +57,7 @@ has_key-contained (k ∷ keys) t i m =
     (λ e. subst (λ (y : ResultVariable). Contains (k ∷ keys) y) e (contains-first k keys))
     (λ later. contains-later (key t i) k keys (has_key-contained keys t i later))
 
--- what holds of all keys holds of each
+-- a property of all keys is one of each
 pub has_key-all : (P : ResultVariable → Type 0) (keys : List ResultVariable) (t i : ℕ) → All P keys → has_key keys t i ≡ true → P (key t i)
 has_key-all P [] t i h m = absurd (has_key-none t i m)
 has_key-all P (k ∷ keys) t i h m =
@@ -72,12 +72,12 @@ has_key-left (x ∷ xs) ys t i m =
     (λ e. or_left ((x.rule == t) && (x.place == i)) (has_key (xs ++ ys) t i) e)
     (λ later. has_key-later x (xs ++ ys) t i (has_key-left xs ys t i later))
 
--- or among the second
+-- a key among the second keys is among the appended ones
 pub has_key-right : (xs ys : List ResultVariable) (t i : ℕ) → has_key ys t i ≡ true → has_key (xs ++ ys) t i ≡ true
 has_key-right [] ys t i m = m
 has_key-right (x ∷ xs) ys t i m = has_key-later x (xs ++ ys) t i (has_key-right xs ys t i m)
 
--- and nowhere else
+-- a key among appended keys is among the first or the second ones
 pub has_key-either : (xs ys : List ResultVariable) (t i : ℕ) → has_key (xs ++ ys) t i ≡ true
     → (has_key xs t i ≡ true) ⊎ (has_key ys t i ≡ true)
 has_key-either [] ys t i m = inr m

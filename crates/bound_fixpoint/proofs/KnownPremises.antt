@@ -1,4 +1,4 @@
--- What an accepted node needs is known.
+-- The premises of an accepted node are known.
 use Rattle.std.proofs.Common.{◌≡◌, ◌≢◌, ◌⊎◌, inl, inr, ℕ, zero, suc, ◌+◌, ◌==◌, ◌||◌, Some, Bool, true, false, List, []}
 use Rattle.std.proofs.Common.{◌∷◌}
 use Rattle.std.proofs.Common.{map, refl, sym, ap, subst, arith, All}
@@ -26,7 +26,7 @@ use Rattle.rule_questions.proofs.cert_rules.SizeReasons.{known-members}
 use Rattle.bound_fixpoint.specs.Keys.{Bounds, key, time_key, at_key, size_by, over}
 use Rattle.bound_fixpoint.specs.Needs.{read_places, entry_premises, premises_of_all, rank_premises, spread_premises, cycle_premises}
 
--- what holds of each number in a list holds of all
+-- a property of each number in a list is one of all
 pub of_each_in : (P : ℕ → Type 0) (ns : List ℕ) → ((n : ℕ) → is_in n ns ≡ true → P n) → All P ns
 of_each_in P [] each = All-nil P
 of_each_in P (n ∷ ns) each =
@@ -71,7 +71,7 @@ module _ (b : Bounds) where
     abbrev coefs_at : ℕ → List ℤ
     coefs_at e = (rank_form node.forms (target_of p e)).coefs
 
-    -- what an entry needs
+    -- the premises of an entry are known
     entry_known : (e : ℕ) → IsKnown (b e 0) → ((j : ℕ) → at (coefs_at e) j ≢ pos 0
         → IsKnown (b e (suc j))) → All IsKnownAt (entry_premises p node e)
     entry_known e time sizes =
@@ -85,7 +85,7 @@ module _ (b : Bounds) where
             let same : i ≡ suc place.0 = omega (arith, place.1) in
             subst (λ (k : ℕ). IsKnown (b e k)) (sym same) (sizes place.0 place.2)
 
-    -- and what all of them do
+    -- the premises of all entries are known
     entries_known : (es : List ℕ) → ((e : ℕ) → is_in e es ≡ true → IsKnown (b e 0))
         → ((e : ℕ) → is_in e es ≡ true → (j : ℕ) → at (coefs_at e) j ≢ pos 0
         → IsKnown (b e (suc j))) → All IsKnownAt (premises_of_all p node es)
@@ -105,19 +105,19 @@ module _ (b : Bounds) where
   sizes_known (k ∷ keys) h = All-cons IsKnownAt k keys (size_known b k.rule k.place h.0) (sizes_known keys h.1)
 
   module _ (s : Setting) where
-    -- what an accepted ranking node needs is known
+    -- the premises of an accepted ranking node are known
     pub rank_known : (node : RankNode) → AcceptsRank s (over b) node → All IsKnownAt (rank_premises s.program node)
     rank_known node ok =
         entries_known s.program node (entries s.program node.set)
         (λ e m. ok.times e (listed-sound s.program node.set e m))
         (λ e m j reads. ok.sizes e (listed-sound s.program node.set e m) j reads)
 
-    -- the same for what an accepted spread needs
+    -- the premises of an accepted spread node are known
     pub spread_known : (m : Member) → AcceptsSpread s (over b) m → All IsKnownAt (spread_premises s m)
     spread_known m ok =
         sizes_known (needed_into s [] (m ∷ [])) (known-members s (over b) [] (m ∷ []) (ok.sizes, tt))
 
-    -- and what an accepted loop does
+    -- the premises of an accepted loop node are known
     pub cycle_known : (members : List Member) → AcceptsCycle s (over b) members
         → All IsKnownAt (cycle_premises s (over b) members)
     cycle_known members ok =

@@ -1,4 +1,4 @@
--- There are finds before the first round, there is a round over all finds, and there are last ones.
+-- There are derivations before the first round, a round over every list of derivations, and a last list.
 use Rattle.std.proofs.Common.{◌≡◌, ◌↔◌, ℕ, zero, suc, ◌≤◌, ◌==◌, Bool, not, true, false, List, []}
 use Rattle.std.proofs.Common.{◌∷◌, ◌++◌, filter, map, Option, Some, None, refl, sym, ◌∙◌, ap, subst, arith}
 use Rattle.std.proofs.lemmas.Bool.{or_left, or_right}
@@ -54,7 +54,7 @@ ranking_tells s bs (Ranked node) = composes s bs (RankBy node) (rank_time s node
 ranking_tells s bs (Unranked g) = (Lacks (OfTime (NoFunction g)), refl)
 ranking_tells s bs (RankTripped t) = (Lacks (OfTime (TimeTripped t)), refl)
 
--- and so does one about a component
+-- there is an answer to each outcome for a component
 sizing_tells : (s : Setting) (bs : Bounds) (answer : SizeOutcome) → (a : Answer) × TellsSizing s bs answer a
 sizing_tells s bs (SizedBy node) = (Found node (needs_of s bs node) (composed_bound s bs node), refl)
 sizing_tells s bs (Unsized why) = (Lacks (OfSize why), refl)
@@ -87,14 +87,14 @@ module _ (a : Answers) (s : Setting) where
         },
       )
 
-  -- and of the size of a component
+  -- there is an answer to the query for the size of a component
   size_tells : (fs : List Derivation) (keys : List ResultVariable)
       → (x : Answer) × Tells (searches_of a) s (bounds_of s.program fs) (SizesOf keys) x
   size_tells fs keys =
       let by_cases = sizing_tells s (bounds_of s.program fs) (a.size (bounds_of s.program fs) keys) in
       (by_cases.0, record { answer = a.size (bounds_of s.program fs) keys; answered = refl; tells = by_cases.1 })
 
-  -- a result gives the finds
+  -- an answer gives derivations
   tries_there : (fs : List Derivation) (g : Target) → ((x : Answer) × Tells (searches_of a) s (bounds_of s.program fs) g x)
       → (more : List Derivation) × Tries (searches_of a) s fs g more
   tries_there fs g tells = by_cases (is_open (bounds_of s.program fs) g) lacking known
@@ -118,7 +118,7 @@ module _ (a : Answers) (s : Setting) where
       let rest = times_there fs ts (λ u m. rules u (or_right (u == t) (is_in u ts) m)) in
       (first.0 ++ rest.0, (first.0, first.1, (rest.0, refl, rest.1)))
 
-  -- and so are the sizes of components
+  -- there are derivations for the sizes of components
   sizes_there : (fs : List Derivation) (cs : List (List ResultVariable))
       → (more : List Derivation) × TriesAll (searches_of a) s InTurn fs (map SizesOf cs) more
   sizes_there fs [] = ([], refl)
@@ -127,7 +127,7 @@ module _ (a : Answers) (s : Setting) where
       let rest = sizes_there (fs ++ first.0) cs in
       (first.0 ++ rest.0, (first.0, first.1, (rest.0, refl, rest.1)))
 
-  -- so there is a round over all finds
+  -- there is a round over every list of derivations
   pub round_there : AreComponentsOf (searches_of a) s.program a.components → (fs : List Derivation)
       → (more : List Derivation) × IsRound (searches_of a) s fs more
   round_there components fs =
@@ -187,7 +187,7 @@ module _ (a : Answers) (s : Setting) where
               absurd (u rule.rule rule.numbered
               (((paths_decided s.program (λ e. not (says_empty (a.empty e))) s.program.start).1 rule.rule.source).0 there))
 
-  -- each empty rule has a find
+  -- each infeasible rule has a derivation
   empties_there : (ts : List ℕ) → ((t : ℕ) → is_in t ts ≡ true → says_empty (a.empty t) ≡ true)
       → (fs : List Derivation) × AreEmptyDerivations (searches_of a) ts fs
   empties_there [] empty = ([], refl)
@@ -202,7 +202,7 @@ module _ (a : Answers) (s : Setting) where
   all_empty : (t : ℕ) → is_in t empty_rules ≡ true → says_empty (a.empty t) ≡ true
   all_empty t m = (filter-in (λ u. says_empty (a.empty u)) (rule_numbers s.program) t m).1
 
-  -- so there are finds before the first round
+  -- there are derivations before the first round
   pub first_there : (fs : List Derivation) × AreFirst (searches_of a) s.program fs
   first_there =
       let empties = empties_there empty_rules all_empty in (
@@ -219,7 +219,7 @@ module _ (a : Answers) (s : Setting) where
       )
 
   module _ (components : AreComponentsOf (searches_of a) s.program a.components) where
-    -- rounds go on to the last, as each but that finds a bound that was missing
+    -- rounds go on to the last one, as each other one derives a bound that was missing
     go_on : (fuel : ℕ) (fs : List Derivation) → IsMade (searches_of a) s fs
         → missing s.program (bounds_of s.program fs) ≤ fuel → (last : List Derivation) × IsLast (searches_of a) s last
     go_on zero fs made few =
@@ -249,7 +249,7 @@ module _ (a : Answers) (s : Setting) where
         let first = first_there in
         go_on (missing s.program (bounds_of s.program first.0)) first.0 (Begun first.1) (omega arith)
 
--- there are first finds, there is a round over all finds, and there are last ones
+-- there are initial derivations, a round over every list of derivations, and a last list
 pub last_derivations : LastDerivationsExist
 last_derivations = record {
   first = λ a s. first_there a s;

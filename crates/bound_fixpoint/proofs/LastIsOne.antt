@@ -31,7 +31,7 @@ module _ {A : Type 0} (Begins : A → Type 0) (Follows : A → A → Type 0) (be
   order (suc m) zero = inr (suc m, omega arith)
   order (suc m) (suc n) = either (order m n) (λ l. inl (l.0, omega (arith, l.1))) (λ l. inr (l.0, omega (arith, l.1)))
 
-  -- so the last is one
+  -- the last element is unique
   pub last_after_one : (m n : ℕ) (a b : A) → IsAfter m a → Follows a a → IsAfter n b → Follows b b → a ≡ b
   last_after_one m n a b h closed k done =
       either (order m n) (λ l. sym (after_last m a h closed l.0 n l.1 b k))

@@ -1,14 +1,14 @@
 -- telling cases apart, and counting
 pub mod Cases
 pub mod Counts
--- what lists contain
+-- members of lists
 pub mod ListMembers
--- keys among keys, and finds one after another
+-- keys in lists of keys, and lists of derivations
 pub mod Keys
 pub mod DerivationLists
 -- rules and places by their numbers
 pub mod RuleNumbers
--- the premises of lemmas, by the numbers of what they need
+-- the premises of lemmas, by the numbers of the lemmas cited
 pub mod FactLists
 pub mod CitedFacts
 pub mod NeededFacts
@@ -17,24 +17,24 @@ pub mod SameTimes
 pub mod SameSizes
 -- the lemma of each node is accepted, and states what the node composes
 pub mod NodeLemmas
--- justified finds give lemmas
+-- justified derivations give lemmas
 pub mod StartFacts
 pub mod StandingKeys
 pub mod DerivationFacts
 pub mod StandingLemmas
 pub mod StandingLaws
--- what is missing, and finds that are fresh
+-- missing bounds, and derivations of unknown keys
 pub mod MissingBounds
 pub mod FreshDerivations
 -- nodes that are accepted, and what they need
 pub mod EntryBounds
 pub mod AcceptedRanks
 pub mod KnownPremises
--- finds before the first round
+-- derivations before the first round
 pub mod DeadRules
 pub mod ZeroTimes
 pub mod FirstDerivationsStand
--- finds of rounds
+-- derivations of rounds
 pub mod TimesStand
 pub mod UniformComponents
 pub mod SizesStand
@@ -43,7 +43,7 @@ pub mod EmptyTimes
 -- rounds end
 pub mod MissingFalls
 pub mod RoundsEnd
--- where answers are one, so are rounds and the last finds
+-- if answers are unique, so are rounds and the last derivations
 pub mod OneOrder
 pub mod LastIsOne
 pub mod FirstIsOne
@@ -52,11 +52,11 @@ pub mod DerivationsAreOne
 -- sets and shut places exist
 pub mod PathTests
 pub mod SetsExist
--- missing bounds have reasons, and there are last finds
+-- missing bounds have reasons, and there are last derivations
 pub mod DeadPlaces
 pub mod ReasonsExist
 pub mod LastExists
--- what was worked out by hand
+-- worked values
 pub mod WorkedDerivations
 pub mod WorkedSets
 pub mod WorkedShut

@@ -1,9 +1,9 @@
--- What lists contain, and what holds of all that they contain.
+-- Members of lists, and properties of all members.
 use Rattle.std.proofs.Common.{◌≡◌, ◌⊎◌, inl, inr, zero, suc, List, [], ◌∷◌, ◌++◌, map, refl, subst, arith, All}
 use Rattle.std.specs.List.{Contains}
 use Rattle.bound_fixpoint.proofs.Cases.{either}
 
--- what a list contains is its first element or in the rest
+-- a member of a list is its first element or a member of the rest
 pub contains-cases : {A : Type 0} (x y : A) (ys : List A) → Contains (y ∷ ys) x → (y ≡ x) ⊎ Contains ys x
 contains-cases x y ys (zero, low, e) = inl e
 contains-cases x y ys (suc k, low, e) = inr (k, omega (arith, low), e)
@@ -32,14 +32,14 @@ pub contains-right : {A : Type 0} (x : A) (xs ys : List A) → Contains ys x →
 contains-right x [] ys h = h
 contains-right x (y ∷ xs) ys h = contains-later x y (xs ++ ys) (contains-right x xs ys h)
 
--- what joined lists contain is in the first or in the second
+-- a member of an appended list is one of the first or of the second list
 pub contains-either : {A : Type 0} (x : A) (xs ys : List A) → Contains (xs ++ ys) x → Contains xs x ⊎ Contains ys x
 contains-either x [] ys h = inr h
 contains-either x (y ∷ xs) ys h =
     either (contains-cases x y (xs ++ ys) h) (λ e. inl (zero, omega arith, e))
     (λ m. either (contains-either x xs ys m) (λ l. inl (contains-later x y xs l)) (λ r. inr r))
 
--- a list of values contains the value of what the list contains
+-- the value of a member is a member of the mapped list
 pub contains-map : {A B : Type 0} (f : A → B) (x : A) (xs : List A) → Contains xs x → Contains (map f xs) (f x)
 contains-map f x [] h = absurd (contains-none x h)
 contains-map f x (y ∷ xs) h =
@@ -47,7 +47,7 @@ contains-map f x (y ∷ xs) h =
     (λ e. subst (λ z. Contains (f y ∷ map f xs) (f z)) e (contains-first (f y) (map f xs)))
     (λ m. contains-later (f x) (f y) (map f xs) (contains-map f x xs m))
 
--- and nothing else
+-- a member of the mapped list is the value of a member
 pub map-contains : {A B : Type 0} (f : A → B) (y : B) (xs : List A) → Contains (map f xs) y
     → (x : A) × Contains xs x × (f x ≡ y)
 map-contains f y [] h = absurd (contains-none y h)
@@ -55,6 +55,6 @@ map-contains f y (x ∷ xs) h =
     either (contains-cases y (f x) (map f xs) h) (λ e. (x, contains-first x xs, e))
     (λ m. let rest = map-contains f y xs m in (rest.0, contains-later rest.0 x xs rest.1, rest.2))
 
--- what holds of all elements holds of one that is contained
+-- a property of all elements is one of each member
 pub contained-all : {A : Type 0} (P : A → Type 0) (xs : List A) (x : A) → All P xs → Contains xs x → P x
 contained-all P xs x h (k, low, e) = subst P e (h k x low)

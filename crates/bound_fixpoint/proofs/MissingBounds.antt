@@ -1,4 +1,4 @@
--- What is missing with finds, and what is missing still with more of them.
+-- Bounds that are missing after derivations, and those still missing after more of them.
 use Rattle.std.proofs.Common.{◌≡◌, ℕ, zero, suc, true, List, [], ◌∷◌, ◌++◌, None, refl, ◌∙◌, All}
 use Rattle.std.proofs.lemmas.List.Elements.{All-nil, All-cons}
 use Rattle.rule_questions.specs.model.Programs.{Program}
@@ -10,7 +10,7 @@ use Rattle.bound_fixpoint.proofs.Cases.{none_some}
 use Rattle.bound_fixpoint.proofs.Keys.{has_key-first, has_key-later}
 use Rattle.bound_fixpoint.proofs.DerivationLists.{bounds_of-new, bounds_of-missing}
 
--- what holds of each key among these holds of all
+-- a property of each key found among these is one of all
 pub all-has_key : (P : ResultVariable → Type 0) (keys : List ResultVariable) → ((t i : ℕ) → has_key keys t i ≡ true → P (key t i))
     → All P keys
 all-has_key P [] each = All-nil P
@@ -18,12 +18,12 @@ all-has_key P (k ∷ keys) each =
     All-cons P k keys (each k.rule k.place (has_key-first k keys))
     (all-has_key P keys (λ t i m. each t i (has_key-later k keys t i m)))
 
--- what is missing, and isn't found, is missing still
+-- a missing bound that isn't derived is still missing
 pub missing_still : (p : Program) (fs gs : List Derivation) (t i : ℕ) → bounds_of p fs t i ≡ None → bound_found gs t i ≡ None
     → bounds_of p (fs ++ gs) t i ≡ None
 missing_still p fs gs t i e f = bounds_of-new p fs gs t i e ∙ f
 
--- what is missing with more finds was missing before
+-- a bound missing after more derivations was missing before
 pub missing_before : (p : Program) (fs gs : List Derivation) (t i : ℕ) → bounds_of p (fs ++ gs) t i ≡ None
     → bounds_of p fs t i ≡ None
 missing_before p fs gs t i e = (bounds_of-missing p fs gs t i e).0

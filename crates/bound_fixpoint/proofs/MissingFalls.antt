@@ -43,7 +43,7 @@ count_least (n ∷ ns) f g known =
     let rest = count_least ns f g known in
     omega (arith, now, then, here, rest)
 
--- and fewer, where one of them was missing and is known
+-- fewer bounds are missing, if one of them was missing and is known now
 count_less : (ns : List ℕ) (f g : ℕ → Option Bound) → KnowsAll f g → (n : ℕ) (b : Bound) → is_in n ns ≡ true
     → f n ≡ None → g n ≡ Some b → count_by (λ m. lacks (g m)) ns < count_by (λ m. lacks (f m)) ns
 count_less [] f g known n b m e k = absurd (false_true m)
@@ -80,7 +80,7 @@ module _ (p : Program) (b c : Bounds) (known : (t : ℕ) → KnowsAll (b t) (c t
       let rest = sizes_least ts in
       omega (arith, here, rest)
 
-  -- and fewer, where one of them was missing and is known
+  -- fewer sizes are missing, if one of them was missing and is known now
   sizes_less : (ts : List ℕ) (t i : ℕ) (x : Bound) → is_in t ts ≡ true
       → is_in i (places_at p (target_of p t)) ≡ true → b t i ≡ None → c t i ≡ Some x
       → all_unsized p c ts < all_unsized p b ts

@@ -1,4 +1,5 @@
--- What a lemma rests on by the numbers of what it needs: it is accepted, and at each needed key it says what is known.
+-- The cited facts of a lemma by the numbers of its premises: they are accepted, and state the known bound at each
+-- premise.
 use Rattle.std.proofs.Common.{◌≡◌, ◌≢◌, inl, inr, ℕ, zero, suc, true, List, map, Some, sym, ◌∙◌, subst}
 use Rattle.std.proofs.Common.{All}
 use Rattle.std.specs.List.{Contains}
@@ -50,7 +51,7 @@ module _ (s : Setting) (past : List (List Fact)) (number : ℕ → ℕ → ℕ) 
       uses-all s past (IsFactOf all) (map number_of premises) say.start
       (λ n. lemma-all (IsFactOf all) past say.are n)
 
-  -- and each needed bound
+  -- each premise is stated
   pub need_stated : (t i : ℕ) → has_key premises t i ≡ true
       → (c : Bound) × (b t i ≡ Some c) × Contains (joined_facts s past (uses_for number premises)) (place_fact t i c)
   need_stated t i m = (here.0, here.1, there)
@@ -77,14 +78,14 @@ module _ (s : Setting) (past : List (List Fact)) (number : ℕ → ℕ → ℕ) 
           (contains-map number_of (key t i) premises (has_key-contained premises t i m)))
           (λ z. from_start z (say.stated t i here.0 here.1)) (λ other. from_lemma other (say.stated t i here.0 here.1))
 
-  -- so each needed time is looked up as it is known
+  -- each time that is a premise is looked up as it is known
   pub needed_time : (t : ℕ) → has_key premises t 0 ≡ true → time_in (joined_facts s past (uses_for number premises)) t ≡ b t 0
   needed_time t m =
       let h = need_stated t 0 m in
       same_time all (joined_facts s past (uses_for number premises)) joined_of t h.0 h.2
       ∙ (say.keeps t 0 h.0 h.1 ∙ sym h.1)
 
-  -- and so is a needed size
+  -- each size that is a premise is looked up as it is known
   pub needed_size : (t i : ℕ) → has_key premises t i ≡ true
       → size_in (joined_facts s past (uses_for number premises)) t i ≡ size_by b t i
   needed_size t zero m = no_size all (joined_facts s past (uses_for number premises)) joined_of t

@@ -38,7 +38,7 @@ use Rattle.bound_fixpoint.proofs.NeededFacts.{premises_accepted, need_stated, ne
 use Rattle.bound_fixpoint.proofs.SameTimes.{rank_time-same, rank_accepted, time_needed, size_needed}
 use Rattle.bound_fixpoint.proofs.SameSizes.{spread_size-same, spread_accepted, cycle_size-same, cycle_accepted}
 
--- what a lemma states of these keys with one bound
+-- the facts of these keys with one bound
 abbrev pub facts_with : Bound → List ResultVariable → List Fact
 facts_with c keys = map (λ k. fact_at k c) keys
 
@@ -77,7 +77,7 @@ cycle_facts_at s c (m ∷ ms) h =
 
 module _ (s : Setting) (past : List (List Fact)) (number : ℕ → ℕ → ℕ) (b all : Bounds)
     (say : SayBounds s past number b all) where
-  -- what is stated by citing what is needed
+  -- the facts that citing the premises states
   abbrev joined : List ResultVariable → List Fact
   joined premises = joined_facts s past (uses_for number premises)
 
@@ -96,13 +96,13 @@ module _ (s : Setting) (past : List (List Fact)) (number : ℕ → ℕ → ℕ) 
           some_bound : (c : Bound) → Some c ≡ Some (Constant 0) → c ≡ Constant 0
           some_bound c e = cc
 
-      -- so a rule that may run, as far as is stated, is none of those whose times are needed
+      -- a rule that may run by the stated facts is none of those whose times are premises
       left_of_all : (t : ℕ) → IsRule s.program t → may_run (joined premises) t ≡ true → is_left premises t ≡ true
       left_of_all t rule may =
           by_cases (has_key premises t 0)
           (λ m. absurd (no_is_not_yes (may_run (joined premises) t) (ap not (zero_stated t m)) may)) (λ n. ap not n)
 
-      -- and a rule that is unreached by the others is so by those that may run
+      -- a rule that is unreached by the other rules is so by those that may run
       unreached_accepted : (t : ℕ) → AcceptsUnreached s.program (is_left premises) t
           → AcceptsUnreached s.program (may_run (joined premises)) t
       unreached_accepted t ok = record {
@@ -122,7 +122,7 @@ module _ (s : Setting) (past : List (List Fact)) (number : ℕ → ℕ → ℕ) 
     stated_alone : facts_of_lemma past (number t 0) ≡ Time t (Constant 0) ∷ []
     stated_alone = say.alone t (Constant 0) never.rule never.zero
 
-    -- which is the required fact
+    -- this fact is the required one
     one_zero : (u : ℕ) → IsRule s.program u → AcceptsNever (Time u (Constant 0) ∷ [])
     one_zero zero rule = absurd (none_some rule.rule rule.numbered)
     one_zero (suc u) rule = record { shape = tt; zero = refl }
@@ -137,7 +137,7 @@ module _ (s : Setting) (past : List (List Fact)) (number : ℕ → ℕ → ℕ) 
           subst (λ (fs : List Fact). AcceptsNever fs) (sym stated_alone) (one_zero t never.rule),
         )
 
-    -- and states size 0 at each place after the rule
+    -- the lemma states size 0 at each place after the rule
     pub never_states : facts_of s past (Never (Cite (number t 0)))
         ≡ facts_with (Constant 0) (keys_after s.program t)
     never_states =
@@ -160,7 +160,7 @@ module _ (s : Setting) (past : List (List Fact)) (number : ℕ → ℕ → ℕ) 
     times_same e m =
         needed_time s past number b all say (rank_premises s.program node) known e (time_needed s.program node e m)
 
-    -- and so are their sizes where the function reads
+    -- the sizes that the function reads are looked up as they are known
     sizes_same : (e j : ℕ) → is_in e (entries s.program node.set) ≡ true
         → at (rank_form node.forms (target_of s.program e)).coefs j ≢ pos 0
         → (table_of (joined (rank_premises s.program node))).size e (suc j) ≡ (over b).size e (suc j)
@@ -175,7 +175,7 @@ module _ (s : Setting) (past : List (List Fact)) (number : ℕ → ℕ → ℕ) 
       rank_accepted s (over b) (table_of (joined (rank_premises s.program node))) node times_same sizes_same ok,
     )
 
-    -- and states the time that the function composes over what is known
+    -- the lemma states the time that the function composes of the known bounds
     pub rank_states : facts_of s past (Rank node (uses_for number (rank_premises s.program node)))
         ≡ facts_with (s.rewrite (rank_time s node (over b))) (time_key node.rule ∷ [])
     rank_states =
@@ -185,7 +185,7 @@ module _ (s : Setting) (past : List (List Fact)) (number : ℕ → ℕ → ℕ) 
   -- a place that doesn't loop
   module _ (m : Member) (known : All (λ k. IsKnown (at_key b k)) (spread_premises s m))
       (ok : AcceptsSpread s (over b) m) where
-    -- the sizes that its arms read are stated as they are known
+    -- the sizes that the side bounds read are looked up as they are known
     spread_same : (t i : ℕ) → has_key (spread_premises s m) t i ≡ true
         → (table_of (joined (spread_premises s m))).size t i ≡ (over b).size t i
     spread_same = needed_size s past number b all say (spread_premises s m) known
@@ -197,7 +197,7 @@ module _ (s : Setting) (past : List (List Fact)) (number : ℕ → ℕ → ℕ) 
       spread_accepted s (over b) (table_of (joined (spread_premises s m))) m ok spread_same,
     )
 
-    -- and states the size that it composes over what is known
+    -- the lemma states the size that the node composes of the known bounds
     pub spread_states : facts_of s past (Spread m (uses_for number (spread_premises s m)))
         ≡ facts_with (s.rewrite (spread_size s (over b) m)) (m.result_variable ∷ [])
     spread_states =
@@ -223,7 +223,7 @@ module _ (s : Setting) (past : List (List Fact)) (number : ℕ → ℕ → ℕ) 
         needed_size s past number b all say (cycle_premises s (over b) members) known t i
         (has_key-left loop_sizes (map time_key loop_times) t i m)
 
-    -- and so are the times
+    -- the times that are premises are looked up as they are known
     loop_times_same : (t : ℕ) → is_in t loop_times ≡ true
         → (table_of (joined (cycle_premises s (over b) members))).time t ≡ (over b).time t
     loop_times_same t m =
@@ -238,7 +238,7 @@ module _ (s : Setting) (past : List (List Fact)) (number : ℕ → ℕ → ℕ) 
           loop_times_same,
     )
 
-    -- and states the size that it composes over what is known, for each member
+    -- the lemma states the size that the node composes of the known bounds, for each member
     pub cycle_states : facts_of s past (Cycle members (uses_for number (cycle_premises s (over b) members)))
         ≡ facts_with (s.rewrite (cycle_size s (over b) members)) (map (λ m. m.result_variable) members)
     cycle_states =
@@ -263,7 +263,7 @@ module _ (s : Setting) (past : List (List Fact)) (number : ℕ → ℕ → ℕ) 
       subst (λ (ks : List ResultVariable). Accepts s past (Cycle members (uses_for number ks))) (sym are)
       (cycle_lemma members (subst (λ (ks : List ResultVariable). All (λ k. IsKnown (at_key b k)) ks) are known) ok)
 
-  -- and states the bound that the node composes for each of its keys
+  -- the lemma states the bound that the node composes, for each of its keys
   pub node_states : (node : Node) (premises : List ResultVariable) → AcceptsOver s b node premises → ArePremises s b node premises
       → All (λ k. IsKnown (at_key b k)) premises
       → facts_of s past (lemma_by number node premises) ≡ facts_with (composed_bound s b node) (keys_of s.program node)

@@ -38,7 +38,7 @@ module _ {A : Type 0} (R : A → A → Type 0) (irreflexive : (x : A) → ¬ (R 
       either (contains-cases z y xs c) (λ e. subst (λ (w : A). R x w) e h.0)
       (λ m. transitive x y z h.0 (first_before y xs h.1 z m))
 
-  -- what the longer list of two contains beside its first, where the first is the same
+  -- a member of the rest of one list is one of the rest of the other, if their first elements are equal
   in_tail : (x y : A) (xs ys : List A) → x ≡ y → IsChain R (x ∷ xs) →
       ((z : A) → Contains (x ∷ xs) z → Contains (y ∷ ys) z)
       → (z : A) → Contains xs z → Contains ys z
@@ -91,7 +91,7 @@ before_in_turn s q r (inl h) (inr k) = let e = k.0 in inl (omega (arith, h, e))
 before_in_turn s q r (inr h) (inl k) = let e = h.0 in inl (omega (arith, k, e))
 before_in_turn s q r (inr h) (inr k) = let a = h.1 in let b = k.1 in inr (h.0 ∙ k.0, omega (arith, a, b))
 
--- and so are the shut places of a set
+-- the list of shut places of a set is unique
 pub shut_one : (p : Program) (bs : Bounds) (set : List ℕ) (xs ys : List SymbolPlace) → AreShutOf p bs set xs
     → AreShutOf p bs set ys → xs ≡ ys
 shut_one p bs set xs ys a b =

@@ -158,7 +158,7 @@ module _ (p : Program) (f : ℕ → Bool) (a : ℕ) where
       either (more_or_same (rule_numbers p) (leaves (reaches k)) (leaves (reaches (suc k))) (leaves_more k)).cases
       (λ more. settles fuel (suc k) (omega (arith, h, more))) (λ same. (k, same.1))
 
-  -- so there is a test for the symbols that a path leads to
+  -- there is a test for the symbols that a path leads to
   pub paths_decided : (test : ℕ → Bool) × ((b : ℕ) → (test b ≡ true) ↔ HasPath p f a b)
   paths_decided =
       let m = settles (length (rule_numbers p)) 0 (omega arith) in

@@ -1,4 +1,4 @@
--- Where a round finds nothing new, each missing bound has a reason.
+-- Where a round derives nothing, each missing bound has a reason.
 use Rattle.std.proofs.Common.{◌≡◌, ◌⊎◌, inl, inr, ℕ, zero, suc, ◌==◌, ◌&&◌, ◌||◌, Bool, true, false, List, [], ◌∷◌}
 use Rattle.std.proofs.Common.{◌++◌, map}
 use Rattle.std.proofs.Common.{None, refl, sym, ◌∙◌, ap, subst, arith}
@@ -45,7 +45,7 @@ append-nothing (f ∷ fs) gs e = absurd (nothing e)
     nothing : {x : Derivation} {xs : List Derivation} → [] ≡ x ∷ xs → ⊥
     nothing n = cc
 
--- this is queried, among others
+-- this target is among those queried
 abbrev IsAskedIn : List Target → Target → Type 0
 IsAskedIn [] g = ⊥
 IsAskedIn (x ∷ gs) g = (x ≡ g) ⊎ IsAskedIn gs g
@@ -56,7 +56,7 @@ time_asked [] t m = absurd (no_is_not_yes false refl m)
 time_asked (u ∷ ts) t m =
     either (is_in-cases t u ts m) (λ e. inl (ap (λ (n : ℕ). TimeOf n) (sym e))) (λ l. inr (time_asked ts t l))
 
--- and so is the size of the members of a component
+-- the size of each component's members is queried
 size_asked : (cs : List (List ResultVariable)) (keys : List ResultVariable) → IsOneOf cs keys
     → IsAskedIn (map SizesOf cs) (SizesOf keys)
 size_asked [] keys h = absurd h
@@ -77,7 +77,7 @@ module _ (q : Searches) (s : Setting) (fs : List Derivation) where
   stays Together first e = refl
   stays InTurn first e = ap (λ (gs : List Derivation). fs ++ gs) e ∙ append-none fs
 
-  -- where nothing is found of several things, nothing is found of each over the same finds
+  -- if nothing is derived for a list of targets, nothing is derived for each of them
   nothing_of : (manner : Manner) (gs : List Target) → TriesAll q s manner fs gs [] → (g : Target) → IsAskedIn gs g
       → Tries q s fs g []
   nothing_of manner [] h g m = absurd m
@@ -90,7 +90,7 @@ module _ (q : Searches) (s : Setting) (fs : List Derivation) where
       (subst (λ (zs : List Derivation). TriesAll q s manner zs gs []) (stays manner h.0 none.0)
       (subst (λ (zs : List Derivation). TriesAll q s manner (known_next manner fs h.0) gs zs) none.1 h.2.2)) g m
 
-  -- an answer that finds nothing says why
+  -- an answer without a derivation gives a reason
   says_why : (g : Target) (t i : ℕ) → bounds_of s.program fs t i ≡ None → IsAskedFor q s t i g
       → (a : Answer) → Tells q s (bounds_of s.program fs) g a → [] ≡ derivations_by g a
       → (why : NoBound) × IsNoBound q s fs t i why
@@ -101,7 +101,7 @@ module _ (q : Searches) (s : Setting) (fs : List Derivation) where
   says_why g t i missing asked (Lacks why) tells e =
       (why, record { missing = missing; target = g; asked = asked; tells = tells })
 
-  -- so each key that is missing of it has a reason
+  -- each missing key of a queried target has a reason
   why_of : (g : Target) → Tries q s fs g [] → (t i : ℕ) → IsAskedFor q s t i g → has_key (keys_asked g) t i ≡ true
       → bounds_of s.program fs t i ≡ None → (why : NoBound) × IsNoBound q s fs t i why
   why_of g h t i asked has missing =
@@ -112,7 +112,7 @@ module _ (q : Searches) (s : Setting) (fs : List Derivation) where
     none_found : (closed.times ≡ []) × (closed.sizes ≡ [])
     none_found = append-nothing closed.times closed.sizes closed.all
 
-    -- where a round finds nothing new, a missing time of a rule has a reason
+    -- where a round derives nothing, a missing time of a rule has a reason
     pub time_why : (t : ℕ) → IsRule s.program t → bounds_of s.program fs t 0 ≡ None
         → (why : NoBound) × IsNoBound q s fs t 0 why
     time_why t rule missing =
@@ -125,7 +125,7 @@ module _ (q : Searches) (s : Setting) (fs : List Derivation) where
         here : has_key (keys_asked (TimeOf t)) t 0 ≡ true
         here = or_left ((t == t) && (0 == 0)) false (rw (same_number t) refl)
 
-    -- and so has a missing size of a place in a component
+    -- where a round derives nothing, a missing size of a place in a component has a reason
     pub size_why : (t i : ℕ) → IsCovered closed.components t i → bounds_of s.program fs t i ≡ None
         → (why : NoBound) × IsNoBound q s fs t i why
     size_why t zero covered missing =
@@ -142,8 +142,8 @@ module _ (q : Searches) (s : Setting) (fs : List Derivation) where
             (subst (λ (zs : List Derivation). TriesAll q s InTurn zs (map SizesOf closed.components) closed.sizes)
             (stays InTurn closed.times none_found.0) closed.sized)
 
--- where a round finds nothing new, each missing time of a rule and each missing size in a component has a reason; and
--- with the last finds each missing size of a place after a rule has one
+-- where a round derives nothing, each missing time of a rule and each missing size in a component has a reason; and
+-- with the last derivations each missing size of a place after a rule has one
 pub reasons_stand : MissingBoundsHaveReasons
 reasons_stand = record {
   times = λ a s fs closed t rule missing. time_why (searches_of a) s fs closed t rule missing;

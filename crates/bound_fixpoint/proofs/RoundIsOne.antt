@@ -1,4 +1,4 @@
--- Where answers are one, a round over some finds finds one list.
+-- If answers are unique, so is the list of derivations of a round.
 use Rattle.std.proofs.Common.{◌≡◌, ℕ, true, List, [], ◌∷◌, ◌++◌, map, sym, ◌∙◌, ap, subst}
 use Rattle.rule_questions.specs.model.Bounds.{Bound}
 use Rattle.rule_questions.specs.cert_rules.Nodes.{ResultVariable}
@@ -34,7 +34,7 @@ ranking_one s bs (Ranked node) x y h k = composes_one s bs (RankBy node) (rank_t
 ranking_one s bs (Unranked g) x y h k = h ∙ sym k
 ranking_one s bs (RankTripped t) x y h k = h ∙ sym k
 
--- and so does an answer about a component
+-- the answer to an outcome for a component is unique
 sizing_one : (s : Setting) (bs : Bounds) (answer : SizeOutcome) (x y : Answer) → TellsSizing s bs answer x
     → TellsSizing s bs answer y → x ≡ y
 sizing_one s bs (SizedBy node) x y h k = h ∙ sym k
@@ -52,7 +52,7 @@ module _ (q : Searches) (one : AreOne q) (s : Setting) where
       let answer = one.ranks b.asked.set t b.asked.shut a.asked.answer b.asked.answer answered b.asked.answered in
       ranking_one s bs b.asked.answer x y (subst (λ (r : Ranking). TellsRanking s bs r x) answer a.tells) b.tells
 
-  -- and so is there one result on a size
+  -- the answer to the query for a size is unique
   size_one : (bs : Bounds) (keys : List ResultVariable) (x y : Answer) → TellsSize q s bs keys x → TellsSize q s bs keys y
       → x ≡ y
   size_one bs keys x y a b =
@@ -64,7 +64,7 @@ module _ (q : Searches) (one : AreOne q) (s : Setting) where
   tells_one bs (TimeOf t) x y a b = time_one bs t x y a b
   tells_one bs (SizesOf keys) x y a b = size_one bs keys x y a b
 
-  -- what is found of it is one
+  -- the derivations for a target are unique
   tries_one : (fs : List Derivation) (g : Target) (x y : List Derivation) → Tries q s fs g x → Tries q s fs g y → x ≡ y
   tries_one fs g x y h k =
       by_cases (is_open (bounds_of s.program fs) g) missing (λ e. h.known e ∙ sym (k.known e))
@@ -75,7 +75,7 @@ module _ (q : Searches) (one : AreOne q) (s : Setting) where
           let b = k.tried e in
           a.2 ∙ (ap (derivations_by g) (tells_one (bounds_of s.program fs) g a.0 b.0 a.1 b.1) ∙ sym b.2)
 
-  -- and so is what is found of several things
+  -- the derivations for a list of targets are unique
   tries_all_one : (manner : Manner) (fs : List Derivation) (gs : List Target) (x y : List Derivation)
       → TriesAll q s manner fs gs x → TriesAll q s manner fs gs y → x ≡ y
   tries_all_one manner fs [] x y h k = h ∙ sym k
@@ -86,7 +86,7 @@ module _ (q : Searches) (one : AreOne q) (s : Setting) where
       h.2.1 ∙ (ap (λ (zs : List Derivation). zs ++ h.2.0) first
       ∙ (ap (λ (zs : List Derivation). k.0 ++ zs) rest ∙ sym k.2.1))
 
-  -- so a round finds one list
+  -- the list of derivations of a round is unique
   pub round_one : (fs x y : List Derivation) → IsRound q s fs x → IsRound q s fs y → x ≡ y
   round_one fs x y h k = h.all ∙ (ap (λ (zs : List Derivation). zs ++ h.sizes) times
       ∙ (ap (λ (zs : List Derivation). k.times ++ zs) sizes ∙ sym k.all))

@@ -1,4 +1,4 @@
--- Each find of a round has a key whose bound was missing before the round: so rounds end.
+-- Each derivation of a round has a key whose bound was missing before the round: so rounds end.
 use Rattle.std.proofs.Common.{◌≡◌, ◌⊎◌, inl, inr, ℕ, ◌<◌, ◌==◌, true, List, [], ◌∷◌, ◌++◌, map, None, refl, sym}
 use Rattle.std.proofs.Common.{◌∙◌, subst, All}
 use Rattle.std.proofs.lemmas.Bool.{or_left, or_right}
@@ -24,7 +24,7 @@ use Rattle.bound_fixpoint.proofs.RuleNumbers.{in_rules}
 use Rattle.bound_fixpoint.proofs.TimesStand.{by_answer, open_time}
 use Rattle.bound_fixpoint.proofs.UniformComponents.{open_one, member_covered}
 
--- a find has a key of a rule whose bound is missing with earlier finds
+-- a derivation has a key of a rule whose bound is missing after the earlier ones
 pub record FindsMissing (p : Program) (fs : List Derivation) (f : Derivation) : Type 0 where
   pub number : ℕ
   pub place : ℕ
@@ -43,7 +43,7 @@ derivations_before p fs gs f h = record {
 }
 
 module _ (q : Searches) (s : Setting) where
-  -- the same for each find of a rule in a round
+  -- each derivation of a rule's time in a round has such a key
   times_missing : (fs : List Derivation) (ts : List ℕ) → ((t : ℕ) → is_in t ts ≡ true → IsRule s.program t)
       → (times : List Derivation) → TriesAll q s Together fs (map TimeOf ts) times → All (FindsMissing s.program fs) times
   times_missing fs [] rules times none =
@@ -69,7 +69,7 @@ module _ (q : Searches) (s : Setting) where
           })
           (All-nil (FindsMissing s.program fs))
 
-  -- and with each find of a component
+  -- each derivation of a component's size has such a key
   sizes_missing : (cs : List (List ResultVariable)) → AreComponentsOf q s.program cs → (fs : List Derivation) (ds : List (List ResultVariable))
       → ((d : List ResultVariable) → IsOneOf ds d → IsOneOf cs d) → (sizes : List Derivation)
       → TriesAll q s InTurn fs (map SizesOf ds) sizes → All (FindsMissing s.program fs) sizes
@@ -100,7 +100,7 @@ module _ (q : Searches) (s : Setting) where
           })
           (All-nil (FindsMissing s.program fs))
 
-  -- the same for all that a round finds
+  -- each derivation of a round has such a key
   pub round_missing : (fs more : List Derivation) → IsRound q s fs more → All (FindsMissing s.program fs) more
   round_missing fs more n =
       subst (λ (xs : List Derivation). All (FindsMissing s.program fs) xs) (sym n.all)
@@ -110,7 +110,7 @@ module _ (q : Searches) (s : Setting) where
       (derivations_before s.program fs n.times) n.sizes
       (sizes_missing n.components n.live (fs ++ n.times) n.components (λ d k. k) n.sizes n.sized)))
 
-  -- a round with a find leaves fewer bounds missing
+  -- after a round with a derivation fewer bounds are missing
   pub round_ends : (fs more : List Derivation) → IsRound q s fs more
       → (missing s.program (bounds_of s.program (fs ++ more)) < missing s.program (bounds_of s.program fs))
       ⊎ (more ≡ [])
@@ -122,6 +122,6 @@ module _ (q : Searches) (s : Setting) where
       (bounds_of-new s.program fs (f ∷ rest) h.number h.place h.missing
       ∙ found-here f rest h.number h.place h.has))
 
--- rounds end: each finds a bound that was missing, or finds nothing
+-- rounds end: each derives a bound that was missing, or nothing
 pub ends : RoundsEnd
 ends = record { each = λ a s fs more n. round_ends (searches_of a) s fs more n }

@@ -34,7 +34,7 @@ place_in p t i place =
     subst (λ (o : Option ℕ). is_in i (places_at p o) ≡ true) (sym place.target)
     (in_range (arity_of p place.symbol) i place.least place.last)
 
--- and what is one of those is a place
+-- a number in the list of places is a place
 pub in_places : (p : Program) (t i : ℕ) → is_in i (places_at p (target_of p t)) ≡ true → IsPlace p t i
 in_places p t i m = go (target_of p t) refl
   where

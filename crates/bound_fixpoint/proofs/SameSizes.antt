@@ -48,7 +48,7 @@ monomials-same (m ∷ ms) f g h =
     ∙ ap (λ (bs : Parts). Part (monomial_bound g m) bs)
     (monomials-same ms f g (λ j k. h j (or_right (is_in j m.vars) (list_any (λ n. is_in j n.vars) ms) k)))
 
--- and so where there is none
+-- polynomials have the same bound over sizes that agree on their variables, also where there is no polynomial
 polynomial-same : (o : Option Polynomial) (f g : ℕ → Bound) → ((j : ℕ) → has_variable o j ≡ true → f j ≡ g j)
     → polynomial_bound o f ≡ polynomial_bound o g
 polynomial-same None f g h = refl
@@ -77,14 +77,14 @@ listed_table result_variables = record { time = λ t. None; size = λ t i. cond 
 listed_known : (result_variables : List ResultVariable) (t i : ℕ) → has_key result_variables t i ≡ true → IsKnown ((listed_table result_variables).size t i)
 listed_known result_variables t i m = (Constant 0, rw m refl)
 
--- and of no other
+-- the table of these result variables has no other size
 known_listed : (result_variables : List ResultVariable) (t i : ℕ) → IsKnown ((listed_table result_variables).size t i) → has_key result_variables t i ≡ true
 known_listed result_variables t i h = by_cases (has_key result_variables t i) (λ e. e) (λ e. absurd (nothing h.0 (rw e at h.1)))
   where
     nothing : (b : Bound) → None ≡ Some b → ⊥
     nothing b e = cc
 
--- so it has the sizes of places that are all among these
+-- it has the sizes of result variables that are all among these
 each_listed : (all xs : List ResultVariable) → ((t i : ℕ) → has_key xs t i ≡ true → has_key all t i ≡ true)
     → AllByRecursion (HasSize (listed_table all)) xs
 each_listed all [] h = tt
@@ -103,8 +103,8 @@ still_known a b (x ∷ xs) h k = (
 )
 
 module _ (s : Setting) (members : List Member) (a b : ℕ → ℕ → Option Bound) where
-  -- two tables have the same sizes where an arm of a member reads outside after rule e, and the same for both arms
-  -- after each rule that can come before
+  -- two tables agree on the sizes that a side bound of a member reads outside after rule e; and on those that both
+  -- side bounds read after each rule that can come before
   abbrev pub AgreeOn : Member → SideBound → ℕ → Type 0
   AgreeOn m side_bound e = (j : ℕ) → reads (poly_at s m.result_variable) side_bound j ≡ true → is_member members e j ≡ false → a e (suc j)
       ≡ b e (suc j)
@@ -113,7 +113,7 @@ module _ (s : Setting) (members : List Member) (a b : ℕ → ℕ → Option Bou
   AgreeBefore m = (e : ℕ) → is_in e (pre s.program m.result_variable.rule) ≡ true
       → AgreeOn m m.local.up e × AgreeOn m m.local.low e
 
-  -- what these members need is all that their arms read
+  -- the premises of these members are all sizes that their side bounds read
   agree_each : (all : List ResultVariable) → ((t i : ℕ) → has_key all t i ≡ true → a t i ≡ b t i) → (ms : List Member)
       → AllByRecursion (HasSizesBefore s (listed_table all) members) ms → AllByRecursion AgreeBefore ms
   agree_each all k [] h = tt
@@ -125,7 +125,7 @@ module _ (s : Setting) (members : List Member) (a b : ℕ → ℕ → Option Bou
     agree_each all k ms h.1,
   )
 
-  -- tables that agree on all sizes that members need agree where the members' arms read
+  -- tables that agree on all sizes that are premises of members agree where the members' side bounds read
   pub agree_all : (ms : List Member) → AllByRecursion (HasMemberShape s) ms → AllByRecursion (AcceptsUp s) ms
       → AllByRecursion (AcceptsLow s) ms
       → ((t i : ℕ) → has_key (needed_into s members ms) t i ≡ true → a t i ≡ b t i)
@@ -135,7 +135,7 @@ module _ (s : Setting) (members : List Member) (a b : ℕ → ℕ → Option Bou
       (members-known s (listed_table (needed_into s members ms)) members ms shape up low
       (each_listed (needed_into s members ms) (needed_into s members ms) (λ t i m. m)))
 
-  -- so the flows are the same
+  -- the offsets of the flows agree
   offset-same : (m : Member) (side_bound : SideBound) (e : ℕ) → AgreeOn m side_bound e → IsStraightSideBound s members m e side_bound
       → offset_of (poly_at s m.result_variable) side_bound (is_member members e) (sizes_after a e)
       ≡ offset_of (poly_at s m.result_variable) side_bound (is_member members e) (sizes_after b e)
@@ -146,16 +146,16 @@ module _ (s : Setting) (members : List Member) (a b : ℕ → ℕ → Option Bou
       polynomial-same (poly_at s m.result_variable) (sizes_after a e) (sizes_after b e)
       (λ j r. ap known (h j r (straight j r)))
 
-  -- what flows into a member with an offset
+  -- the flow into a member with an offset
   abbrev flow_with : Member → SideBound → ℕ → Bound → Flow
   flow_with m side_bound e o = record { rule = m.result_variable.rule; slope = slope_of side_bound (is_member members e); offset = o }
 
-  -- and so is what flows by one arm from one rule
+  -- the flow by one side bound from one rule agrees
   flow-same : (m : Member) (side_bound : SideBound) (e : ℕ) → AgreeOn m side_bound e → IsStraightSideBound s members m e side_bound
       → flow s members a m side_bound e ≡ flow s members b m side_bound e
   flow-same m side_bound e h straight = ap (flow_with m side_bound e) (offset-same m side_bound e h straight)
 
-  -- and from these rules by both
+  -- the flows from these rules by both side bounds agree
   flows_from-same : (m : Member) (es : List ℕ)
       → ((e : ℕ) → is_in e es ≡ true → AgreeOn m m.local.up e × AgreeOn m m.local.low e)
       → ((e : ℕ) → is_in e es ≡ true → IsStraightSideBound s members m e m.local.up)
@@ -173,7 +173,7 @@ module _ (s : Setting) (members : List Member) (a b : ℕ → ℕ → Option Bou
       (flows_from-same m es (λ x k. h x (or_right (x == e) (is_in x es) k))
       (λ x k. up x (or_right (x == e) (is_in x es) k)) (λ x k. low x (or_right (x == e) (is_in x es) k))))
 
-  -- tables that agree where the arms read outside have the same flows into members
+  -- tables that agree where the side bounds read outside have the same flows into members
   pub flows_into-same : (ms : List Member) → AllByRecursion AgreeBefore ms
       → AllByRecursion (IsStraight s members) ms → flows_into s members a ms ≡ flows_into s members b ms
   flows_into-same [] h straight = refl
@@ -202,7 +202,7 @@ growth-same fs f g (t ∷ ts) last h =
         ∙ ap (λ (bs : Parts). Part (PowerOf (factor_of fs t) (known (g t))) bs) rest)
     go false e rest = rw e rest
 
--- and the same parts of what is added
+-- the parts of the additions agree
 addition-same : (s : Setting) (fs : List Flow) (f g : ℕ → Option Bound) (ts : List ℕ)
     → ((t : ℕ) → is_in t ts ≡ true → adds s fs t ≡ true → f t ≡ g t)
     → addition_parts s fs f ts ≡ addition_parts s fs g ts
@@ -225,7 +225,7 @@ addition-same s fs f g (t ∷ ts) h =
 abbrev pub needs_time : Setting → List Flow → ℕ → Bool
 needs_time s fs t = multiplies fs t || adds s fs t
 
--- and so the same size of a loop
+-- the size of a loop agrees
 loop-same : (s : Setting) (fs : List Flow) (f g : ℕ → Option Bound) (ts : List ℕ)
     → ((t : ℕ) → is_in t ts ≡ true → needs_time s fs t ≡ true → f t ≡ g t)
     → loop_bound s fs f ts ≡ loop_bound s fs g ts
@@ -260,7 +260,7 @@ module _ (s : Setting) (a b : Table) (m : Member) (ok : AcceptsSpread s a m)
           (side_bound-same (poly_at s m.result_variable) m.local.low (sizes_after b.size e) (sizes_after a.size e)
           (λ j r. ap known (both.1 j r refl)))
 
-  -- a spread that is accepted over a table is so over one that agrees on the sizes that it needs
+  -- a spread node that is accepted over a table is accepted over one that agrees on its premises
   pub spread_accepted : AcceptsSpread s b m
   spread_accepted = record {
     shape = ok.shape;
@@ -274,7 +274,7 @@ module _ (s : Setting) (a b : Table) (m : Member) (ok : AcceptsSpread s a m)
 module _ (s : Setting) (a b : Table) (members : List Member) (ok : AcceptsCycle s a members)
     (sizes : (t i : ℕ) → has_key (needed_into s members members) t i ≡ true → b.size t i ≡ a.size t i)
     (times : (t : ℕ) → is_in t (needed_times s a members) ≡ true → b.time t ≡ a.time t) where
-  -- what is right of the members, one by one
+  -- the members have the right shape
   shapes : AllByRecursion (HasMemberShape s) members
   shapes = recursion_from_All (HasMemberShape s) members ok.shape.each
 
@@ -301,7 +301,7 @@ module _ (s : Setting) (a b : Table) (members : List Member) (ok : AcceptsCycle 
       ap (λ (fs : List Flow). loop_bound s fs b.time (rules_of s members)) flows-same
       ∙ loop-same s (flows s members a.size) b.time a.time (rules_of s members) time-same
 
-  -- a loop that is accepted over a table is so over one that agrees on the sizes and times that it needs
+  -- a loop node that is accepted over a table is accepted over one that agrees on its premises
   pub cycle_accepted : AcceptsCycle s b members
   cycle_accepted = record {
     shape = ok.shape;

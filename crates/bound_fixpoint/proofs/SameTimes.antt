@@ -50,7 +50,7 @@ place_parts-same (c ∷ cs) den left_out f g h =
         (place_parts cs den (λ j. left_out (suc j)) (λ j. f (suc j)))) (here e k)
         ∙ ap (λ (bs : Parts). Part (ProductOf (both_parts (Constant (rounded_up (nat_abs c) den)) (g 0))) bs) rest)
 
--- and so do bounds that are the same at each number of a list
+-- the parts of bounds that agree at each number of a list agree
 pub parts_for-same : (es : List ℕ) (f g : ℕ → Bound) → ((e : ℕ) → is_in e es ≡ true → f e ≡ g e)
     → parts_for f es ≡ parts_for g es
 parts_for-same [] f g h = refl
@@ -83,7 +83,7 @@ module _ (s : Setting) (a b : Table) (node : RankNode)
           (place_parts-same (rank_form node.forms (target_of s.program e)).coefs node.den no_place
           (sizes_after b.size e) (sizes_after a.size e) (λ j reads inside. ap known (sizes e j m reads)))
 
-  -- and is accepted over it, where it is over the other
+  -- the node is accepted over one table if it is over the other
   pub rank_accepted : AcceptsRank s a node → AcceptsRank s b node
   rank_accepted ok = record {
     shape = ok.shape;
@@ -127,7 +127,7 @@ module _ (p : Program) (node : RankNode) where
       (has_key-first (key e k) (map (λ n. key e n) is)))
       (λ later. has_key-later (key e k) (map (λ n. key e n) is) e i (place_among e i is later))
 
-  -- what an entry needs is among all needs
+  -- the premises of an entry are among all premises
   entry_among : (es : List ℕ) (e t i : ℕ) → is_in e es ≡ true → has_key (entry_premises p node e) t i ≡ true
       → has_key (premises_of_all p node es) t i ≡ true
   entry_among [] e t i m h = absurd (no_is_not_yes false refl m)
@@ -143,7 +143,7 @@ module _ (p : Program) (node : RankNode) where
       entry_among (entries p node.set) e e 0 m
       (has_key-first (time_key e) (map (λ i. key e i) (read_places 1 (coefs_at e))))
 
-  -- and an entry's size at each place whose coefficient isn't 0 there
+  -- an entry's size at each place whose coefficient isn't 0 is a premise
   pub size_needed : (e j : ℕ) → is_in e (entries p node.set) ≡ true
       → at (rank_form node.forms (target_of p e)).coefs j ≢ pos 0 → has_key (rank_premises p node) e (suc j) ≡ true
   size_needed e j m reads =

@@ -173,7 +173,7 @@ module _ (p : Program) (bs : Bounds) where
         (subst (λ (n : ℕ). Contains (map (place n) (shut_at n)) (place a i)) e (place_among a i (shut_at a) h)))
         (λ l. contains-right (place a i) (map (place x) (shut_at x)) (shut_of_all symbols) (all_among symbols a i l h))
 
-    -- they are in order
+    -- the places of a symbol are in order
     places_chain : (a : ℕ) (is : List ℕ) → IsAscending is → IsChain StandsBefore (map (place a) is)
     places_chain a [] h = tt
     places_chain a (i ∷ []) h = tt

@@ -1,4 +1,4 @@
--- What a round finds for components is justified after the earlier finds.
+-- The derivations of a round for components are justified after the earlier ones.
 use Rattle.std.proofs.Common.{◌≡◌, inl, inr, ◌≤◌, true, List, [], ◌∷◌, ◌++◌, length, map, None, refl, sym, subst}
 use Rattle.std.proofs.Common.{arith, All}
 use Rattle.std.proofs.lemmas.List.Elements.{All-nil, All-cons, All-append}
@@ -26,7 +26,7 @@ use Rattle.bound_fixpoint.proofs.TimesStand.{by_answer, round_times_stand}
 use Rattle.bound_fixpoint.proofs.UniformComponents.{IsWhole, open_all, tried_whole, times_whole, uniform_bounds}
 use Rattle.bound_fixpoint.proofs.UniformComponents.{made_whole}
 
--- the find of an accepted node that gives sizes
+-- the derivation of an accepted node that gives sizes
 abbrev pub sizing_derivation : Setting → Bounds → List ResultVariable → Node → Derivation
 sizing_derivation s b keys node = record {
   keys = keys;
@@ -63,7 +63,7 @@ open_long b [] h = absurd (false_true h)
 open_long b (k ∷ keys) h = omega arith
 
 module _ (q : Searches) (s : Setting) (right : AreRight q s) where
-  -- the find of an answer about a component is justified over these bounds
+  -- the derivation that an answer about a component gives is justified over these bounds
   size_stands : (b : Bounds) (keys : List ResultVariable) → is_open b (SizesOf keys) ≡ true → (a : Answer)
       → TellsSize q s b keys a → All (Stands s b) (derivations_by (SizesOf keys) a)
   size_stands b keys open_now a h = go h.answer h.answered h.tells
@@ -78,7 +78,7 @@ module _ (q : Searches) (s : Setting) (right : AreRight q s) where
           subst (λ (y : Answer). All (Stands s b) (derivations_by (SizesOf keys) y)) (sym tells) (All-nil (Stands s b))
 
   module _ (cs : List (List ResultVariable)) (are : AreComponentsOf q s.program cs) where
-    -- all finds have all members of each component, or none
+    -- each derivation has all members of each component among its keys, or none
     abbrev pub AllWhole : List Derivation → Type 0
     AllWhole fs = (c : List ResultVariable) → IsOneOf cs c → All (IsWhole c) fs
 
@@ -93,7 +93,7 @@ module _ (q : Searches) (s : Setting) (right : AreRight q s) where
       tt,
     )
 
-    -- what is found for a component is justified
+    -- the derivation for a component is justified
     tried_stands : (fs : List Derivation) → AllWhole fs → (c : List ResultVariable) → IsOneOf cs c → (more : List Derivation)
         → Tries q s fs (SizesOf c) more → StandAfter s fs more
     tried_stands fs whole c one more tries =
@@ -105,7 +105,7 @@ module _ (q : Searches) (s : Setting) (right : AreRight q s) where
             stand_over s fs fs (derivations_by (SizesOf c) a) (begins_itself fs)
             (size_stands (bounds_of s.program fs) c open_now a tells) (tried_fresh fs whole c one open_now a)
 
-    -- the same for what is found for some components, one after the other
+    -- the derivations for some components, one after the other, are justified
     pub sizes_stand : (fs : List Derivation) → AllWhole fs → (ds : List (List ResultVariable))
         → ((d : List ResultVariable) → IsOneOf ds d → IsOneOf cs d) → (sizes : List Derivation)
         → TriesAll q s InTurn fs (map SizesOf ds) sizes → StandAfter s fs sizes
@@ -122,7 +122,7 @@ module _ (q : Searches) (s : Setting) (right : AreRight q s) where
             (tried_whole q s cs are c one fs d (all d (inl refl)) first tries)
 
 module _ (q : Searches) (s : Setting) (right : AreRight q s) (one : AreOne q) where
-  -- what a round finds is justified after the earlier finds
+  -- the derivations of a round are justified after the earlier ones
   round_stands : (fs : List Derivation) → IsMade q s fs → (more : List Derivation) → IsRound q s fs more → StandAfter s fs more
   round_stands fs made more n =
       subst (λ (xs : List Derivation). StandAfter s fs xs) (sym n.all)
@@ -135,7 +135,7 @@ module _ (q : Searches) (s : Setting) (right : AreRight q s) (one : AreOne q) wh
           (made_whole q s n.components n.live (λ ds h. one.components ds n.components h n.are_components) fs made c is)
           (times_whole q s n.components n.live c is fs (rule_numbers s.program) n.times n.timed)
 
-  -- so all that rounds find is justified
+  -- all derivations of rounds are justified
   made_stand : (fs : List Derivation) → IsMade q s fs → StandAfter s [] fs
   made_stand fs (Begun h) = first_stand q s fs h right
   made_stand fs (Made {fs = old} {more = more} m n) =
@@ -145,6 +145,6 @@ module _ (q : Searches) (s : Setting) (right : AreRight q s) (one : AreOne q) wh
   pub all_stand : (fs : List Derivation) → IsMade q s fs → AllStand s fs
   all_stand fs made = record { each = made_stand fs made }
 
--- what rounds find is justified, where the answers of the searches are right
+-- the derivations of rounds are justified, if the answers of the searches are right
 pub derivations_stand : MadeDerivationsStand
 derivations_stand = record { each = λ a s right fs made. all_stand (searches_of a) s right (answers_one a) fs made }

@@ -1,4 +1,4 @@
--- The keys of justified finds are those of rules, and a find with the time of a rule has no other key.
+-- The keys of justified derivations are those of rules, and a derivation with the time of a rule has no other key.
 use Rattle.std.proofs.Common.{◌≡◌, ℕ, true, List, [], ◌∷◌, map, sym, ap, subst, arith}
 use Rattle.rule_questions.specs.model.Programs.{Program}
 use Rattle.rule_questions.specs.model.Paths.{target_of}
@@ -71,7 +71,7 @@ node_key s b (NeverBy u) premises ok t i m =
       alone = λ z. absurd (omega (arith, least, place, z));
     }
 
--- the same for the keys of a justified find
+-- the keys of a justified derivation are keys of rules
 pub standing_key : (s : Setting) (b : Bounds) (f : Derivation) → Stands s b f → (t i : ℕ) → has_key f.keys t i ≡ true
     → IsKeyOf s.program f.keys t i
 standing_key s b f stands t i m =

@@ -1,4 +1,4 @@
--- The laws of nodes, and of justified finds.
+-- The laws of nodes, and of justified derivations.
 use Rattle.std.proofs.Common.{◌≡◌, ◌⊎◌, inl, inr, ℕ, zero, suc, true, List, [], ◌∷◌, ◌++◌, Some, None, sym, ◌∙◌}
 use Rattle.std.proofs.Common.{ap, subst}
 use Rattle.std.proofs.lemmas.List.{append_assoc}
@@ -33,17 +33,17 @@ use Rattle.bound_fixpoint.proofs.StandingLemmas.{found_stated, derivations_say, 
 pub nodes_accepted : NodesAreAccepted
 nodes_accepted = record { accepted = node_lemma; states = node_states }
 
--- the lemmas of justified finds are accepted
+-- the lemmas of justified derivations are accepted
 accepted : (s : Setting) (fs : List Derivation) → AllStand s fs → AcceptsLemmas s (lemmas_of fs)
 unfolding AcceptsLemmas
 accepted s fs h = (all_have_lemmas s fs h).accepted
 
--- and each states what its find does
+-- each lemma states the facts of its derivation
 states : (s : Setting) (fs : List Derivation) → AllStand s fs → facts_of_lemmas s (lemmas_of fs) ≡ facts_of_derivations fs
 unfolding facts_of_lemmas
 states s fs h = (all_have_lemmas s fs h).facts
 
--- so justified finds have lemmas
+-- justified derivations have lemmas
 pub have_lemmas : StandingDerivationsHaveLemmas
 have_lemmas = record { accepted = accepted; stated = states }
 
@@ -54,14 +54,14 @@ numbered s fs h t i b e =
     subst (λ (past : List (List Fact)). Contains (facts_of_lemma past (number_in fs t i)) (place_fact t i b))
     (sym (states s fs h)) (found_stated s fs (all_have_lemmas s fs h).sound t i b e)
 
--- what is known of a rule was found
+-- a known bound of a rule was derived
 of_rule : (s : Setting) (fs : List Derivation) (t i : ℕ) (b : Bound) → IsRule s.program t
     → bounds_of s.program fs t i ≡ Some b
     → bound_found fs t i ≡ Some b
 of_rule s fs zero i b rule e = absurd (none_some rule.rule rule.numbered)
 of_rule s fs (suc t) i b rule e = e
 
--- among the finds, only the one that is justified after earlier ones states the bounds of its keys
+-- only the derivation that is justified after earlier ones states the bounds of its keys
 alone_after : (s : Setting) (earlier fs : List Derivation) → StandAfter s earlier fs → (f : Derivation) → Contains fs f → (t i : ℕ)
     → has_key f.keys t i ≡ true → bounds_of s.program (earlier ++ fs) t i ≡ Some f.bound
 alone_after s earlier [] h f m t i k = absurd (contains-none f m)
@@ -80,14 +80,14 @@ alone_after s earlier (g ∷ fs) h f m t i k =
     later rest =
         subst (λ (xs : List Derivation). bounds_of s.program xs t i ≡ Some f.bound) (append_assoc earlier (g ∷ []) fs) rest
 
--- the lemmas of justified finds state all that is known with them
+-- the lemmas of justified derivations state all known bounds
 say : (s : Setting) (fs : List Derivation) → AllStand s fs
     → SayBounds s (facts_of_lemmas s (lemmas_of fs)) (number_in fs) (bounds_of s.program fs) (bounds_of s.program fs)
 say s fs h =
     subst (λ (past : List (List Fact)). SayBounds s past (number_in fs) (bounds_of s.program fs)
     (bounds_of s.program fs)) (sym (states s fs h)) (derivations_say s fs (all_have_lemmas s fs h).sound)
 
--- so what is known of a rule is numbered, and one find alone states it
+-- a known bound of a rule has a number, and exactly one derivation states it
 pub are_numbered : DerivationsAreNumbered
 are_numbered = record {
   each = λ s fs h t i b rule e. numbered s fs h t i b (of_rule s fs t i b rule e);
@@ -112,7 +112,7 @@ holds s faithful fs h t i b e = go (first_of-cases (start_bounds s.program t i) 
         (accepted_facts_hold.each s faithful (lemmas_of fs) (accepted s fs h)) (number_in fs t i))
         (numbered s fs h t i b later.1)
 
--- so what is known with justified finds holds
+-- the bounds of justified derivations hold
 pub hold : StandingDerivationsHold
 hold = record { each = holds }
 

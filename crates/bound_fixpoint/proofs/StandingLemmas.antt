@@ -1,5 +1,5 @@
--- The lemmas of justified finds are accepted, and each states what its find does: by induction over the finds, each of
--- which is justified over bounds that earlier finds give.
+-- The lemmas of justified derivations are accepted, and each states the facts of its derivation: by induction over the
+-- derivations, each of which is justified over bounds that earlier ones give.
 use Rattle.std.proofs.Common.{◌≡◌, ◌⊎◌, inl, inr, ℕ, zero, suc, true, List, [], ◌∷◌, ◌++◌, map, Some, None, refl, sym}
 use Rattle.std.proofs.Common.{◌∙◌, ap, subst, All}
 use Rattle.std.specs.List.{Contains}
@@ -27,12 +27,13 @@ use Rattle.bound_fixpoint.proofs.StartFacts.{start_stated, start_known}
 use Rattle.bound_fixpoint.proofs.StandingKeys.{IsKeyOf, standing_key}
 use Rattle.bound_fixpoint.proofs.DerivationFacts.{facts_of_derivations, derivation_states, derivation_states_alone, found_lemma}
 
--- the properties of justified finds: their keys are those of rules, and what they state is known with them
+-- the properties of justified derivations: their keys are those of rules, and the facts that they state are known
+-- after them
 pub record AreSound (s : Setting) (fs : List Derivation) : Type 0 where
   pub keys : (f : Derivation) → Contains fs f → (t i : ℕ) → has_key f.keys t i ≡ true → IsKeyOf s.program f.keys t i
   pub known : All (AreFactsOf (bounds_of s.program fs)) (facts_of_derivations fs)
 
--- no finds are
+-- the empty list has these properties
 none_sound : (s : Setting) → AreSound s []
 none_sound s = record {
   keys = λ f h. absurd (contains-none f h);
@@ -48,7 +49,7 @@ fact_kept b all keeps (Size t (suc i) c) h = keeps t (suc i) c h
 fact_kept b all keeps (Cost t c) h = absurd h
 
 module _ (s : Setting) where
-  -- a bound that is found with sound finds is that of a rule
+  -- a bound of sound derivations is that of a rule
   pub found_rule : (fs : List Derivation) → AreSound s fs → (t i : ℕ) (c : Bound) → bound_found fs t i ≡ Some c
       → IsRule s.program t
   found_rule fs sound t i c e =
@@ -60,7 +61,7 @@ module _ (s : Setting) where
   rule_number fs zero i rule = absurd (none_some rule.rule rule.numbered)
   rule_number fs (suc t) i rule = refl
 
-  -- a bound that is found with sound finds is a fact of the lemma with the number of its key
+  -- a bound of sound derivations is a fact of the lemma with its key's number
   pub found_stated : (fs : List Derivation) → AreSound s fs → (t i : ℕ) (c : Bound) → bound_found fs t i ≡ Some c
       → Contains (facts_of_lemma (facts_of_derivations fs) (number_in fs t i)) (place_fact t i c)
   found_stated fs sound t i c e =
@@ -69,7 +70,7 @@ module _ (s : Setting) where
       subst (λ (facts : List Fact). Contains facts (place_fact t i c)) (sym lemma)
       (subst (λ (x : Bound). Contains (facts_of_derivation at.0) (place_fact t i x)) at.3 (derivation_states at.0 t i at.2))
 
-  -- and the lemma of a rule's time states nothing else
+  -- the lemma of a rule's time states nothing else
   pub found_alone : (fs : List Derivation) → AreSound s fs → (t : ℕ) (c : Bound) → bound_found fs t 0 ≡ Some c
       → facts_of_lemma (facts_of_derivations fs) (number_in fs t 0) ≡ Time t c ∷ []
   found_alone fs sound t c e =
@@ -78,26 +79,26 @@ module _ (s : Setting) where
       lemma ∙ (derivation_states_alone at.0 t ((sound.keys at.0 at.1 t 0 at.2).alone refl)
       ∙ ap (λ (x : Bound). Time t x ∷ []) at.3)
 
-  -- bounds that are known with earlier finds are stated by their lemmas, by the numbers in a list that begins with them
+  -- known bounds after earlier derivations are stated by their lemmas, by the numbers in a list that begins with them
   module _ (before between earlier more : List Derivation) (begins : before ++ between ≡ earlier)
       (sound : AreSound s earlier) where
     -- the number of the lemma of a key in that list
     abbrev number : ℕ → ℕ → ℕ
     number = number_in (earlier ++ more)
 
-    -- what is known with the finds that come first stays known
+    -- a bound known after a prefix stays known
     keeps : (t i : ℕ) (c : Bound) → bounds_of s.program before t i ≡ Some c → bounds_of s.program earlier t i ≡ Some c
     keeps t i c e =
         subst (λ (fs : List Derivation). bounds_of s.program fs t i ≡ Some c) begins
         (bounds_of-kept s.program before between t i c e)
 
-    -- and so does what they found
+    -- a derived bound of a prefix stays derived
     found_kept : (t i : ℕ) (c : Bound) → bound_found before t i ≡ Some c → bound_found earlier t i ≡ Some c
     found_kept t i c e =
         subst (λ (fs : List Derivation). bound_found fs t i ≡ Some c) begins
         (found-append before between t i ∙ first_of-some (bound_found before t i) (bound_found between t i) c e)
 
-    -- what is known with them is stated
+    -- a bound known after a prefix is stated
     stated : (t i : ℕ) (c : Bound) → bounds_of s.program before t i ≡ Some c
         → IsStatedBy s (facts_of_derivations earlier) number t i c
     stated t i c e = go (first_of-cases (start_bounds s.program t i) (bound_found before t i) c e)
@@ -113,7 +114,7 @@ module _ (s : Setting) where
             inr (subst (λ (n : ℕ). Contains (facts_of_lemma (facts_of_derivations earlier) n) (place_fact t i c))
             (sym (number_in-kept earlier more t i c there)) (found_stated earlier sound t i c there))
 
-    -- and the lemma of a rule's time states nothing else
+    -- the lemma of a rule's time states nothing else
     alone : (t : ℕ) (c : Bound) → IsRule s.program t → bounds_of s.program before t 0 ≡ Some c
         → facts_of_lemma (facts_of_derivations earlier) (number t 0) ≡ Time t c ∷ []
     alone zero c rule e = absurd (none_some rule.rule rule.numbered)
@@ -122,7 +123,7 @@ module _ (s : Setting) where
         ap (facts_of_lemma (facts_of_derivations earlier)) (number_in-kept earlier more (suc t) 0 c there)
         ∙ found_alone earlier sound (suc t) c there
 
-    -- so the lemmas say what is known
+    -- the lemmas state the known bounds
     earlier_say : SayBounds s (facts_of_derivations earlier) number (bounds_of s.program before) (bounds_of s.program earlier)
     earlier_say = record {
       keeps = keeps;
@@ -134,15 +135,15 @@ module _ (s : Setting) where
       alone = alone;
     }
 
-    -- the lemma of a find that is justified after them
+    -- the lemma of a derivation that is justified after them
     module _ (f : Derivation) (stands : Stands s (bounds_of s.program before) f) where
-      -- it is accepted
+      -- this lemma is accepted
       derivation_lemma : Accepts s (facts_of_derivations earlier) (lemma_by number f.node f.premises)
       derivation_lemma =
           node_lemma s (facts_of_derivations earlier) number (bounds_of s.program before) (bounds_of s.program earlier)
           earlier_say f.node f.premises stands.accepted stands.premises stands.known
 
-      -- and states what the find does
+      -- this lemma states the facts of the derivation
       lemma_states : facts_of s (facts_of_derivations earlier) (lemma_by number f.node f.premises) ≡ facts_of_derivation f
       lemma_states =
           node_states s (facts_of_derivations earlier) number (bounds_of s.program before) (bounds_of s.program earlier)
@@ -150,9 +151,9 @@ module _ (s : Setting) where
           ∙ (ap (λ (c : Bound). facts_with c (keys_of s.program f.node)) (sym stands.bound)
           ∙ ap (facts_with f.bound) (sym stands.keys))
 
-  -- sound finds remain sound with one more that is justified after them
+  -- sound derivations stay sound with one more that is justified after them
   module _ (earlier : List Derivation) (sound : AreSound s earlier) (f : Derivation) (after : StandsAfter s earlier f) where
-    -- what is known with all of them
+    -- the bounds known after all of them
     abbrev new_bounds : Bounds
     new_bounds = bounds_of s.program (earlier ++ f ∷ [])
 
@@ -172,14 +173,14 @@ module _ (s : Setting) where
         (contained-all (λ x. at_key (bounds_of s.program earlier) x ≡ None) f.keys k after.fresh m)
         ∙ found-here f [] k.rule k.place (contained-has_key f.keys k m))
 
-    -- the same for all of them
+    -- the facts of the new derivation are known
     own_known : AreFactsOf new_bounds (facts_of_derivation f)
     own_known =
         All-map (IsFactOf new_bounds) (λ k. fact_at k f.bound) f.keys
         (All-weaker (Contains f.keys) (λ k. IsFactOf new_bounds (fact_at k f.bound)) own_fact f.keys
         (All-contains_itself f.keys))
 
-    -- and what the others state still is
+    -- the facts of the earlier derivations are still known
     still_known : All (AreFactsOf new_bounds) (facts_of_derivations earlier)
     still_known =
         All-weaker (AreFactsOf (bounds_of s.program earlier)) (AreFactsOf new_bounds)
@@ -187,7 +188,7 @@ module _ (s : Setting) where
         (fact_kept (bounds_of s.program earlier) new_bounds (bounds_of-kept s.program earlier (f ∷ []))) facts h)
         (facts_of_derivations earlier) sound.known
 
-    -- so all are sound
+    -- all of them are sound
     one_more : AreSound s (earlier ++ f ∷ [])
     one_more = record {
       keys = λ g m. either (contains-either g earlier (f ∷ []) m) (sound.keys g) (own_keys g);
@@ -195,21 +196,21 @@ module _ (s : Setting) where
           (All-push (AreFactsOf new_bounds) (facts_of_derivations earlier) (facts_of_derivation f) still_known own_known);
     }
 
-  -- the lemmas of sound finds say what is known with them
+  -- the lemmas of sound derivations state the known bounds
   pub derivations_say : (fs : List Derivation) → AreSound s fs
       → SayBounds s (facts_of_derivations fs) (number_in fs) (bounds_of s.program fs) (bounds_of s.program fs)
   derivations_say fs sound =
       subst (λ (gs : List Derivation). SayBounds s (facts_of_derivations fs) (number_in gs) (bounds_of s.program fs)
       (bounds_of s.program fs)) (append-nil fs) (earlier_say fs [] fs [] (append-nil fs) sound)
 
-  -- the lemmas of finds that are justified after earlier ones
+  -- the lemmas of derivations that are justified after earlier ones
   pub record HaveLemmas (fs earlier rest : List Derivation) : Type 0 where
     pub accepted : AcceptsFrom s (facts_of_derivations earlier) (map (λ f. lemma_by (number_in fs) f.node f.premises) rest)
     pub facts : facts_from s (facts_of_derivations earlier) (map (λ f. lemma_by (number_in fs) f.node f.premises) rest)
         ≡ facts_of_derivations fs
     pub sound : AreSound s fs
 
-  -- finds that are justified after sound ones have lemmas
+  -- derivations that are justified after sound ones have lemmas
   have_lemmas : (fs earlier rest : List Derivation) → earlier ++ rest ≡ fs → AreSound s earlier → StandAfter s earlier rest
       → HaveLemmas fs earlier rest
   have_lemmas fs earlier [] whole sound h =
@@ -250,6 +251,6 @@ module _ (s : Setting) where
         sound = later.sound;
       }
 
-  -- the same for all finds of a justified list
+  -- all derivations of a justified list have lemmas
   pub all_have_lemmas : (fs : List Derivation) → AllStand s fs → HaveLemmas fs [] fs
   all_have_lemmas fs h = have_lemmas fs [] fs refl (none_sound s) h.each

@@ -1,4 +1,4 @@
--- The facts of the virtual entry are those of what is known at first.
+-- The facts of the virtual entry are the bounds known initially.
 use Rattle.std.proofs.Common.{◌≡◌, ℕ, zero, suc, ◌-◌, ◌<◌, ◌≤◌, ◌==◌, true, false, List, [], ◌∷◌}
 use Rattle.std.proofs.Common.{Some, refl, sym, ◌∙◌, ap, subst, arith}
 use Rattle.std.specs.Prelude.{nat_lt}
@@ -33,7 +33,7 @@ size_among (k ∷ is) i m =
     (λ later. contains-later (Size 0 i (Input (i - 1))) (Size 0 k (Input (k - 1))) (start_sizes is)
     (size_among is i later))
 
--- what is known at first is a fact of the virtual entry
+-- a bound known initially is a fact of the virtual entry
 start_place_stated : (p : Program) (i : ℕ) (c : Bound) → start_size (arity_of p p.start) i ≡ Some c
     → Contains (start_facts p) (place_fact 0 i c)
 start_place_stated p zero c e =
@@ -53,7 +53,7 @@ start_place_stated p (suc j) c e = by_cases (nat_lt j (arity_of p p.start)) belo
         (size_among (places_at p (Some p.start)) (suc j)
         (in_range (arity_of p p.start) (suc j) (omega arith) (omega (arith, low)))))
 
--- and it is known of the virtual entry alone
+-- a bound known initially is one of the virtual entry
 pub start_stated : (p : Program) (t i : ℕ) (c : Bound) → start_bounds p t i ≡ Some c
     → (t ≡ 0) × Contains (start_facts p) (place_fact t i c)
 start_stated p zero i c e = (refl, start_place_stated p i c e)
@@ -68,7 +68,7 @@ sizes_known b (i ∷ is) h =
     (h i (or_left (i == i) (is_in i is) (same_number i)))
     (sizes_known b is (λ k m. h k (or_right (k == i) (is_in k is) m)))
 
--- and the facts of the virtual entry are all known at first
+-- the facts of the virtual entry are known initially
 pub start_known : (p : Program) (b : Bounds) → HaveStart p b → AreFactsOf b (start_facts p)
 start_known p b start =
     All-cons (IsFactOf b) (Time 0 (Constant 1)) (start_sizes (places_at p (Some p.start)))

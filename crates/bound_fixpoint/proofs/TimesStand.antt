@@ -1,4 +1,4 @@
--- What a round finds for rules is justified after the earlier finds.
+-- The derivations of a round for rules are justified after the earlier ones.
 use Rattle.std.proofs.Common.{◌≡◌, ℕ, suc, ◌==◌, true, false, List, [], ◌∷◌, ◌++◌}
 use Rattle.std.proofs.Common.{length, map, None, refl, sym, ap, subst, arith, All}
 use Rattle.std.proofs.lemmas.Bool.{or_left, or_right, or_cases}
@@ -29,7 +29,8 @@ use Rattle.bound_fixpoint.proofs.AcceptedRanks.{is_question, accepted_rank}
 use Rattle.bound_fixpoint.proofs.KnownPremises.{rank_known}
 use Rattle.bound_fixpoint.proofs.FirstDerivationsStand.{time_of_rule}
 
--- what holds of no finds, and of what each answer gives where a bound is missing, holds of what is found
+-- a property of the empty list, and of the derivations that each answer gives where a bound is missing, is one of the
+-- derivations for a target
 pub by_answer : (P : List Derivation → Type 0) (q : Searches) (s : Setting) (fs : List Derivation) (g : Target) (more : List Derivation)
     → Tries q s fs g more → P []
     → (is_open (bounds_of s.program fs) g ≡ true → (a : Answer) → Tells q s (bounds_of s.program fs) g a
@@ -48,7 +49,7 @@ pub open_time : (b : Bounds) (t : ℕ) → is_open b (TimeOf t) ≡ true → b t
 open_time b t e =
     either (or_cases (lacks (b t 0)) false e) (λ k. lacks_none (b t 0) k) (λ k. absurd (false_true k))
 
--- the find of an accepted ranking node is justified
+-- the derivation of an accepted ranking node is justified
 ranked_stands : (s : Setting) (b : Bounds) (t : ℕ) (node : RankNode) (n : Node) (premises : List ResultVariable) (bound : Bound)
     → node.rule ≡ t → AcceptsRank s (over b) node → n ≡ RankBy node → premises ≡ needs_of s b (RankBy node)
     → bound ≡ composed_bound s b (RankBy node)
@@ -68,7 +69,7 @@ module _ (q : Searches) (s : Setting) (right : AreRight q s) (fs : List Derivati
   begun : IsKnown (bounds_of s.program fs 0 0)
   begun = (Constant 1, refl)
 
-  -- the find of an answer about a rule is justified over these bounds
+  -- the derivation that an answer about a rule gives is justified over these bounds
   time_stands : (t : ℕ) → IsRule s.program t → (a : Answer) → TellsTime q s (bounds_of s.program fs) t a
       → All (Stands s (bounds_of s.program fs)) (derivations_by (TimeOf t) a)
   time_stands t rule (Lacks why) h = All-nil (Stands s (bounds_of s.program fs))
@@ -98,7 +99,7 @@ module _ (q : Searches) (s : Setting) (right : AreRight q s) (fs : List Derivati
       by (Unranked g) answered tells = absurd (not_both (OfTime (NoFunction g)) tells)
       by (RankTripped x) answered tells = absurd (not_both (OfTime (TimeTripped x)) tells)
 
-  -- the same for what is found for rules
+  -- the derivations for a list of rules are justified
   times_stand : (ts : List ℕ) → ((t : ℕ) → is_in t ts ≡ true → IsRule s.program t) → (times : List Derivation)
       → TriesAll q s Together fs (map TimeOf ts) times → All (Stands s (bounds_of s.program fs)) times
   times_stand [] rules times none =
@@ -131,7 +132,7 @@ module _ (q : Searches) (s : Setting) (right : AreRight q s) (fs : List Derivati
           answer (Found node premises bound) = (t, up.0, time_of_rule t, ih)
           answer (Lacks why) = skipped
 
-  -- and its keys are fresh
+  -- the keys of these derivations are unknown before
   times_fresh : (ts : List ℕ) (times : List Derivation) → TriesAll q s Together fs (map TimeOf ts) times
       → AllFresh (bounds_of s.program fs) times
   times_fresh [] times none =
@@ -160,7 +161,7 @@ module _ (q : Searches) (s : Setting) (right : AreRight q s) (fs : List Derivati
           (All-nil (λ (f : Derivation). AreFresh (bounds_of s.program fs) f.keys))
       answer open_now (Lacks why) tells = All-nil (λ (f : Derivation). AreFresh (bounds_of s.program fs) f.keys)
 
-  -- the times of a round are justified after the earlier finds
+  -- the times of a round are justified after the earlier derivations
   pub round_times_stand : (times : List Derivation)
       → TriesAll q s Together fs (map TimeOf (rule_numbers s.program)) times → StandAfter s fs times
   round_times_stand times h =

@@ -25,12 +25,12 @@ use Rattle.bound_fixpoint.proofs.FirstDerivationsStand.{empty_ones, cut_ones, si
 use Rattle.bound_fixpoint.proofs.FirstDerivationsStand.{keys_after-sound}
 use Rattle.bound_fixpoint.proofs.TimesStand.{by_answer}
 
--- a find has all members of a component among its keys, or none
+-- a derivation has all members of a component among its keys, or none
 abbrev pub IsWhole : List ResultVariable → Derivation → Type 0
 IsWhole c f = ((t i : ℕ) → has_key c t i ≡ true → has_key f.keys t i ≡ true)
     ⊎ ((t i : ℕ) → has_key c t i ≡ true → has_key f.keys t i ≡ false)
 
--- so the members are found with one bound, or none is
+-- the members are derived with one bound, or none is
 pub uniform_found : (c : List ResultVariable) (fs : List Derivation) → All (IsWhole c) fs → AreUniform (bound_found fs) c
 uniform_found c [] whole t i u j m n = refl
 uniform_found c (f ∷ fs) whole t i u j m n =
@@ -53,7 +53,7 @@ open_one b (k ∷ c) h =
     go (inl e) ih = (k.rule, (k.place, has_key-first k c, lacks_none (at_key b k) e))
     go (inr e) ih = let rest = ih e in (rest.0, (rest.1.0, has_key-later k c rest.0 rest.1.0 rest.1.1, rest.1.2))
 
--- and where all have one bound or none has one, all are missing
+-- if all members have one bound or none has one, and one is missing, all are missing
 pub open_all : (b : Bounds) (c : List ResultVariable) → AreUniform b c → are_open b c ≡ true → (t i : ℕ) → has_key c t i ≡ true
     → b t i ≡ None
 open_all b c uniform h t i m =
@@ -85,7 +85,7 @@ module _ (q : Searches) (s : Setting) (cs : List (List ResultVariable)) (are : A
   place_from_one : (t i : ℕ) → has_key c t i ≡ true → 1 ≤ i
   place_from_one t i m = ((are.live t i).0 (member_covered cs c t i one m)).2.least
 
-  -- a find of a time has none of them
+  -- a derivation of a time has none of the members
   time_whole : (f : Derivation) (t : ℕ) → f.keys ≡ time_key t ∷ [] → IsWhole c f
   time_whole f t e = inr (λ u i m. false_from_ne_true (has_key f.keys u i) (other u i m))
     where
@@ -96,14 +96,14 @@ module _ (q : Searches) (s : Setting) (cs : List (List ResultVariable)) (are : A
           let low = place_from_one u i m in
           omega (arith, place, low)
 
-  -- nor has one of those that say times of 0
+  -- derivations of zero times have none of the members
   zero_whole : (ts : List ℕ) (fs : List Derivation) → AreZeroTimesOf ts fs → All (IsWhole c) fs
   zero_whole [] fs h = subst (λ (xs : List Derivation). All (IsWhole c) xs) (sym h) (All-nil (IsWhole c))
   zero_whole (t ∷ ts) fs (f, rest, e, is, later) =
       subst (λ (xs : List Derivation). All (IsWhole c) xs) (sym e)
       (All-cons (IsWhole c) f rest (time_whole f t is.keys) (zero_whole ts rest later))
 
-  -- nor has one of those before the first round
+  -- each derivation before the first round has all members or none
   pub first_whole : (fs : List Derivation) → AreFirst q s.program fs → All (IsWhole c) fs
   first_whole fs h =
       subst (λ (xs : List Derivation). All (IsWhole c) xs) (sym h.in_order)
@@ -126,7 +126,7 @@ module _ (q : Searches) (s : Setting) (cs : List (List ResultVariable)) (are : A
               (dead_by s.program h.is_empty are.is_empty (λ e is k. (are.empty e is).1 ((h.empty e is).0 k)) t rule.0
               rule.1))
 
-  -- nor has one of a rule in a round
+  -- the derivations of rules in a round have none of the members
   pub times_whole : (fs : List Derivation) (ts : List ℕ) (times : List Derivation) → TriesAll q s Together fs (map TimeOf ts) times
       → All (IsWhole c) times
   times_whole fs [] times none = subst (λ (xs : List Derivation). All (IsWhole c) xs) (sym none) (All-nil (IsWhole c))
@@ -144,7 +144,7 @@ module _ (q : Searches) (s : Setting) (cs : List (List ResultVariable)) (are : A
           (All-nil (IsWhole c))
       answer (Lacks why) = All-nil (IsWhole c)
 
-  -- and one of a component has all, where it is the same component, else none
+  -- a derivation of a component has all members if it is the same component, else none
   size_whole : (d : List ResultVariable) → IsOneOf cs d → (a : Answer) → All (IsWhole c) (derivations_by (SizesOf d) a)
   size_whole d two (Lacks why) = All-nil (IsWhole c)
   size_whole d two (Found node premises bound) =
@@ -153,7 +153,7 @@ module _ (q : Searches) (s : Setting) (cs : List (List ResultVariable)) (are : A
       (λ same. inl (λ t i m. subst (λ (ks : List ResultVariable). has_key ks t i ≡ true) same m)) (λ apart. inr apart))
       (All-nil (IsWhole c))
 
-  -- what a component was tried for has all members of it, or none
+  -- the derivations for a component have all its members, or none
   pub tried_whole : (fs : List Derivation) (d : List ResultVariable) → IsOneOf cs d → (more : List Derivation)
       → Tries q s fs (SizesOf d) more → All (IsWhole c) more
   tried_whole fs d two more tries =
@@ -168,7 +168,7 @@ module _ (q : Searches) (s : Setting) (cs : List (List ResultVariable)) (are : A
       (All-append (IsWhole c) first rest (tried_whole fs d (two d (inl refl)) first tries)
       (sizes_whole (fs ++ first) ds (λ x k. two x (inr k)) rest later))
 
-  -- so all members have one bound, or none has one
+  -- all members have one bound, or none has one
   pub uniform_bounds : (fs : List Derivation) → All (IsWhole c) fs → AreUniform (bounds_of s.program fs) c
   uniform_bounds fs whole t i u j m n =
       rule_bounds s.program fs t i ((are.live t i).0 (member_covered cs c t i one m)).0
@@ -186,13 +186,13 @@ module _ (q : Searches) (s : Setting) (cs : List (List ResultVariable)) (are : A
       (sizes_whole q s cs are c one (fs ++ n.times) n.components
       (λ d k. subst (λ (es : List (List ResultVariable)). IsOneOf es d) (only n.components n.are_components) k) n.sizes n.sized))
 
-  -- and so has all that rounds make
+  -- every list of derivations that rounds make has this property
   pub made_whole : (fs : List Derivation) → IsMade q s fs → (c : List ResultVariable) → IsOneOf cs c → All (IsWhole c) fs
   made_whole fs (Begun h) c one = first_whole q s cs are c one fs h
   made_whole fs (Made {fs = old} {more = more} m n) c one =
       All-append (IsWhole c) old more (made_whole old m c one) (round_whole old more n c one)
 
--- the members of each component have one size or none with all finds that rounds make
+-- in every list of derivations that rounds make the members of each component have one size, or none
 pub uniform_components : ComponentsAreUniform
 uniform_components = record {
   each = λ a s are fs made keys one.

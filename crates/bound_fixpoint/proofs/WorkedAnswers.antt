@@ -79,7 +79,7 @@ no_sizing b (CycleBy (m ∷ ms)) h = none h.same
     none : {x : ResultVariable} {xs : List ResultVariable} → [] ≡ x ∷ xs → ⊥
     none e = cc
 
--- and the checks of a loop without members fail at its shape, which is no reason
+-- the checks of a loop node without members fail at its shape, which is no reason
 no_shape : (why : NoSize) → IsReasonFor why Shape → ⊥
 no_shape (SizeTripped t) h = h
 no_shape (SizeUnbounded side ray kept) h = h
@@ -125,7 +125,7 @@ abbrev rule_of_keys : List ResultVariable → ℕ
 rule_of_keys [] = 0
 rule_of_keys (k ∷ keys) = k.rule
 
--- with the time of rule 1 alone the loop lacks the size after rule 1
+-- with only the time of rule 1 known, the size after rule 1 is missing for the loop
 too_early : IsSizingOf counting once_known (key 2 1 ∷ []) (CycleBy (looped_member ∷ [])) → ⊥
 too_early h =
     let sizes = All-head (HasSizesBefore counting (over once_known) (looped_member ∷ [])) looped_member []
@@ -162,7 +162,7 @@ right_sizes = record {
   of_nothing = no_answer;
 }
 
--- what holds of both places holds of each of them
+-- a property of both places is one of each
 of_both : (P : ℕ → ℕ → Type 0) → P 1 1 → P 2 1 → (t i : ℕ) → has_key (key 1 1 ∷ key 2 1 ∷ []) t i ≡ true → P t i
 of_both P a b t i m =
     either (has_key-cases (key 1 1) (key 2 1 ∷ []) t i m) (λ e. subst (λ (k : ResultVariable). P k.rule k.place) e a)

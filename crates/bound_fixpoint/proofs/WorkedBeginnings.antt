@@ -1,4 +1,4 @@
--- What is found before the first round on small programs, and which of these finds are justified.
+-- The derivations before the first round on small programs, and which of them are justified.
 use Rattle.std.proofs.Common.{◌≡◌, ◌↔◌, inr, ℕ, zero, suc, Bool, not, true, false, List, [], ◌∷◌, length, Some, None}
 use Rattle.std.proofs.Common.{refl}
 use Rattle.std.proofs.Common.{sym, ◌∙◌, ap, subst, arith}
@@ -96,7 +96,7 @@ cut r numbered way =
     let begins : ◌≡◌ {A = ℕ} 0 1 = path_to_l 0 r.source way (sym source) in
     omega (arith, begins)
 
--- a rule with a point isn't empty, and neither is one whose question trips
+-- a rule with a point isn't infeasible, and neither is one whose question hits a limit
 pointed : (m : List ℕ) → HasPoint (record { parts = []; den = 1 }) ≡ NoPoint m → ⊥
 pointed m e = cc
 
@@ -232,7 +232,7 @@ beginnings_worked = record {
     without : empty_derivation 1 [] ∷ never_derivation leaving 1 ∷ [] ≡ empty_derivation 1 [] ∷ [] → ⊥
     without e = let n : ◌≡◌ {A = ℕ} 2 1 = ap length e in omega (arith, n)
 
--- what is known of the program with an empty rule
+-- the bounds of the program with an infeasible rule
 abbrev known_with : List Derivation → Bounds
 known_with fs = bounds_of stuck.program fs
 

@@ -50,7 +50,7 @@ size-sound k t i xs e =
     subst (λ (n : ℕ). has_key (k ∷ xs) t n ≡ true) place
     (subst (λ (n : ℕ). has_key (k ∷ xs) n k.place ≡ true) rule (has_key-first k xs))
 
--- so checks of sizes are passed by, where the missing one isn't among them
+-- checks of other sizes don't fail at this one
 sizes_passed : (b : Bounds) (t i : ℕ) (xs : List ResultVariable) (rest : List Check) → has_key xs t i ≡ false
     → IsFirstAmong (for_each (check_size (over b)) xs rest) (reasons.MissingSize t i)
     → IsFirstAmong rest (reasons.MissingSize t i)
@@ -81,7 +81,7 @@ time_other u t i e = cc
 large_other : (n t i : ℕ) → Large n ≡ reasons.MissingSize t i → ⊥
 large_other n t i e = cc
 
--- the place after rule 2, with these arms
+-- the place after rule 2, with these side bounds
 abbrev looped_by : LocalBound → Member
 looped_by l = record { result_variable = key 2 1; local = l }
 
@@ -97,7 +97,7 @@ premises_alone l h = go (reads None l.up 0) (reads None l.low 0) refl refl
         absurd (no_is_not_yes (do_loop counting (looped_by l ∷ [])) h first)
     go false false a c = rw a (rw c refl)
 
--- and one that loops doesn't either
+-- the premises of a loop node don't have the place of the loop
 premises_together : (l : LocalBound) → has_key (needed_into counting (looped_by l ∷ []) (looped_by l ∷ [])) 2 1 ≡ false
 premises_together l = go (reads None l.up 0) (reads None l.low 0) refl refl
   where
@@ -111,7 +111,7 @@ premises_together l = go (reads None l.up 0) (reads None l.low 0) refl refl
 abbrev Fails : List Check → Type 0
 Fails cs = IsFirstAmong cs (reasons.MissingSize 2 1)
 
--- so its own size isn't the first that a spread lacks
+-- a spread node's first missing size isn't its own
 spread_other : (l : LocalBound) → do_loop counting (looped_by l ∷ []) ≡ false
     → Fails (spread_checks counting (over entered_known) (looped_by l)) → ⊥
 spread_other l out (inl fails) = shape_other 2 1 fails.1
@@ -135,7 +135,7 @@ times_of l =
     for_each (check_time (over entered_known)) (needed_times counting (over entered_known) (looped_by l ∷ []))
     (ends_of l)
 
--- nor the first that a loop lacks
+-- a loop node's first missing size isn't its own
 cycle_other : (l : LocalBound) → Fails (cycle_checks counting (over entered_known) (looped_by l ∷ [])) → ⊥
 cycle_other l (inl fails) = shape_other 2 1 fails.1
 cycle_other l (inr (shape, inl fails)) = up_other 2 1 2 1 fails.1
@@ -162,7 +162,7 @@ cycle_other l (inr (shape, inr (up, inr (low, rest)))) =
     straight (inr (a, inr (b, inr (c, inl fails)))) = nonlinear_other 2 1 2 1 fails.1
     straight (inr (a, inr (b, inr (c, inr (d, rest))))) = times rest
 
--- so the place itself is no reason
+-- the place itself is no reason
 own_alone : (m : Member) → key 2 1 ∷ [] ≡ m.result_variable ∷ [] → do_loop counting (m ∷ []) ≡ false
     → Fails (spread_checks counting (over entered_known) m) → ⊥
 own_alone m only out first =
@@ -210,7 +210,7 @@ guessed = record {
     still zero low = refl
     still (suc j) low = let none : suc j < 1 = low in absurd (omega (arith, none))
 
--- what holds of the only place in the list holds of any place found in it
+-- a property of the only place in the list is one of any place found in it
 of_only : (P : ResultVariable → Type 0) (k : ResultVariable) (t i : ℕ) → has_key (k ∷ []) t i ≡ true → P (key t i) → P k
 of_only P k t i m h =
     either (has_key-cases k [] t i m) (λ e. subst P (sym e) h) (λ n. absurd (has_key-none t i n))

@@ -94,7 +94,7 @@ is_covered (suc (suc zero)) i rule place = inr (inl
     (subst (λ (n : ℕ). has_key (key 2 1 ∷ []) 2 n ≡ true) (sym (place_after_2 i place)) refl))
 is_covered (suc (suc (suc t))) i rule place = absurd (no_rule_3 t rule)
 
--- the same two turned round
+-- the two components in the other order
 turned_alone : (t i : ℕ) → IsCovered turned t i → IsCovered alone t i
 turned_alone t i (inl m) = inr (inl m)
 turned_alone t i (inr (inl m)) = inl m
@@ -141,7 +141,7 @@ module _ (rank : List ℕ → ℕ → List SymbolPlace → Ranking) (cs : List (
     );
   }
 
-  -- one that lacks a place isn't, nor one that has one twice
+  -- a list that lacks a place isn't right, nor one that has a place twice
   pub not_lacking : AreComponentsOf (searches_of (answers_with rank cs)) counting.program ((key 1 1 ∷ []) ∷ []) → ⊥
   not_lacking h = by ((h.live 2 1).1 (rule_2, not_dead, place_2))
     where
@@ -173,7 +173,7 @@ module _ (rank : List ℕ → ℕ → List SymbolPlace → Ranking) (cs : List (
       ((key 1 1 ∷ []) ∷ (key 1 1 ∷ []) ∷ (key 2 1 ∷ []) ∷ []) → ⊥
   not_twice h = h.apart.0 1 1 refl (inl refl)
 
-  -- nor one whose members descend, nor one with a place after the virtual entry
+  -- a list with descending members isn't right, nor one with a place after the virtual entry
   pub not_descending : AreComponentsOf (searches_of (answers_with rank cs)) counting.program
       ((key 2 1 ∷ key 1 1 ∷ []) ∷ []) → ⊥
   not_descending h = turned_round (All-head AreResultVariablesAscending (key 2 1 ∷ key 1 1 ∷ []) [] h.ascending).0

@@ -1,4 +1,5 @@
--- Justified finds, and others that aren't, of a program with an empty rule without which the other rule isn't reached.
+-- Justified derivations, and others that aren't, of a program with an infeasible rule without which the other rule
+-- isn't reached.
 use Rattle.std.proofs.Common.{◌≡◌, ℕ, zero, suc, true, List, [], ◌∷◌, Some, None, refl, sym, ◌∙◌, ap, arith}
 use Rattle.std.proofs.lemmas.Int.{ints}
 use Rattle.std.proofs.lemmas.List.Elements.{All-nil, All-cons, All-head}
@@ -72,7 +73,7 @@ cut r numbered way =
     let begins : ◌≡◌ {A = ℕ} 0 1 = path_to_l 0 r.source way (sym source) in
     omega (arith, begins)
 
--- what is known of the program
+-- the bounds known of the program
 abbrev known_with : List Derivation → Bounds
 known_with fs = bounds_of cut_short.program fs
 

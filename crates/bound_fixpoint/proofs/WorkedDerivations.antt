@@ -1,4 +1,4 @@
--- What is read off finds of the program that counts down.
+-- The bounds, numbers and premises read off derivations of the program that counts down.
 use Rattle.std.proofs.Common.{refl}
 use Rattle.bound_fixpoint.specs.WorkedDerivations.{DerivationsAreReadOff, KeysAreWorkedOut, PremisesAreWorkedOut, LemmasAreWorkedOut}
 

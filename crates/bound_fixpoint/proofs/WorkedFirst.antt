@@ -1,4 +1,4 @@
--- What is found before the first round of programs with a rule that is never reached.
+-- The derivations before the first round of programs with a rule that is never reached.
 use Rattle.std.proofs.Common.{◌≡◌, ◌↔◌, inl, inr, ℕ, zero, suc, ◌≤◌, Bool, not, true, false, List, [], ◌∷◌, length}
 use Rattle.std.proofs.Common.{Some, None, refl, sym, ◌∙◌, ap, subst, arith}
 use Rattle.std.proofs.lemmas.List.Elements.{All-nil, All-cons}
@@ -48,7 +48,7 @@ unreached (suc (suc (suc t))) rule = absurd (no_rule_3 t rule)
 not_empty : (other : ℕ → ℕ) (t : ℕ) (m : List ℕ) → (trips_as other).empty t ≡ NoPoint m → ⊥
 not_empty other t m e = cc
 
--- so its time is found, and the size after it
+-- the time of the unreached rule is derived, and the size after it
 first : AreFirst by_trips apart.program two_derivations
 first = record {
   is_empty = λ t. false;
@@ -108,7 +108,7 @@ components other = record {
 abbrev two_known : Bounds
 two_known = bounds_of apart.program two_derivations
 
--- the rank question of rule 1 trips, whatever its set, and so does the size after it
+-- the ranking question of rule 1 hits a limit, whatever its set, and so does the size after it
 time_tells : TellsTime by_trips apart two_known 1 (Lacks (OfTime (TimeTripped (limit_hit (asked.Rank 1)))))
 time_tells =
     let set = set_there apart.program two_known (Constant 1, refl) 1 rule_1 in
@@ -149,7 +149,7 @@ closed = record {
   all = refl;
 }
 
--- with rule 1 empty no way leads to l
+-- if rule 1 is infeasible, no path leads to l
 abbrev is_first : ℕ → Bool
 is_first zero = false
 is_first (suc zero) = true

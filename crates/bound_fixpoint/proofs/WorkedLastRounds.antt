@@ -39,7 +39,7 @@ use Rattle.bound_fixpoint.proofs.WorkedRounds.{looped_answer}
 abbrev by_turned : Searches
 by_turned = searches_of value_turned
 
--- with nothing known both rules are ranked, each over its set
+-- over no bounds both rules are ranked, each over its set
 first_tells : TellsTime by_turned counting nothing_known 1
     (Found (RankBy (value_ranks (1 ∷ []) 1)) (time_key 0 ∷ key 0 1 ∷ []) down_time)
 first_tells =
@@ -62,7 +62,7 @@ three = first_time ∷ second_time ∷ entered_derivation ∷ []
 abbrev four : List Derivation
 four = first_time ∷ second_time ∷ entered_derivation ∷ looped_derivation ∷ []
 
--- the first round finds the times, and the size after rule 1
+-- the first round derives the times, and the size after rule 1
 first_round : IsRound by_turned counting [] three
 first_round = record {
   times = first_time ∷ second_time ∷ [];
@@ -104,7 +104,7 @@ first_round = record {
   all = refl;
 }
 
--- the second finds the size after rule 2
+-- the second round derives the size after rule 2
 second_round : IsRound by_turned counting three (looped_derivation ∷ [])
 second_round = record {
   times = [];
@@ -126,7 +126,7 @@ second_round = record {
   all = refl;
 }
 
--- and a third nothing
+-- the third round derives nothing
 closed : IsClosed by_turned counting four
 closed = record {
   times = [];
@@ -197,7 +197,7 @@ both_live = record {
     not_empty : (t : ℕ) (m : List ℕ) → sized_together.empty t ≡ NoPoint m → ⊥
     not_empty t m e = cc
 
--- rank questions trip, whatever their sets
+-- ranking questions hit a limit, whatever their sets
 trips : (t : ℕ) → IsRule counting.program t
     → TellsTime by_both counting nothing_known t (Lacks (OfTime (TimeTripped (limit_hit (asked.Rank t)))))
 trips t rule =

@@ -24,7 +24,7 @@ use Rattle.bound_fixpoint.proofs.WorkedRounds.{looped_answer}
 abbrev by_turned : Searches
 by_turned = searches_of value_turned
 
--- the same with any components
+-- these answers with any components
 abbrev by_open : List (List ResultVariable) → Searches
 by_open cs = searches_of (answers_with ranks_open cs)
 
@@ -37,7 +37,7 @@ shut_tells cs =
     time-sound ranks_open cs once_known 2 (2 ∷ []) (place 1 1 ∷ []) (alone_set once_known refl refl)
     (one_shut once_known refl) shut_answer refl
 
--- so no time is found
+-- no time is derived
 times_of_round : (cs : List (List ResultVariable)) → TriesAll (by_open cs) counting Together (once_derivation ∷ [])
     (TimeOf 1 ∷ TimeOf 2 ∷ []) []
 times_of_round cs = (
@@ -54,7 +54,7 @@ times_of_round cs = (
   ),
 )
 
--- the first round finds both sizes
+-- the first round derives both sizes
 sizes : IsRound by_value counting (once_derivation ∷ []) (entered_derivation ∷ looped_derivation ∷ [])
 sizes = record {
   times = [];
@@ -111,7 +111,7 @@ in_turn = record {
 abbrev three : List Derivation
 three = once_derivation ∷ entered_derivation ∷ looped_derivation ∷ []
 
--- with the sizes rule 2 is ranked over itself alone
+-- with the sizes known, rule 2 is ranked over itself alone
 abbrev later_answer : Answer
 later_answer = Found (RankBy (value_ranks (2 ∷ []) 2)) (time_key 1 ∷ key 1 1 ∷ []) alone_time
 

@@ -36,7 +36,7 @@ second_tells =
     (open_places nothing_known (1 ∷ 2 ∷ []) (none_shut nothing_known refl))
     (Lacks (OfTime (NoFunction (gap_over (1 ∷ 2 ∷ []) 2 [])))) refl
 
--- and neither size is found
+-- neither size is derived
 first_size_tells : TellsSize by_none counting nothing_known (key 1 1 ∷ []) (Lacks (OfSize (SizeUntimed 1)))
 first_size_tells = record { answer = Unsized (SizeUntimed 1); answered = refl; tells = refl }
 
@@ -91,7 +91,7 @@ second_size = record {
   tells = second_size_tells;
 }
 
--- so no other reason is one
+-- there is no other reason
 one_reason : (t i : ℕ) (v w : NoBound) → IsNoBound by_none counting [] t i v → IsNoBound by_none counting [] t i w
     → v ≡ w
 one_reason t i v w h k =
@@ -112,7 +112,7 @@ kinds_differ e = cc
 causes_differ : OfSize (SizeUntimed 1) ≡ OfSize (SizeMissing (key 1 1)) → ⊥
 causes_differ e = cc
 
--- what is no place has no reason
+-- a key that is no place has no reason
 no_place : (why : NoBound) → IsNoBound by_none counting [] 2 2 why → ⊥
 no_place why h = go h.target h.asked
   where

@@ -30,7 +30,7 @@ use Rattle.bound_fixpoint.proofs.WorkedComponents as counted
 use Rattle.bound_fixpoint.proofs.WorkedFirst.{components}
 use Rattle.bound_fixpoint.proofs.WorkedUnreached.{rule_1}
 
--- each rule has a point, and a trip is reported for the rule itself
+-- each rule has a point, and a limit hit is reported for the rule itself
 right : AreRight (searches_of all_trips) apart
 right = record { empty = empty; rank = rank; components = parts; sizes = sizes }
   where
@@ -59,7 +59,7 @@ right = record { empty = empty; rank = rank; components = parts; sizes = sizes }
     sizes b (m ∷ keys) answer some same =
         subst (λ (x : SizeOutcome). IsRightSizing apart b (m ∷ keys) x) same (m, has_key-first m keys, inl refl)
 
--- a trip of another rule isn't right
+-- a limit hit that is reported for another rule isn't right
 not_another : AreRight (searches_of (trips_as suc)) apart → ⊥
 not_another h =
     by (h.rank (1 ∷ []) 1 [] (RankTripped (limit_hit (asked.Rank 2)))

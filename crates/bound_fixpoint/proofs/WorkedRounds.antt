@@ -35,7 +35,7 @@ pub tells_tries : (q : Searches) (s : Setting) (fs : List Derivation) (g : Targe
 tells_tries q s fs g a e tells =
     record { known = λ k. absurd (false_true (sym k ∙ e)); tried = λ k. (a, tells, refl) }
 
--- and what is known isn't queried
+-- a known bound isn't queried
 pub known_tries : (q : Searches) (s : Setting) (fs : List Derivation) (g : Target)
     → is_open (bounds_of s.program fs) g ≡ false → Tries q s fs g []
 known_tries q s fs g e = record { known = λ k. refl; tried = λ k. absurd (false_true (sym e ∙ k)) }
@@ -91,7 +91,7 @@ module _ (rank : List ℕ → ℕ → List SymbolPlace → Ranking) (cs : List (
 abbrev pub by_value : Searches
 by_value = searches_of value_where_open
 
--- with nothing known both rules are ranked, each over its set
+-- over no bounds both rules are ranked, each over its set
 first_tells : TellsTime by_value counting nothing_known 1
     (Found (RankBy (value_ranks (1 ∷ []) 1)) (time_key 0 ∷ key 0 1 ∷ []) down_time)
 first_tells =
@@ -108,7 +108,7 @@ second_tells =
     (Found (RankBy (value_ranks (1 ∷ 2 ∷ []) 2)) (time_key 0 ∷ key 0 1 ∷ []) down_time)
     (record { before = refl; after = refl }, refl, refl, refl)
 
--- with the time of rule 1 the size after it is found, and with that size the one after rule 2
+-- with the time of rule 1 the size after it is derived, and with that size the one after rule 2
 abbrev pub entered_answer : Answer
 entered_answer = Found (SpreadBy entered_member) (key 0 1 ∷ key 0 1 ∷ []) entered_size
 
@@ -156,7 +156,7 @@ round = record {
   all = refl;
 }
 
--- where all are known a round finds nothing
+-- if all bounds are known, a round derives nothing
 pub closed_by : (fs : List Derivation) → is_open (bounds_of counting.program fs) (TimeOf 1) ≡ false
     → is_open (bounds_of counting.program fs) (TimeOf 2) ≡ false
     → fs ++ [] ≡ fs
@@ -188,7 +188,7 @@ closed_by fs a b same c d = record {
 abbrev four : List Derivation
 four = first_time ∷ second_time ∷ entered_derivation ∷ looped_derivation ∷ []
 
--- another list isn't what the round finds
+-- a round derives no other list
 other : (xs : List Derivation) → IsRound by_value counting [] xs → xs ≡ four
 other xs h = round_one by_value (answers_one value_where_open) counting [] xs four h round
 

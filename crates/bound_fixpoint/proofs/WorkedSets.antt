@@ -26,7 +26,7 @@ no_edge f a b h e = go h.number h.rule h.numbered h.target
         none : None ≡ Some r → ⊥
         none x = cc
 
--- so a path to there is empty
+-- a path that ends at 0 begins there
 only_there : (f : ℕ → Bool) (a b : ℕ) → HasPath counting.program f a b → b ≡ 0 → a ≡ 0
 only_there f a b (Here e) z = e ∙ z
 only_there f a b (Onward {b = x} p edge) z = absurd (no_edge f x b edge z)

@@ -1,4 +1,4 @@
--- The shut places of sets of the program that counts down.
+-- Worked values: which places are shut for the rule sets of the program that counts down.
 use Rattle.std.proofs.Common.{◌≡◌, ◌⊎◌, inl, inr, ℕ, ◌≤◌, true, List, [], ◌∷◌, Some, None, refl, sym, ◌∙◌, ap}
 use Rattle.std.proofs.Common.{subst, arith}
 use Rattle.std.specs.List.{Contains}
@@ -17,7 +17,7 @@ use Rattle.bound_fixpoint.specs.WorkedSets.{nothing_known, once_known, entered_k
 use Rattle.bound_fixpoint.proofs.Cases.{false_true}
 use Rattle.bound_fixpoint.proofs.ListMembers.{contains-cases, contains-none, contains-first}
 
--- a place after the virtual entry, and one after either rule, is place 1
+-- the targets of rules 0, 1 and 2 have one place, place 1
 pub entry_place : (i : ℕ) → IsPlace counting.program 0 i → i ≡ 1
 entry_place i h =
     let symbol = some_same 0 h.symbol h.target in
@@ -36,7 +36,7 @@ place_after_2 i h =
     let last : i ≤ 1 = subst (λ (a : ℕ). i ≤ arity_of counting.program a) (sym symbol) h.last in
     omega (arith, h.least, last)
 
--- where the only entry has a size at its only place, no place is shut
+-- if the only rule into the set has a size at its target's only place, no place is shut
 entry_open : (bs : Bounds) (set : List ℕ) (entry : ℕ) (b : Bound) → bs entry 1 ≡ Some b
     → ((i : ℕ) → IsPlace counting.program entry i → i ≡ 1)
     → ((e : ℕ) → is_in e (entry ∷ []) ≡ true → e ≡ entry) → (s : SymbolPlace)
@@ -48,7 +48,7 @@ entry_open bs set entry b known only lone s enters h =
     let missing = subst (λ (n : ℕ). bs n s.place ≡ None) same h.missing in
     some_none b (sym known ∙ subst (λ (i : ℕ). bs entry i ≡ None) (only s.place there) missing)
 
--- a number among one number is that
+-- the member of a list of one number is that number
 pub lone_number : (n e : ℕ) → is_in e (n ∷ []) ≡ true → e ≡ n
 lone_number n e m = go (is_in-cases e n [] m)
   where
@@ -56,7 +56,7 @@ lone_number n e m = go (is_in-cases e n [] m)
     go (inl same) = same
     go (inr x) = absurd (false_true x)
 
--- no place is shut for both rules, nor for rule 1: the virtual entry has a size at its place
+-- for the set {1, 2}, and for {1}, no place is shut, since the virtual entry has a size at place 1
 pub none_shut : (bs : Bounds) → bs 0 1 ≡ Some (Input 0) → (s : SymbolPlace)
     → IsShut counting.program bs (1 ∷ 2 ∷ []) s → ⊥
 none_shut bs known s h =
@@ -67,7 +67,7 @@ pub none_shut_first : (bs : Bounds) → bs 0 1 ≡ Some (Input 0) → (s : Symbo
 none_shut_first bs known s h =
     entry_open bs (1 ∷ []) 0 (Input 0) known entry_place (lone_number 0) s (λ k. k.enters) h
 
--- nor for rule 2 where the size after rule 1 is known
+-- for {2} no place is shut if the size after rule 1 is known
 pub none_shut_alone : (bs : Bounds) (b : Bound) → bs 1 1 ≡ Some b → (s : SymbolPlace)
     → IsShut counting.program bs (2 ∷ []) s → ⊥
 none_shut_alone bs b known s h =
@@ -81,7 +81,7 @@ open_places bs set none = record {
   places = λ s. (λ c. absurd (contains-none s c), λ h. absurd (none s h));
 }
 
--- the only entry of rule 2 alone is rule 1, so no place but that of l is shut
+-- into the set {2} leads only rule 1, so only the place of its target l can be shut
 alone_shut : (bs : Bounds) (s : SymbolPlace) → IsShut counting.program bs (2 ∷ []) s → place 1 1 ≡ s
 alone_shut bs s h =
     let same = lone_number 1 h.entry h.enters in

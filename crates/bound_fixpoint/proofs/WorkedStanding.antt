@@ -1,4 +1,4 @@
--- Justified finds of the program that counts down, and others that aren't.
+-- Justified derivations of the program that counts down, and others that aren't.
 use Rattle.std.proofs.Common.{◌≡◌, ◌≢◌, ℕ, zero, suc, ◌||◌, true, List, [], ◌∷◌, ◌++◌, length}
 use Rattle.std.proofs.Common.{Some, None, refl, sym, ◌∙◌, ap, subst, arith, All}
 use Rattle.std.specs.Prelude.{ℤ, pos}
@@ -32,7 +32,7 @@ use Rattle.bound_fixpoint.proofs.DerivationLists.{bounds_of-kept}
 use Rattle.bound_fixpoint.proofs.WorkedUnreached.{IsKnownIn, IsNew, first_over}
 use Rattle.bound_fixpoint.proofs.WorkedUnreached as unreached
 
--- a function that is accepted over a table is so over bounds that know what comes in by its only entry
+-- a function that is accepted over a table is accepted over bounds that have those of its only entry
 rank_over : (tab : Table) (node : RankNode) → AcceptsRank counting tab node → (bs : Bounds) (entry : ℕ)
     → entries counting.program node.set ≡ entry ∷ [] → IsKnown (bs entry 0)
     → ((j : ℕ) → at (at_target counting.program node entry).coefs j ≢ pos 0 → IsKnown ((over bs).size entry (suc j)))
@@ -185,7 +185,7 @@ looped_stands = record {
   bound = refl;
 }
 
--- a find that is justified over some finds is justified after these and more, where its key is new
+-- a derivation that is justified over a prefix is justified after the whole list, if its keys are unknown there
 stands_after : (before between : List Derivation) (f : Derivation) → Stands counting (known_with before) f
     → All (IsNew (known_with (before ++ between))) f.keys → StandsAfter counting (before ++ between) f
 stands_after before between f h new = record {
@@ -218,7 +218,8 @@ four = record {
   );
 }
 
--- a bound that is missing with all earlier finds isn't known with those over which a find is justified
+-- a bound that is missing after all earlier derivations isn't known after the prefix over which a derivation is
+-- justified
 not_known : (earlier : List Derivation) (f : Derivation) (a : StandsAfter counting earlier f) (k : ResultVariable)
     → at_key (known_with earlier) k ≡ None → IsKnownIn (known_with a.before) k → ⊥
 not_known earlier f a k missing h =

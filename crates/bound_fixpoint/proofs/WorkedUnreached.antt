@@ -1,4 +1,4 @@
--- Justified finds of the program with a rule that is never reached, and others that aren't.
+-- Justified derivations of the program with a rule that is never reached, and others that aren't.
 use Rattle.std.proofs.Common.{◌≡◌, ℕ, zero, suc, Bool, List, [], ◌∷◌, Some}
 use Rattle.std.proofs.Common.{None, refl, sym, ◌∙◌, ap, subst, arith}
 use Rattle.std.proofs.lemmas.List.Elements.{All-nil, All-cons, All-head}
@@ -55,7 +55,7 @@ edge_to_m f a b h e = go h.number h.rule h.numbered h.source h.target
         none : None ≡ Some r → ⊥
         none x = cc
 
--- so a path to m begins there
+-- a path to m begins at m
 path_to_m : (f : ℕ → Bool) (a b : ℕ) → HasPath apart.program f a b → b ≡ 2 → a ≡ 2
 path_to_m f a b (Here same) e = same ∙ e
 path_to_m f a b (Onward {b = x} r edge) e = path_to_m f a x r (edge_to_m f x b edge e)
@@ -129,7 +129,7 @@ stands = record {
   );
 }
 
--- what begins nothing is nothing
+-- a prefix of the empty list is empty
 begins_nothing : (fs : List Derivation) → IsBeginning fs [] → fs ≡ []
 begins_nothing [] h = refl
 begins_nothing (f ∷ fs) h = absurd (some h.same)

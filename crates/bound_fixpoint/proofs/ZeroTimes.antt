@@ -16,23 +16,23 @@ use Rattle.bound_fixpoint.proofs.Keys.{has_key-cases, has_key-first, has_key-non
 use Rattle.bound_fixpoint.proofs.DerivationLists.{found-here, found-later}
 use Rattle.bound_fixpoint.proofs.FreshDerivations.{AscendFrom, AreOfRule, RulesAscend, AreFresh, AllFresh}
 
--- a find says that the time of a rule is 0
+-- a derivation states that the time of a rule is 0
 pub record IsZeroTime (t : ℕ) (f : Derivation) : Type 0 where
   pub keys : f.keys ≡ time_key t ∷ []
   pub bound : f.bound ≡ Constant 0
 
--- one find for each of these rules, in order
+-- one such derivation for each of these rules, in order
 abbrev pub AreZeroTimesOf : List ℕ → List Derivation → Type 0
 AreZeroTimesOf [] fs = fs ≡ []
 AreZeroTimesOf (t ∷ ts) fs = (f : Derivation) × (rest : List Derivation) × (fs ≡ f ∷ rest) × IsZeroTime t f × AreZeroTimesOf ts rest
 
--- the same for the finds of empty rules
+-- the derivations of infeasible rules are such
 pub empties_zero : (q : Searches) (ts : List ℕ) (fs : List Derivation) → AreEmptyDerivations q ts fs → AreZeroTimesOf ts fs
 empties_zero q [] fs h = h
 empties_zero q (t ∷ ts) fs (m, shown, (rest, e, later)) =
     (empty_derivation t m, rest, e, record { keys = refl; bound = refl }, empties_zero q ts rest later)
 
--- and with those of unreached ones
+-- the derivations of unreached rules are such
 pub unreached_zero : (dead : List ResultVariable) (ts : List ℕ) → AreZeroTimesOf ts (map (unreached_derivation dead) ts)
 unreached_zero dead [] = refl
 unreached_zero dead (t ∷ ts) = (
@@ -43,14 +43,14 @@ unreached_zero dead (t ∷ ts) = (
   unreached_zero dead ts,
 )
 
--- the finds of some rules and then of others are those of all
+-- such derivations for appended lists of rules
 pub zero_times-append : (ts us : List ℕ) (fs gs : List Derivation) → AreZeroTimesOf ts fs → AreZeroTimesOf us gs
     → AreZeroTimesOf (ts ++ us) (fs ++ gs)
 zero_times-append [] us fs gs h k = subst (λ (xs : List Derivation). AreZeroTimesOf us (xs ++ gs)) (sym h) k
 zero_times-append (t ∷ ts) us fs gs (f, rest, e, is, later) k =
     (f, rest ++ gs, ap (λ (xs : List Derivation). xs ++ gs) e, is, zero_times-append ts us rest gs later k)
 
--- the rules of such finds ascend, where these do
+-- the rules of such derivations ascend, if the listed ones do
 pub zero_times_ascend : (n : ℕ) (ts : List ℕ) (fs : List Derivation) → AscendFrom n ts → AreZeroTimesOf ts fs
     → RulesAscend n fs
 zero_times_ascend n [] fs up h = subst (λ (xs : List Derivation). RulesAscend n xs) (sym h) tt
@@ -90,7 +90,7 @@ zero_found (u ∷ ts) fs (f, rest, e, is, later) t m =
             (subst (λ (ks : List ResultVariable). has_key ks t 0 ≡ true) (sym is.keys)
             (subst (λ (n : ℕ). has_key (time_key n ∷ []) t 0 ≡ true) same (has_key-first (time_key t) []))))
 
--- and nothing else is found
+-- such derivations have no other key
 pub zero_missing : (ts : List ℕ) (fs : List Derivation) → AreZeroTimesOf ts fs → (t i : ℕ)
     → (is_in t ts ≡ true → 0 ≡ i → ⊥) → bound_found fs t i ≡ None
 zero_missing [] fs h t i other = subst (λ (xs : List Derivation). bound_found xs t i ≡ None) (sym h) refl
@@ -105,7 +105,7 @@ zero_missing (u ∷ ts) fs (f, rest, e, is, later) t i other =
         absurd (other (or_left (t == u) (is_in t ts) (subst (λ (n : ℕ). (t == n) ≡ true) (sym only.0) (same_number t)))
         only.1)
 
--- such finds are fresh where these times are missing
+-- the keys of such derivations are unknown, if these times are missing
 pub zero_fresh : (b : Bounds) (ts : List ℕ) (fs : List Derivation) → AreZeroTimesOf ts fs
     → ((t : ℕ) → is_in t ts ≡ true → b t 0 ≡ None) → AllFresh b fs
 zero_fresh b [] fs h missing =

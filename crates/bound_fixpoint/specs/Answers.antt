@@ -1,4 +1,4 @@
--- The targets of queries in a round, and the results of the searches: a find, or the reason why there is none.
+-- The targets of queries in a round, and the results of the searches: a derivation, or the reason why there is none.
 use Rattle.std.specs.Prelude.{◌≡◌, ℕ, ◌||◌, Bool, false, List, [], ◌∷◌}
 use Rattle.rule_questions.specs.model.Bounds.{Bound}
 use Rattle.rule_questions.specs.cert_rules.Nodes.{ResultVariable}
@@ -40,13 +40,13 @@ pub data Answer : Type 0 where
   Found : Node → List ResultVariable → Bound → Answer
   Lacks : NoBound → Answer
 
--- the finds of an answer
+-- the derivations that an answer gives
 abbrev pub derivations_by : Target → Answer → List Derivation
 derivations_by g (Found node premises bound) = record { keys = keys_asked g; node = node; premises = premises; bound = bound } ∷ []
 derivations_by g (Lacks why) = []
 
--- what a node makes over bounds, where it composes this bound: the bound rewritten, where it is small; else there is
--- none, as the large bound has this many nodes
+-- the answer for a node over bounds that composes this bound: the rewritten bound, if it is small; else none, as the
+-- large bound has this many nodes
 abbrev pub Composes : Setting → Bounds → Node → Bound → Answer → Type 0
 Composes s b node whole (Found n premises bound) = IsSmallComposed s.rewrite whole × (n ≡ node)
     × (premises ≡ needs_of s b node) × (bound ≡ s.rewrite whole)
@@ -59,7 +59,7 @@ TellsRanking s b (Ranked node) a = Composes s b (RankBy node) (rank_time s node 
 TellsRanking s b (Unranked g) a = a ≡ Lacks (OfTime (NoFunction g))
 TellsRanking s b (RankTripped t) a = a ≡ Lacks (OfTime (TimeTripped t))
 
--- and that of an answer about a component
+-- the answer to the outcome for a component
 abbrev pub TellsSizing : Setting → Bounds → SizeOutcome → Answer → Type 0
 TellsSizing s b (SizedBy node) a = a ≡ Found node (needs_of s b node) (composed_bound s b node)
 TellsSizing s b (Unsized why) a = a ≡ Lacks (OfSize why)

@@ -1,4 +1,4 @@
--- The finds before the first round: rules that never run.
+-- The derivations before the first round: those of dead rules.
 use Rattle.std.specs.Prelude.{◌≡◌, ◌↔◌, ℕ, ◌&&◌, not, nat_lt, Bool, true, false, cond, List, [], ◌∷◌, ◌++◌, filter, map}
 use Rattle.std.specs.Prelude.{Option, Some, None}
 use Rattle.rule_questions.specs.model.Programs.{Program, arity_of}
@@ -37,7 +37,7 @@ never_derivation p t = record {
   bound = Constant 0;
 }
 
--- a find for each of these rules, which are empty, in order
+-- a derivation for each of these infeasible rules, in order
 abbrev pub AreEmptyDerivations : Searches → List ℕ → List Derivation → Type 0
 AreEmptyDerivations q [] fs = fs ≡ []
 AreEmptyDerivations q (t ∷ ts) fs = (multipliers : List ℕ) × q.Empties t (NoPoint multipliers)
@@ -60,16 +60,16 @@ abbrev pub zeroed : Program → (ℕ → Bool) → (ℕ → Bool) → List ℕ
 zeroed p is_empty is_unreached =
     filter (λ t. has_places p (target_of p t)) (filter (is_dead is_empty is_unreached) (rule_numbers p))
 
--- the finds before the first round, where those of the empty rules are these: then the times of the other rules that
--- are unreached, with all empty ones as premises, and then the sizes of both; each in the order of rules
+-- the derivations before the first round, given those of the infeasible rules: then the times of the other rules that
+-- are unreached, with all infeasible ones as premises, and then the sizes of both; each in the order of rules
 abbrev pub first_derivations : Program → (ℕ → Bool) → (ℕ → Bool) → List Derivation → List Derivation
 first_derivations p is_empty is_unreached empties = empties
     ++ (map (unreached_derivation (map time_key (filter is_empty (rule_numbers p))))
     (filter (is_cut is_empty is_unreached) (rule_numbers p))
     ++ map (never_derivation p) (zeroed p is_empty is_unreached))
 
--- the finds before the first round: a rule is empty where its rows have no point, and unreached where no path of rules
--- that aren't empty leads to its source
+-- the derivations before the first round: a rule is infeasible if its rows have no point, and unreached if no path of
+-- feasible rules leads to its source
 pub record AreFirst (q : Searches) (p : Program) (fs : List Derivation) : Type 0 where
   pub is_empty : ℕ → Bool
   pub empty : (t : ℕ) → IsRule p t → (is_empty t ≡ true) ↔ IsEmpty q t

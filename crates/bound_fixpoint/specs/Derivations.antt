@@ -1,5 +1,5 @@
--- Finds, one after the other: the list of finds is all the state of the rounds. Known bounds, and the numbers of
--- lemmas, are read off it.
+-- Lists of derivations: such a list is the whole state of the rounds. Known bounds, and the numbers of lemmas, are
+-- read off it.
 use Rattle.std.specs.Prelude.{ℕ, zero, suc, cond, List, [], ◌∷◌, map, Option, Some, None}
 use Rattle.rule_questions.specs.model.Programs.{Program}
 use Rattle.rule_questions.specs.model.Bounds.{Bound}
@@ -19,8 +19,8 @@ pub data Node : Type 0 where
   SpreadBy : Member → Node
   CycleBy : List Member → Node
 
--- what was found: for these keys, which all get one bound, a node; the keys of the bounds that it needs, in the order
--- in which it needs them; and the bound that it composes of these
+-- a derivation: the keys that get one bound; the proof node; the keys of the bounds that are its premises, in the
+-- order of use; and the bound composed of these
 pub record Derivation : Type 0 where
   pub keys : List ResultVariable
   pub node : Node
@@ -50,21 +50,21 @@ abbrev pub first_of : Option Bound → Option Bound → Option Bound
 first_of None b = b
 first_of (Some a) b = Some a
 
--- all that is known with these finds: the bounds of the virtual entry, and those that were found
+-- all bounds known after these derivations: those of the virtual entry, and those derived
 abbrev pub bounds_of : Program → List Derivation → Bounds
 bounds_of p fs t i = first_of (start_bounds p t i) (bound_found fs t i)
 
--- the number of the first find with a key, where this many finds come before; 0 where none has it
+-- the number of the first derivation with a key, if this many derivations come before; 0 if none has it
 abbrev pub number_from : ℕ → List Derivation → ℕ → ℕ → ℕ
 number_from n [] t i = 0
 number_from n (f ∷ fs) t i = cond (has_key f.keys t i) (suc n) (number_from (suc n) fs t i)
 
--- the number of the lemma that states the bound of a key: lemmas are numbered from 1 in the order of finds, and number
--- 0 stands for the virtual entry
+-- the number of the lemma that states the bound of a key: lemmas are numbered from 1 in the order of derivations, and
+-- 0 is the number of the virtual entry
 abbrev pub number_in : List Derivation → ℕ → ℕ → ℕ
 number_in fs zero i = 0
 number_in fs (suc t) i = number_from 0 fs (suc t) i
 
--- the facts that a find states
+-- the facts that a derivation states
 abbrev pub facts_of_derivation : Derivation → List Fact
 facts_of_derivation f = map (λ k. fact_at k f.bound) f.keys

@@ -34,7 +34,7 @@ abbrev pub place_fact : ℕ → ℕ → Bound → Fact
 place_fact t zero b = Time t b
 place_fact t (suc i) b = Size t (suc i) b
 
--- and at a key
+-- the fact that the bound of a key is b
 abbrev pub fact_at : ResultVariable → Bound → Fact
 fact_at k b = place_fact k.rule k.place b
 
@@ -67,7 +67,7 @@ pub record IsPlace (p : Program) (t i : ℕ) : Type 0 where
   pub least : 1 ≤ i
   pub last : i ≤ arity_of p symbol
 
--- what is known at first: the virtual entry occurs once, and its places have the sizes of the start arguments
+-- the bounds known initially: the virtual entry occurs once, and its places have the sizes of the start arguments
 abbrev pub start_size : ℕ → ℕ → Option Bound
 start_size arity zero = Some (Constant 1)
 start_size arity (suc j) = cond (nat_lt j arity) (Some (Input j)) None

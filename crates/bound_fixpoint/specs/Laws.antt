@@ -1,5 +1,6 @@
--- Laws of finds and of rounds: justified finds give accepted lemmas, which state them and hold on all runs; what rounds
--- find is justified; rounds end, with one list of finds; and each missing bound has one reason.
+-- Laws of derivations and of rounds: justified derivations give accepted lemmas, which state them and hold on all
+-- runs; the derivations of rounds are justified; rounds end, with one list of derivations; and each missing bound has
+-- one reason.
 use Rattle.std.specs.Prelude.{◌≡◌, ◌⊎◌, ℕ, ◌+◌, ◌<◌, true, List, [], ◌∷◌, ◌++◌, map, Some, None}
 use Rattle.std.specs.List.{All, count_by, Contains}
 use Rattle.rule_questions.specs.model.Programs.{Program}
@@ -23,7 +24,7 @@ use Rattle.bound_fixpoint.specs.Beginning.{AreFirst}
 use Rattle.bound_fixpoint.specs.Rounds.{IsRound, IsMade, IsClosed, IsLast, IsNoBound}
 use Rattle.bound_fixpoint.specs.Right.{AreRight}
 
--- the lemmas of justified finds are accepted, and each states what its find does
+-- the lemmas of justified derivations are accepted, and each states the facts of its derivation
 pub record StandingDerivationsHaveLemmas : Type 0 where
   pub accepted : (s : Setting) (fs : List Derivation) → AllStand s fs → AcceptsLemmas s (lemmas_of fs)
   pub stated : (s : Setting) (fs : List Derivation) → AllStand s fs
@@ -42,8 +43,8 @@ pub record NodesAreAccepted : Type 0 where
       → facts_of s past (lemma_by number node premises)
       ≡ map (λ k. fact_at k (composed_bound s b node)) (keys_of s.program node)
 
--- a bound that was found is a fact of the lemma whose number its key has; only one find states the bound of a key,
--- which is the known one; and the lemmas of justified finds state all that is known with them
+-- a derived bound is a fact of the lemma with its key's number; only one derivation states the bound of a key, which
+-- is the known one; and the lemmas of justified derivations state all known bounds
 pub record DerivationsAreNumbered : Type 0 where
   pub each : (s : Setting) (fs : List Derivation) → AllStand s fs → (t i : ℕ) (b : Bound) → IsRule s.program t
       → bounds_of s.program fs t i ≡ Some b
@@ -53,12 +54,12 @@ pub record DerivationsAreNumbered : Type 0 where
   pub say : (s : Setting) (fs : List Derivation) → AllStand s fs
       → SayBounds s (facts_of_lemmas s (lemmas_of fs)) (number_in fs) (bounds_of s.program fs) (bounds_of s.program fs)
 
--- every bound that is known with justified finds holds on all runs
+-- every bound that justified derivations give holds on all runs
 pub record StandingDerivationsHold : Type 0 where
   pub each : (s : Setting) → IsFaithful s → (fs : List Derivation) → AllStand s fs → (t i : ℕ) (b : Bound)
       → bounds_of s.program fs t i ≡ Some b → Holds s.program (place_fact t i b)
 
--- what rounds find is justified, where the answers of the searches are right
+-- the derivations of rounds are justified, if the answers of the searches are right
 pub record MadeDerivationsStand : Type 0 where
   pub each : (a : Answers) (s : Setting) → AreRight (searches_of a) s → (fs : List Derivation)
       → IsMade (searches_of a) s fs → AllStand s fs
@@ -75,15 +76,15 @@ all_unsized p b (t ∷ ts) = unsized p b t + all_unsized p b ts
 abbrev pub missing : Program → Bounds → ℕ
 missing p b = count_by (λ t. lacks (b t 0)) (rule_numbers p) + all_unsized p b (rule_numbers p)
 
--- rounds end: each finds a bound that was missing, or it finds nothing. So there are no more rounds than bounds missing
--- with the first finds, and one
+-- rounds end: each derives a bound that was missing, or nothing. So there is at most one round more than bounds
+-- missing after the initial derivations
 pub record RoundsEnd : Type 0 where
   pub each : (a : Answers) (s : Setting) (fs more : List Derivation) → IsRound (searches_of a) s fs more
       → (missing s.program (bounds_of s.program (fs ++ more)) < missing s.program (bounds_of s.program fs))
       ⊎ (more ≡ [])
 
--- where a round finds nothing new each missing time of a rule has a reason, and so has each missing size of a place in
--- a component; and with the last finds each missing size of a place after a rule has one
+-- where a round derives nothing, each missing time of a rule has a reason, and so has each missing size of a place in
+-- a component; and with the last derivations each missing size of a place after a rule has one
 pub record MissingBoundsHaveReasons : Type 0 where
   pub times : (a : Answers) (s : Setting) (fs : List Derivation) → IsClosed (searches_of a) s fs → (t : ℕ)
       → IsRule s.program t → bounds_of s.program fs t 0 ≡ None
@@ -95,8 +96,8 @@ pub record MissingBoundsHaveReasons : Type 0 where
       → IsRule s.program t → IsPlace s.program t i → bounds_of s.program fs t i ≡ None
       → (why : NoBound) × IsNoBound (searches_of a) s fs t i why
 
--- rounds make one last list of finds; a time that is missing has one reason, and so has a size where no place is in two
--- components
+-- there is at most one last list of derivations; a missing time has one reason, and so has a missing size, if no place
+-- is in two components
 pub record LastDerivationsAreOne : Type 0 where
   pub last : (a : Answers) (s : Setting) (x y : List Derivation) → IsLast (searches_of a) s x → IsLast (searches_of a) s y
       → x ≡ y
@@ -105,8 +106,8 @@ pub record LastDerivationsAreOne : Type 0 where
   pub size : (a : Answers) (s : Setting) → AreApart a.components → (fs : List Derivation) (t i : ℕ) (v w : NoBound)
       → IsNoBound (searches_of a) s fs t i v → IsNoBound (searches_of a) s fs t i w → v ≡ w
 
--- there are first finds; where the components are those of the places of live rules, there is a round over each list of
--- finds; and there is a last one
+-- there are initial derivations; if the components are those of the places of live rules, there is a round over each
+-- list of derivations; and there is a last list
 pub record LastDerivationsExist : Type 0 where
   pub first : (a : Answers) (s : Setting) → (fs : List Derivation) × AreFirst (searches_of a) s.program fs
   pub next : (a : Answers) (s : Setting) → AreComponentsOf (searches_of a) s.program a.components → (fs : List Derivation)
@@ -118,8 +119,8 @@ pub record LastDerivationsExist : Type 0 where
 abbrev pub AreUniform : Bounds → List ResultVariable → Type 0
 AreUniform b keys = (t i u j : ℕ) → has_key keys t i ≡ true → has_key keys u j ≡ true → b t i ≡ b u j
 
--- where the components are those of the places of live rules, the members of each have one size or none with all finds
--- that rounds make
+-- if the components are those of the places of live rules, then in every list of derivations that rounds make the
+-- members of each component have one size, or none
 pub record ComponentsAreUniform : Type 0 where
   pub each : (a : Answers) (s : Setting) → AreComponentsOf (searches_of a) s.program a.components → (fs : List Derivation)
       → IsMade (searches_of a) s fs → (keys : List ResultVariable) → IsOneOf a.components keys

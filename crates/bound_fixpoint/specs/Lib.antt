@@ -1,4 +1,4 @@
--- bounds by key, finds, the premises of a find, when finds are justified, and which facts state bounds
+-- Bounds by key, derivations, their premises, when they are justified, and which facts state bounds.
 pub mod Keys
 pub mod Derivations
 pub mod Needs
@@ -8,7 +8,7 @@ pub mod Stated
 pub mod Sets
 pub mod Searches
 pub mod Answers
--- what is found before the first round, and in each
+-- the derivations before the first round, and those of each round
 pub mod Components
 pub mod Beginning
 pub mod Rounds
@@ -17,7 +17,7 @@ pub mod Loops
 pub mod Right
 -- laws
 pub mod Laws
--- what was worked out by hand
+-- worked values
 pub mod WorkedDerivations
 pub mod WorkedSets
 pub mod WorkedStanding

@@ -7,7 +7,8 @@ use Rattle.rule_questions.specs.cert_rules.Nodes.{Member}
 use Rattle.rule_questions.specs.cert_rules.ComposedSizes.{poly_at, reads}
 use Rattle.rule_questions.specs.cert_rules.Setting.{Setting}
 
--- a member reads one: that one's rule can come just before its own, and one of its arms reads that place
+-- a member reads another one: the other one's rule can come just before its own, and one of its side bounds reads that
+-- place
 abbrev pub reads_member : Setting → Member → Member → Bool
 reads_member s n m = is_in m.result_variable.rule (pre s.program n.result_variable.rule)
     && (reads (poly_at s n.result_variable) n.local.up (m.result_variable.place - 1)

@@ -19,8 +19,8 @@ abbrev pub read_places : ℕ → List ℤ → List ℕ
 read_places i [] = []
 read_places i (c ∷ cs) = cond (is_zero c) (read_places (suc i) cs) (i ∷ read_places (suc i) cs)
 
--- what a ranking function needs of an entry: its time, and then its sizes at the places that the function reads after
--- it
+-- the premises of a ranking function at an entry: the entry's time, and then its sizes at the places that the function
+-- reads after it
 abbrev pub entry_premises : Program → RankNode → ℕ → List ResultVariable
 entry_premises p node e =
     time_key e ∷ map (λ i. key e i) (read_places 1 (rank_form node.forms (target_of p e)).coefs)
@@ -29,16 +29,17 @@ abbrev pub premises_of_all : Program → RankNode → List ℕ → List ResultVa
 premises_of_all p node [] = []
 premises_of_all p node (e ∷ es) = entry_premises p node e ++ premises_of_all p node es
 
--- what a ranking node needs: this of each entry of its set, ascending
+-- the premises of a ranking node: those at each entry of its set, ascending
 abbrev pub rank_premises : Program → RankNode → List ResultVariable
 rank_premises p node = premises_of_all p node (entries p node.set)
 
--- what a spread needs: the sizes that its arms read, after each rule that can come before, up before low
+-- the premises of a spread node: the sizes that its side bounds read, after each rule that can come before, up before
+-- low
 abbrev pub spread_premises : Setting → Member → List ResultVariable
 spread_premises s m = needed_into s [] (m ∷ [])
 
--- what a loop needs: the sizes that its arms read outside of it, member by member, and then the times of the rules that
--- multiply or add
+-- the premises of a loop node: the sizes that its side bounds read outside the loop, member by member, and then the
+-- times of the rules that multiply or add
 abbrev pub cycle_premises : Setting → Table → List Member → List ResultVariable
 cycle_premises s tab members = needed_into s members members ++ map time_key (needed_times s tab members)
 
@@ -74,7 +75,7 @@ uses_from ns =
 abbrev pub uses_for : (ℕ → ℕ → ℕ) → List ResultVariable → Proofs
 uses_for number premises = uses_from (map (λ k. number k.rule k.place) premises)
 
--- the lemma of a find
+-- the lemma of a derivation
 abbrev pub lemma_by : (ℕ → ℕ → ℕ) → Node → List ResultVariable → Proof
 lemma_by number (EmptyBy t multipliers) premises = Empty t multipliers
 lemma_by number (UnreachedBy t) premises = Unreached t (uses_for number premises)
@@ -83,6 +84,6 @@ lemma_by number (RankBy node) premises = Rank node (uses_for number premises)
 lemma_by number (SpreadBy m) premises = Spread m (uses_for number premises)
 lemma_by number (CycleBy members) premises = Cycle members (uses_for number premises)
 
--- a lemma for each find, in order
+-- a lemma for each derivation, in order
 abbrev pub lemmas_of : List Derivation → List Proof
 lemmas_of fs = map (λ f. lemma_by (number_in fs) f.node f.premises) fs

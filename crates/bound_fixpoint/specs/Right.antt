@@ -54,29 +54,30 @@ pub record IsGapOf (s : Setting) (set : List ℕ) (t : ℕ) (shut : List SymbolP
   pub holds : GapHolds s.program (forms_at s.program) g
   pub none : NoRank (ranked_set s.program set t shut)
 
--- the emptiness question of a rule trips
+-- the feasibility question of a rule hits a limit
 abbrev pub EmptyTrips : Searches → ℕ → Type 0
 EmptyTrips q t = (x : LimitHit) × q.Empties t (EmptyTripped x)
 
--- the emptiness question of no rule of the set trips
+-- the feasibility question of no rule of the set hits a limit
 abbrev pub NoneTrips : Searches → List ℕ → Type 0
 NoneTrips q set = (u : ℕ) → is_in u set ≡ true → ¬ (EmptyTrips q u)
 
--- the trip is that of the first rule of the set whose emptiness question trips
+-- the limit hit is that of the first rule of the set whose feasibility question hits a limit
 abbrev pub IsFirstLimitHit : Searches → List ℕ → LimitHit → Type 0
 IsFirstLimitHit q [] x = ⊥
 IsFirstLimitHit q (t ∷ ts) x = q.Empties t (EmptyTripped x) ⊎ ((¬ (EmptyTrips q t)) × IsFirstLimitHit q ts x)
 
--- what is right of an answer about a rule's emptiness: multipliers are accepted, a point is one of the rule's rows, and
--- a trip is that of this question
+-- an answer about a rule's feasibility is right: multipliers are accepted, a point is one of the rule's rows, and a
+-- limit hit is that of this question
 abbrev pub IsRightEmptiness : Setting → ℕ → Emptiness → Type 0
 IsRightEmptiness s t (NoPoint m) = AcceptsEmpty s t m
 IsRightEmptiness s t (HasPoint z) = IsPoint (s.rows t) (at z.parts) (pos z.den)
 IsRightEmptiness s t (EmptyTripped x) = x.question ≡ asked.Empty t
 
--- when an answer to a rank question is right: a function ranks the rule over exactly this set with coefficient 0 at
--- every shut place; a gap is of exactly this question, which no function answers, and no emptiness question of the set
--- trips; and a trip is that of this question, or of the first rule of the set whose emptiness question trips
+-- an answer to a ranking question is right: a function ranks the rule over exactly this set with coefficient 0 at
+-- every shut place; a gap is that of exactly this question, which no function answers, and no feasibility question of
+-- the set hits a limit; and a limit hit is that of this question, or of the first rule of the set whose feasibility
+-- question hits one
 abbrev pub IsRightRanking : Searches → Setting → List ℕ → ℕ → List SymbolPlace → Ranking → Type 0
 IsRightRanking q s set t shut (Ranked node) = IsRanking s set t shut node
 IsRightRanking q s set t shut (Unranked g) = IsGapOf s set t shut g × NoneTrips q set
@@ -108,8 +109,8 @@ abbrev pub MovesTo : Side → ℤ → Type 0
 MovesTo Up v = pos 0 <ℤ v
 MovesTo Low v = v <ℤ pos 0
 
--- a place whose update isn't a polynomial over left variables is loose on a side: along a ray of the rule's rows, on
--- which no left argument moves, the new value moves to that side; and the rows have a point
+-- a place whose update isn't a polynomial over left variables is unbounded on a side: along a ray of the rule's rows
+-- that changes no left argument, the new value moves to that side; and the rows have a point
 pub record IsUnboundedAt (s : Setting) (m : ResultVariable) (side : Side) (ray : List ℤ) (kept : ScaledPoint) : Type 0 where
   pub asked : ¬ (IsPolynomialUpdate s m)
   pub along : IsRay (s.rows m.rule) (at ray)
@@ -139,14 +140,15 @@ pub record FailsTogether (s : Setting) (b : Bounds) (keys : List ResultVariable)
   pub loop : do_loop s all ≡ true
   pub first : IsFirstAmong (cycle_checks s (over b) all) r
 
--- with arms for each member that are accepted the checks of the node go wrong, and this is the first of them: a size
--- from outside is missing, an arm reads a member by a polynomial, a rule has no time, or the bound is large
+-- with accepted side bounds for each member a check of the node fails, and this is the first one: a size from outside
+-- is missing, a side bound reads a member by a polynomial, a rule has no time, or the bound is too large
 abbrev pub IsFirstCause : Setting → Bounds → List ResultVariable → NoSize → Type 0
 IsFirstCause s b keys why =
     (r : Reason) × IsReasonFor why r × (FailsAlone s b keys r ⊎ FailsTogether s b keys r)
 
--- why members have no size: the place of one of them is loose, as a ray shows, or one of its linear programs, or that
--- of its rule's emptiness, tripped; or the first cause; which of them comes first the searches say
+-- the reason why members have no size: one of them is unbounded, as a ray shows; or one of its linear programs, or
+-- that of its rule's feasibility, hit a limit; or the first failed check; the searches determine which of these is
+-- reported
 abbrev pub IsCause : Setting → Bounds → List ResultVariable → NoSize → Type 0
 IsCause s b keys (SizeTripped t) = (m : ResultVariable) × (has_key keys m.rule m.place ≡ true)
     × ((t.question ≡ asked.Local m.rule m.place) ⊎ (t.question ≡ asked.Empty m.rule))
@@ -157,7 +159,7 @@ IsCause s b keys (SizeNonlinear m) = IsFirstCause s b keys (SizeNonlinear m)
 IsCause s b keys (SizeUntimed t) = IsFirstCause s b keys (SizeUntimed t)
 IsCause s b keys (SizeLarge n) = IsFirstCause s b keys (SizeLarge n)
 
--- what is right of an answer about a component
+-- an answer about a component is right
 abbrev pub IsRightSizing : Setting → Bounds → List ResultVariable → SizeOutcome → Type 0
 IsRightSizing s b keys (SizedBy node) = IsSizingOf s b keys node
 IsRightSizing s b keys (Unsized why) = IsCause s b keys why

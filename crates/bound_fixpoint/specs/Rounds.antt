@@ -1,4 +1,4 @@
--- Rounds: what each finds over what was found before, up to the first round that finds nothing new.
+-- Rounds: the derivations of each over those before, up to the first round that derives nothing.
 use Rattle.std.specs.Prelude.{◌≡◌, ℕ, zero, suc, true, false, List, [], ◌∷◌, ◌++◌, map, None}
 use Rattle.rule_questions.specs.cert_rules.Nodes.{ResultVariable}
 use Rattle.rule_questions.specs.cert_rules.AcceptsPlain.{IsRule}
@@ -10,7 +10,8 @@ use Rattle.bound_fixpoint.specs.Answers.{Target, TimeOf, SizesOf, is_open, Answe
 use Rattle.bound_fixpoint.specs.Components.{AreComponentsOf, IsOneOf}
 use Rattle.bound_fixpoint.specs.Beginning.{AreFirst}
 
--- a target was queried over these finds if a bound of it was missing, and the results of the searches are what is found
+-- a target was queried over these derivations if a bound of it was missing, and the results of the searches are the
+-- new derivations
 pub record Tries (q : Searches) (s : Setting) (fs : List Derivation) (g : Target) (more : List Derivation) : Type 0 where
   pub known : is_open (bounds_of s.program fs) g ≡ false → more ≡ []
   pub tried : is_open (bounds_of s.program fs) g ≡ true
@@ -21,7 +22,7 @@ pub data Manner : Type 0 where
   Together : Manner
   InTurn : Manner
 
--- what is known to the next
+-- the derivations known to the next query
 abbrev pub known_next : Manner → List Derivation → List Derivation → List Derivation
 known_next Together fs more = fs
 known_next InTurn fs more = fs ++ more
@@ -44,16 +45,16 @@ pub record IsRound (q : Searches) (s : Setting) (fs more : List Derivation) : Ty
   pub sized : TriesAll q s InTurn (fs ++ times) (map SizesOf components) sizes
   pub all : more ≡ times ++ sizes
 
--- the finds after any number of rounds
+-- the derivations after any number of rounds
 pub data IsMade (q : Searches) (s : Setting) : List Derivation → Type 0 where
   Begun : {fs : List Derivation} → AreFirst q s.program fs → IsMade q s fs
   Made : {fs more : List Derivation} → IsMade q s fs → IsRound q s fs more → IsMade q s (fs ++ more)
 
--- a round over these finds finds nothing new
+-- a round over these derivations derives nothing
 abbrev pub IsClosed : Searches → Setting → List Derivation → Type 0
 IsClosed q s fs = IsRound q s fs []
 
--- the last finds: they are made by rounds, and a further one finds nothing new
+-- the last derivations: they are made by rounds, and a further round derives nothing
 pub record IsLast (q : Searches) (s : Setting) (fs : List Derivation) : Type 0 where
   pub made : IsMade q s fs
   pub closed : IsClosed q s fs
@@ -66,7 +67,7 @@ IsAskedFor q s t (suc i) (TimeOf u) = ⊥
 IsAskedFor q s t (suc i) (SizesOf keys) = (components : List (List ResultVariable)) × q.AreComponents components
     × IsOneOf components keys × (has_key keys t (suc i) ≡ true)
 
--- why a key has no bound with these finds: the result of the searches on its target
+-- the reason why a key has no bound with these derivations: the result of the searches on its target
 pub record IsNoBound (q : Searches) (s : Setting) (fs : List Derivation) (t i : ℕ) (why : NoBound) : Type 0 where
   pub missing : bounds_of s.program fs t i ≡ None
   pub target : Target

@@ -19,13 +19,13 @@ pub data Emptiness : Type 0 where
   HasPoint : ScaledPoint → Emptiness
   EmptyTripped : LimitHit → Emptiness
 
--- which function ranks a rule over a set: one, or none, with a gap, or a linear program exceeded a limit
+-- the outcome of a ranking question: a function, a gap if there is none, or a limit that a linear program hit
 pub data Ranking : Type 0 where
   Ranked : RankNode → Ranking
   Unranked : Gap → Ranking
   RankTripped : LimitHit → Ranking
 
--- which node gives all members of a component their size, or why they have none
+-- the outcome for a component: the node that gives its members their size, or why they have none
 pub data SizeOutcome : Type 0 where
   SizedBy : Node → SizeOutcome
   Unsized : NoSize → SizeOutcome
@@ -45,7 +45,7 @@ pub record Answers : Type 0 where
   pub components : List (List ResultVariable)
   pub size : Bounds → List ResultVariable → SizeOutcome
 
--- as relations
+-- the answers as relations
 abbrev pub searches_of : Answers → Searches
 searches_of a = record {
   Empties = λ t e. a.empty t ≡ e;

@@ -1,4 +1,4 @@
--- When finds are justified: each is accepted over bounds that earlier finds give.
+-- When derivations are justified: each is accepted over bounds that earlier derivations give.
 use Rattle.std.specs.Prelude.{◌≡◌, ℕ, not, Bool, List, [], ◌∷◌, ◌++◌, Some, None, ⊤}
 use Rattle.std.specs.List.{All}
 use Rattle.rule_questions.specs.model.Programs.{Program}
@@ -56,8 +56,8 @@ ArePremises s b (RankBy node) premises = premises ≡ needs_of s b (RankBy node)
 ArePremises s b (SpreadBy m) premises = premises ≡ needs_of s b (SpreadBy m)
 ArePremises s b (CycleBy members) premises = premises ≡ needs_of s b (CycleBy members)
 
--- a find is justified over bounds: its keys are those of its node, which is accepted over the bounds; its premises are
--- those of the node, and all are known; and its bound is the one that the node composes
+-- a derivation is justified over bounds: its keys are those of its node, which is accepted over the bounds; its
+-- premises are those of the node, and all are known; and its bound is the one that the node composes
 pub record Stands (s : Setting) (b : Bounds) (f : Derivation) : Type 0 where
   pub keys : f.keys ≡ keys_of s.program f.node
   pub accepted : AcceptsOver s b f.node f.premises
@@ -65,13 +65,13 @@ pub record Stands (s : Setting) (b : Bounds) (f : Derivation) : Type 0 where
   pub known : All (λ k. IsKnown (at_key b k)) f.premises
   pub bound : f.bound ≡ composed_bound s b f.node
 
--- finds with which others begin
+-- a list of derivations is a prefix of another
 pub record IsBeginning (before fs : List Derivation) : Type 0 where
   pub between : List Derivation
   pub same : before ++ between ≡ fs
 
--- a find is justified after earlier ones: it is justified over what is known with some first ones of these, and none of
--- its keys is known with all of them
+-- a derivation is justified after earlier ones: it is justified over the bounds of some prefix of these, and none of
+-- its keys is known after all of them
 pub record StandsAfter (s : Setting) (earlier : List Derivation) (f : Derivation) : Type 0 where
   pub before : List Derivation
   pub begins : IsBeginning before earlier
@@ -83,6 +83,6 @@ abbrev pub StandAfter : Setting → List Derivation → List Derivation → Type
 StandAfter s earlier [] = ⊤
 StandAfter s earlier (f ∷ fs) = StandsAfter s earlier f × StandAfter s (earlier ++ f ∷ []) fs
 
--- all finds of a list are justified
+-- all derivations of a list are justified
 pub record AllStand (s : Setting) (fs : List Derivation) : Type 0 where
   pub each : StandAfter s [] fs

@@ -55,7 +55,7 @@ pub record RightSizesAreWorkedOut : Type 0 where
   pub not_a_loop : ¬ (IsRightSizing counting nothing_known (key 1 1 ∷ []) (SizedBy (CycleBy (entered_member ∷ []))))
   pub of_nothing : (b : Bounds) (answer : SizeOutcome) → ¬ (IsRightSizing counting b [] answer)
 
--- at first both times and both sizes are missing, and each find takes its own away. Places are uniform where all have
+-- at first both times and both sizes are missing, and each derivation removes its own. Places are uniform if all have
 -- one bound, or none has one
 pub record MissingIsWorkedOut : Type 0 where
   pub at_first : missing counting.program nothing_known ≡ 4

@@ -1,6 +1,6 @@
--- Worked values of what is found before the first round: where two rules are found empty, where one that is unreached
--- is empty too, where all emptiness questions trip, and where a rule leads to no place; and of finds of programs with
--- an empty rule that are justified, or aren't.
+-- Worked values of the derivations before the first round: with two infeasible rules; with an unreached rule that is
+-- infeasible too; with feasibility questions that all hit a limit; and with a rule whose target has no places; and
+-- which derivations are justified in programs with an infeasible rule.
 use Rattle.std.specs.Prelude.{◌≡◌, ℕ, zero, suc, List, [], ◌∷◌, pos, negsuc, None}
 use Rattle.rule_questions.specs.model.Terms.{Literal, Variable}
 use Rattle.rule_questions.specs.model.Programs.{AtLeast, Compare, Rule, Program}
@@ -47,7 +47,7 @@ six_derivations =
     empty_derivation 1 [] ∷ empty_derivation 2 [] ∷ unreached_derivation (time_key 1 ∷ time_key 2 ∷ []) 3 ∷
     never_derivation two_ways_in 1 ∷ never_derivation two_ways_in 2 ∷ never_derivation two_ways_in 3 ∷ []
 
--- the same, where the loop has only one of them as a premise
+-- these derivations, where the loop has only one of the infeasible rules as a premise
 abbrev pub six_on_one : List Derivation
 six_on_one =
     empty_derivation 1 [] ∷ empty_derivation 2 [] ∷ unreached_derivation (time_key 1 ∷ []) 3 ∷
@@ -97,8 +97,9 @@ cut_short = record {
   below = zero_below;
 }
 
--- an unreached rule has all empty rules as premises, as its lemma cites them; one that is empty too is only empty; a
--- rule whose emptiness question tripped may run; and a rule without places after it has no find for their sizes
+-- an unreached rule has all infeasible rules as premises, as its lemma cites them; one that is infeasible too counts
+-- only as infeasible; a rule whose feasibility question hit a limit may run; and a rule whose target has no places has
+-- no derivation for sizes
 pub record BeginningsAreWorkedOut : Type 0 where
   pub two_empty : AreFirst (searches_of (empty_answers first_two_empty)) two_ways_in six_derivations
   pub not_on_one : ¬ (AreFirst (searches_of (empty_answers first_two_empty)) two_ways_in six_on_one)
@@ -113,9 +114,9 @@ pub record BeginningsAreWorkedOut : Type 0 where
   pub no_place : AreFirst (searches_of cut_off) leaving (empty_derivation 1 [] ∷ [])
   pub not_without_place : ¬ (AreFirst (searches_of cut_off) leaving (empty_derivation 1 [] ∷ never_derivation leaving 1 ∷ []))
 
--- the time of an empty rule is justified by multipliers that certify it and by no others, and then so are the sizes
--- after it; after a rule whose time isn't 0 they aren't. A rule that is unreached without an empty one is justified
--- behind that one, which is its premise
+-- the time of an infeasible rule is justified by multipliers that certify it and by no others, and then so are the
+-- sizes after it; after a rule whose time isn't 0 they aren't. A rule that is unreached without an infeasible one is
+-- justified after that one, which is its premise
 pub record EmptyDerivationsAreWorkedOut : Type 0 where
   pub stand : AllStand stuck (empty_derivation 2 (1 ∷ 1 ∷ []) ∷ never_derivation stuck.program 2 ∷ [])
   pub not_shown : ¬ (AllStand stuck (empty_derivation 2 (1 ∷ 0 ∷ []) ∷ []))

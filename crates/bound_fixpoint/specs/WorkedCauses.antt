@@ -23,9 +23,9 @@ sizes_alone t (suc i) = Some (Input 0)
 abbrev pub origin : ℕ → ScaledPoint
 origin den = record { parts = []; den = den }
 
--- the size of a place of a loop is no reason for itself. What is guessed is loose up along the free variable alone, and
--- not down, nor along A, nor from a point without a denominator; a square of what comes before is never loose. A loop
--- that doubles lacks the time of its rule, and one that squares is bent
+-- the size of a loop's place is no reason for itself. The unknown value is unbounded up along the free variable alone,
+-- not down, nor along A, nor from a point without a denominator; a square of the values before is never unbounded. A
+-- loop that doubles lacks the time of its rule, and one that squares is nonlinear
 pub record RightCausesAreWorkedOut : Type 0 where
   pub not_its_own : ¬ (IsRightSizing counting entered_known (key 2 1 ∷ []) (Unsized (SizeMissing (key 2 1))))
   pub unbounded :

@@ -62,9 +62,9 @@ seven keys = record { keys = keys; node = NeverBy 1; premises = []; bound = Cons
 abbrev pub both_keys : Derivation
 both_keys = seven (time_key 1 ∷ key 1 1 ∷ [])
 
--- with no finds the virtual entry alone is known: its time, and the size at its only place. The first find of a key
--- counts, and no find takes the place of the virtual entry. A key has the number of its first find, counted from 1;
--- what isn't found has 0, as the virtual entry has
+-- without derivations only the virtual entry has bounds: its time, and the size at its only place. The first
+-- derivation of a key counts, and none replaces the bounds of the virtual entry. A key has the number of its first
+-- derivation, counted from 1; a key without one has 0, as the virtual entry has
 pub record DerivationsAreReadOff : Type 0 where
   pub entry_time : bounds_of counting.program [] 0 0 ≡ Some (Constant 1)
   pub entry_size : bounds_of counting.program [] 0 1 ≡ Some (Input 0)
@@ -81,8 +81,8 @@ pub record DerivationsAreReadOff : Type 0 where
   pub no_number : number_in (once_derivation ∷ both_keys ∷ []) 2 0 ≡ 0
   pub entry_number : number_in (seven (time_key 0 ∷ []) ∷ []) 0 0 ≡ 0
 
--- place 0 is the time, and no place of a size; a key is its rule and its place; a find states its bound for each of its
--- keys, and these are the keys of its node
+-- place 0 is the time, and no place of a size; a key is its rule and its place; a derivation states its bound for each
+-- of its keys, and these are the keys of its node
 pub record KeysAreWorkedOut : Type 0 where
   pub time : place_fact 2 0 (Constant 7) ≡ Time 2 (Constant 7)
   pub size : place_fact 2 1 (Constant 7) ≡ Size 2 1 (Constant 7)
@@ -113,10 +113,10 @@ value_over set = record {
   floor = [];
 }
 
--- over rule 2 alone rule 1 is the entry, whose time and size are premises; over both it is the virtual entry, after
--- which the function reads nothing. Both arms of rule 1 read the value before it; of rule 2 only the up arm reads, and
--- nothing is added, so its time is no premise; where the loop doubles, both arms read, and the time of its rule comes
--- last. The virtual entry comes first, whatever is needed first, and no lemma is cited twice
+-- over rule 2 alone rule 1 is the entry, whose time and size are premises; over both rules it is the virtual entry,
+-- after which the function reads no size. Both side bounds of rule 1 read the value before it; of rule 2 only the up
+-- side bound reads, and nothing is added, so its time is no premise; where the loop doubles, both side bounds read,
+-- and the time of its rule comes last. The virtual entry comes first in every list, and no lemma is cited twice
 pub record PremisesAreWorkedOut : Type 0 where
   pub of_alone : rank_premises counting.program (value_over (2 ∷ [])) ≡ time_key 1 ∷ key 1 1 ∷ []
   pub of_both : rank_premises counting.program (value_over (1 ∷ 2 ∷ [])) ≡ time_key 0 ∷ []
@@ -130,8 +130,8 @@ pub record PremisesAreWorkedOut : Type 0 where
   pub start_first : uses_from (3 ∷ 0 ∷ 3 ∷ 1 ∷ []) ≡ AndProof Start (AndProof (Cite 3) (AndProof (Cite 1) NoProof))
   pub in_order : uses_from (5 ∷ 2 ∷ 5 ∷ 4 ∷ 2 ∷ []) ≡ AndProof (Cite 5) (AndProof (Cite 2) (AndProof (Cite 4) NoProof))
 
--- the lemmas of finds, each of which cites the earlier ones that state its premises: of the program that counts down;
--- of one with an unreached rule; and of one with an empty rule
+-- the lemmas of derivations, each of which cites the earlier ones that state its premises: of the program that counts
+-- down; of one with an unreached rule; and of one with an infeasible rule
 pub record LemmasAreWorkedOut : Type 0 where
   pub counting_down : lemmas_of (once_derivation ∷ entered_derivation ∷ alone_derivation ∷ looped_derivation ∷ [])
       ≡ once ∷ entered ∷ down_alone (AndProof (Cite 1) (only (Cite 2)))

@@ -1,5 +1,5 @@
--- Worked values of what is found before the first round, and of right answers: for k(A) -> l(A), and m(A) -> m(A),
--- which is never reached; and for k(A) -> l(A), and l(A) -> l(A - 1), where rule 1 is found empty.
+-- Worked values of the derivations before the first round, and of right answers: for k(A) -> l(A), and m(A) -> m(A),
+-- which is never reached; and for k(A) -> l(A), and l(A) -> l(A - 1), where rule 1 is infeasible.
 use Rattle.std.specs.Prelude.{◌≡◌, ℕ, zero, suc, List, [], ◌∷◌, Some, None}
 use Rattle.rule_questions.specs.model.Bounds.{Constant}
 use Rattle.rule_questions.specs.cert_rules.Nodes.{ResultVariable}
@@ -23,7 +23,7 @@ use Rattle.bound_fixpoint.specs.Right.{AreRight, IsRightRanking, IsFirstLimitHit
 abbrev pub limit_hit : Question → LimitHit
 limit_hit question = record { question = question; cause = causes.Scale }
 
--- each rule has a point; the rank question of a rule trips as that of this one, and the size of places as that of the
+-- each rule has a point; the ranking question of a rule hits a limit of its own, and the size of places that of the
 -- first of them
 abbrev pub trips_at : List ResultVariable → SizeOutcome
 trips_at [] = Unsized (SizeTripped (limit_hit (asked.Local 0 0)))
@@ -59,15 +59,15 @@ cut_off = record {
   size = all_trips.size;
 }
 
--- its time; that of rule 2, which no other rule reaches; and then the sizes after both
+-- the time of rule 1; that of rule 2, which no other rule reaches; and then the sizes after both
 abbrev pub four_derivations : List Derivation
 four_derivations =
     empty_derivation 1 [] ∷ unreached_derivation (time_key 1 ∷ []) 2 ∷
     never_derivation counting.program 1 ∷ never_derivation counting.program 2 ∷ []
 
--- before the first round rule 2 is known to have the time 0, and the place after it the size 0, by these two finds in
--- this order, and by no more and no fewer; where nothing else is found they are the last. Where rule 1 is empty and
--- rule 2 unreached without it, the times come first, and the first is a premise of the second
+-- before the first round rule 2 has the time 0, and the place after it the size 0, by these two derivations in this
+-- order, and by no more and no fewer; if nothing else is derived, they are the last. If rule 1 is infeasible and rule
+-- 2 unreached without it, the times come first, and the first is a premise of the second
 pub record FirstDerivationsAreWorkedOut : Type 0 where
   pub first : AreFirst (searches_of all_trips) apart.program two_derivations
   pub zero_time : bounds_of apart.program two_derivations 2 0 ≡ Some (Constant 0)
@@ -90,7 +90,7 @@ pub record FirstDerivationsAreWorkedOut : Type 0 where
       (empty_derivation 1 [] ∷ never_derivation counting.program 1 ∷ unreached_derivation (time_key 1 ∷ []) 2
       ∷ never_derivation counting.program 2 ∷ []))
 
--- the emptiness question of each rule trips
+-- the feasibility question of each rule hits a limit
 abbrev pub no_answers : Answers
 no_answers = record {
   empty = λ t. EmptyTripped (limit_hit (asked.Empty t));
@@ -99,8 +99,8 @@ no_answers = record {
   size = all_trips.size;
 }
 
--- a function is the right answer where it ranks the rule over exactly the set with coefficient 0 at every shut place.
--- Of the rules of a set whose emptiness question trips the first counts
+-- a function is the right answer if it ranks the rule over exactly the set with coefficient 0 at every shut place. Of
+-- the rules of a set whose feasibility questions hit a limit the first is reported
 pub record RightRankingsAreWorkedOut : Type 0 where
   pub ranks : IsRightRanking (searches_of all_trips) counting (2 ∷ []) 2 [] (Ranked alone_node)
   pub not_other_set : ¬ (IsRightRanking (searches_of all_trips) counting (1 ∷ 2 ∷ []) 2 [] (Ranked alone_node))
@@ -112,8 +112,8 @@ pub record RightRankingsAreWorkedOut : Type 0 where
   pub none_trips : NoneTrips (searches_of all_trips) (1 ∷ 2 ∷ [])
   pub some_limit_hit : ¬ (NoneTrips (searches_of no_answers) (1 ∷ 2 ∷ []))
 
--- trips that are reported for their own rule are right, and for another rule they aren't; nor is an answer right that
--- calls a rule empty where no multipliers certify it
+-- limit hits that are reported for their own rule are right, and for another rule they aren't; nor is an answer right
+-- that calls a rule infeasible without multipliers that certify it
 pub record RightAnswersAreWorkedOut : Type 0 where
   pub right : AreRight (searches_of all_trips) apart
   pub not_another : ¬ (AreRight (searches_of (trips_as suc)) apart)

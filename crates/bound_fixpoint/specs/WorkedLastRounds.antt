@@ -22,7 +22,7 @@ use Rattle.bound_fixpoint.specs.WorkedRounds.{answers_with, alone, value_turned,
 abbrev pub once_ranks : List ℕ → ℕ → List SymbolPlace → Ranking
 once_ranks set t shut = Ranked once_node
 
--- both places are one component, and have their size by one loop; rank questions trip
+-- both places are one component, and get their size by one loop node; ranking questions hit a limit
 abbrev pub together : List ResultVariable
 together = key 1 1 ∷ key 2 1 ∷ []
 
@@ -37,7 +37,7 @@ sized_together = record {
   size = λ b keys. SizedBy loop_of_both;
 }
 
--- what it gives these keys, with nothing known
+-- the derivation of the size of these keys over no bounds
 abbrev pub sized_derivation : List ResultVariable → Derivation
 sized_derivation keys = record {
   keys = keys;
@@ -46,9 +46,9 @@ sized_derivation keys = record {
   bound = composed_bound counting nothing_known loop_of_both;
 }
 
--- where the second component comes first, its size waits for the next round; so the last finds are made by two rounds,
--- and not by one. A time that is too large is missing for that reason. The members of a component get their size by one
--- find, and not by one each, nor one of them alone
+-- where the second component comes first, its size waits for the next round; so the last derivations are made by two
+-- rounds, and not by one. A time that is too large is missing for that reason. The members of a component get their
+-- size by one derivation, not by one each, nor one of them alone
 pub record LastRoundsAreWorkedOut : Type 0 where
   pub two_rounds : IsLast (searches_of value_turned) counting
       (first_time ∷ second_time ∷ entered_derivation ∷ looped_derivation ∷ [])

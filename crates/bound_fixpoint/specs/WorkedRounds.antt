@@ -94,9 +94,9 @@ second_time = ranked_derivation (time_key 2 ∷ []) (value_ranks (1 ∷ 2 ∷ []
 abbrev pub later_time : Derivation
 later_time = ranked_derivation (time_key 2 ∷ []) (value_ranks (2 ∷ []) 2) (time_key 1 ∷ key 1 1 ∷ []) alone_time
 
--- where a round begins with nothing, it finds both times, each with nothing known, and then both sizes, with the new
--- times and the sizes found so far; a second finds nothing. No list that has one more or one less is a round, nor one
--- in another order; nor what is found where sizes are tried with the times from before, or times with the new ones
+-- a round over no derivations derives both times, each over no bounds, and then both sizes, with the new times and the
+-- sizes so far; a second one derives nothing. No list with one derivation more or less is that of a round, nor one in
+-- another order; nor is one where sizes are queried with the times from before, or times with the new ones
 pub record FirstRoundIsWorkedOut : Type 0 where
   pub first : AreFirst (searches_of value_where_open) counting.program []
   pub not_known_too_early : ¬ (AreFirst (searches_of value_where_open) counting.program (once_derivation ∷ []))
@@ -116,8 +116,9 @@ pub record FirstRoundIsWorkedOut : Type 0 where
   pub not_times_by_new_times : ¬ (IsRound (searches_of value_where_open) counting []
       (first_time ∷ entered_derivation ∷ looped_derivation ∷ []))
 
--- where the time of rule 1 is known at first, rule 2 is alone: its place is shut, so the round finds only the sizes,
--- and the next one the time. Where components are queried in turn, the size of rule 2 has to wait for the next round
+-- if the time of rule 1 is known at first, rule 2 is alone: its place is shut, so the round derives only the sizes,
+-- and the next one the time. If the components are queried in another order, the size of rule 2 waits for the next
+-- round
 pub record LaterRoundsAreWorkedOut : Type 0 where
   pub sizes : IsRound (searches_of value_where_open) counting (once_derivation ∷ []) (entered_derivation ∷ looped_derivation ∷ [])
   pub not_time_at_once : ¬ (IsRound (searches_of value_where_open) counting (once_derivation ∷ [])
@@ -131,9 +132,9 @@ pub record LaterRoundsAreWorkedOut : Type 0 where
   pub in_turn : IsRound (searches_of value_turned) counting (once_derivation ∷ []) (entered_derivation ∷ [])
   pub not_too_early : ¬ (IsRound (searches_of value_turned) counting (once_derivation ∷ []) (looped_derivation ∷ entered_derivation ∷ []))
 
--- each place after a rule is in one component; where nothing ranks, the first finds are the last: each rule has no time
--- by the gap of its set, and no size is found, for its own reason. No other reason is one, and what is known, or is no
--- place, has none
+-- each place after a rule is in one component; if no rule can be ranked, the initial derivations are the last: each
+-- rule has no time by the gap of its set, and each size is missing for its own reason. There is no other reason, and a
+-- known bound, or a key that is no place, has none
 pub record ReasonsAreWorkedOut : Type 0 where
   pub components : AreComponentsOf (searches_of nothing_ranks) counting.program alone
   pub not_lacking : ¬ (AreComponentsOf (searches_of nothing_ranks) counting.program ((key 1 1 ∷ []) ∷ []))

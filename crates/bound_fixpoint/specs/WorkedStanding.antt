@@ -1,5 +1,5 @@
--- Worked values of when finds are justified, for the program that counts down: k(A) -> l(A), and l(A) -> l(A - 1) where
--- A >= 1.
+-- Worked values of when derivations are justified, for the program that counts down: k(A) -> l(A), and l(A) -> l(A -
+-- 1) where A >= 1.
 use Rattle.std.specs.Prelude.{List, [], ◌∷◌}
 use Rattle.rule_questions.specs.model.Bounds.{Bound, Constant}
 use Rattle.rule_questions.specs.cert_rules.Nodes.{ResultVariable, RankNode}
@@ -11,14 +11,15 @@ use Rattle.bound_fixpoint.specs.Standing.{AllStand}
 use Rattle.bound_fixpoint.specs.Beginning.{unreached_derivation, never_derivation}
 use Rattle.bound_fixpoint.specs.WorkedDerivations.{once_derivation, entered_derivation, looped_derivation, alone_derivation, alone_time}
 
--- a find by a ranking function, with these keys, needs and bound
+-- a derivation by a ranking function, with these keys, premises and bound
 abbrev pub ranked_derivation : List ResultVariable → RankNode → List ResultVariable → Bound → Derivation
 ranked_derivation keys node premises bound = record { keys = keys; node = RankBy node; premises = premises; bound = bound }
 
--- each of the four finds has premises among those before it. A find isn't justified before its premises, nor twice, nor
--- with another bound than the composed one, with its premises in another order, with one of them twice, without one, or
--- for another key. In the program with an unreached rule, its time is justified, and then the size after it, which
--- isn't without the time; and with another rule's time, which isn't 0, among its premises, the rule isn't unreached
+-- the premises of each of the four derivations are among those before it. A derivation isn't justified before its
+-- premises, nor twice, nor with another bound than the composed one, with its premises in another order, with one of
+-- them twice, without one, or for another key. In the program with an unreached rule, its time is justified, and then
+-- the size after it, which isn't without the time; and if the time of another rule, which isn't 0, is among its
+-- premises, the rule isn't unreached
 pub record StandingIsWorkedOut : Type 0 where
   pub none : AllStand counting []
   pub four : AllStand counting (once_derivation ∷ entered_derivation ∷ alone_derivation ∷ looped_derivation ∷ [])

@@ -10,7 +10,7 @@ use Rattle.bound_fixpoint.specs.Derivations.{bounds_of, number_in}
 use Rattle.bound_fixpoint.specs.Stated.{SayBounds}
 use Rattle.bound_fixpoint.specs.WorkedDerivations.{once_derivation}
 
--- what is known with the time of the first rule
+-- the bounds known with the time of the first rule
 abbrev pub once_known : Bounds
 once_known = bounds_of counting.program (once_derivation ∷ [])
 
@@ -18,8 +18,8 @@ once_known = bounds_of counting.program (once_derivation ∷ [])
 abbrev pub SayOnce : List (List Fact) → (ℕ → ℕ → ℕ) → Type 0
 SayOnce past number = SayBounds counting past number once_known once_known
 
--- one lemma with the time says it. None doesn't, nor does one with another time, nor one with the time twice, nor does
--- it by the number of the virtual entry
+-- one lemma with the time states it. No lemma doesn't, nor one with another time, nor one with the time twice, nor one
+-- with the number of the virtual entry
 pub record BoundsAreSaidAsWorkedOut : Type 0 where
   pub said : SayOnce ((Time 1 once_time ∷ []) ∷ []) (number_in (once_derivation ∷ []))
   pub not_by_none : ¬ (SayOnce [] (number_in (once_derivation ∷ [])))

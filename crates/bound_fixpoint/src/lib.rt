@@ -1,10 +1,11 @@
 //! The rounds of the analysis as plain data: the fixpoint computation of time and size bounds, by key. A key is a rule
-//! and a place: place 0 is the rule's time, and the places of its target are its sizes. The result is a list of finds
-//! (a bound with the node that derives it), from which the known bounds and the lemmas are read off.
+//! and a place: place 0 is the rule's time, and the places of its target are its sizes. The result is a list of
+//! derivations (a bound with the proof node that shows it), from which the known bounds and the lemmas are read off.
 //!
-//! Builds on `outcome` and `rule_questions`. Definitions are in `specs/`. Main guarantee: finds that are justified have
-//! accepted lemmas and hold on all runs (`standing_derivations_have_lemmas`, `standing_derivations_hold`), and what the rounds find
-//! is justified (`made_derivations_stand`). The functions here have no code: the contract of each is a law.
+//! Builds on `outcome` and `rule_questions`. Definitions are in `specs/`. Main guarantee: justified derivations have
+//! accepted lemmas and hold on all runs (`standing_derivations_have_lemmas`, `standing_derivations_hold`), and the
+//! derivations of the rounds are justified (`made_derivations_stand`). The functions here have no code: the contract
+//! of each is a law.
 #![tactic(auto)]
 
 ghost use Rattle.bound_fixpoint.specs.Laws.{StandingDerivationsHaveLemmas, DerivationsAreNumbered, StandingDerivationsHold, MadeDerivationsStand};
@@ -29,58 +30,58 @@ pub fn nodes_are_accepted()
     ensures { NodesAreAccepted }
 {}
 
-/// The lemmas of justified finds are accepted, and each states what its find does.
+/// The lemmas of justified derivations are accepted, and each states the facts of its derivation.
 pub fn standing_derivations_have_lemmas()
     ensures { StandingDerivationsHaveLemmas }
 {}
 
-/// A bound that was found is a fact of the lemma whose number its key has, and only one find states it; these lemmas
-/// state all that is known.
+/// A derived bound is a fact of the lemma with its key's number, and only one derivation states it; these lemmas state
+/// all known bounds.
 pub fn derivations_are_numbered()
     ensures { DerivationsAreNumbered }
 {}
 
-/// Each bound that is known with justified finds holds on all runs.
+/// Each bound that justified derivations give holds on all runs.
 pub fn standing_derivations_hold()
     ensures { StandingDerivationsHold }
 {}
 
-/// What rounds find is justified, where the answers of the searches are right.
+/// The derivations of rounds are justified, if the answers of the searches are right.
 pub fn made_derivations_stand()
     ensures { MadeDerivationsStand }
 {}
 
-/// Each round finds a bound that was missing, or finds nothing.
+/// Each round derives a bound that was missing, or nothing.
 pub fn rounds_end()
     ensures { RoundsEnd }
 {}
 
-/// Where the components are those of the places of live rules, the members of each have one common size or none with
-/// all finds that rounds make.
+/// If the components are those of the places of live rules, then in every list of derivations that rounds make the
+/// members of each component have one common size, or none.
 pub fn components_are_uniform()
     ensures { ComponentsAreUniform }
 {}
 
-/// There is one last list of finds of the rounds; a time that is missing has one reason, and so has a size where no
+/// There is at most one last list of derivations; a missing time has one reason, and so has a missing size, if no
 /// place is a member of two components.
 pub fn last_derivations_are_one()
     ensures { LastDerivationsAreOne }
 {}
 
-/// There are first finds; where the components are those of the places of live rules, there is a round over each list
-/// of finds, and there are last ones.
+/// There are initial derivations; if the components are those of the places of live rules, there is a round over each
+/// list of derivations, and there is a last list.
 pub fn last_derivations_exist()
     ensures { LastDerivationsExist }
 {}
 
-/// Where a round finds nothing new, each missing time of a rule has a reason, and so has each missing size in a
-/// component; with the last finds each missing size of a place after a rule has one.
+/// Where a round derives nothing, each missing time of a rule has a reason, and so has each missing size in a
+/// component; with the last derivations each missing size of a place after a rule has one.
 pub fn missing_bounds_have_reasons()
     ensures { MissingBoundsHaveReasons }
 {}
 
-/// Worked values of what is read off finds of the program that counts down, of the premises of nodes, and of their
-/// lemmas.
+/// Worked values of the bounds and numbers read off derivations of the program that counts down, of the premises of
+/// nodes, and of their lemmas.
 pub fn derivations_are_as_worked_out()
     ensures derivations { DerivationsAreReadOff }
     ensures keys { KeysAreWorkedOut }
@@ -94,16 +95,16 @@ pub fn sets_are_as_worked_out()
     ensures shut { ShutOfCounting }
 {}
 
-/// Worked values of which finds of that program are justified, and of programs with a rule that is never reached or
-/// empty, and of which lemmas state what is known.
+/// Worked values of which derivations are justified, in that program and in programs with a rule that is never reached
+/// or infeasible, and of which lemmas state the known bounds.
 pub fn standing_is_as_worked_out()
     ensures standing { StandingIsWorkedOut }
     ensures empty { EmptyDerivationsAreWorkedOut }
     ensures said { BoundsAreSaidAsWorkedOut }
 {}
 
-/// Worked values of what is found before the first round of programs with rules that never run, and of which answers
-/// are right.
+/// Worked values of the derivations before the first round, in programs with dead rules, and of which answers are
+/// right.
 pub fn first_derivations_are_as_worked_out()
     ensures first { FirstDerivationsAreWorkedOut }
     ensures right { RightAnswersAreWorkedOut }

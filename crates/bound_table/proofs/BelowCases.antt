@@ -50,7 +50,7 @@ IsPlain-kinds a (inr (inl (v, e))) = subst IsPlain (sym (ap bound_of e ∙ bound
 IsPlain-kinds a (inr (inr (inl (v, e)))) = subst IsPlain (sym (ap bound_of e ∙ bound_of-Prod v)) tt
 IsPlain-kinds a (inr (inr (inr (c, x, e)))) = subst IsPlain (sym (ap bound_of e ∙ bound_of-Power c x)) tt
 
--- the same of a bound of the code
+-- for a bound of the code
 pub below-kinds : (a : Bound) (b : plain.Bound)
     → IsOneOfFour a
     → below (bound_of a) b ≡ below_one (λ p q. below p q) (bound_of a) b
@@ -86,7 +86,7 @@ fully-unfound related [] ps qs found some = cc
 fully-unfound related (p ∷ left) ps qs found some =
     ap (λ v. v && list_all (may_be_leftover (matches related ps qs)) (leftovers related ps qs)) found
 
--- and where each finds one, what is left over decides
+-- if each element finds one, the elements left over decide
 pub fully-found : (related : plain.Bound → plain.Bound → Bool) (left ps qs : List plain.Bound) (fit among : Bool)
     → each_takes related left [] ≡ each_takes related ps qs
     → (length left == 0) ≡ true
@@ -113,7 +113,7 @@ loop-unfound related xs rest ps qs none found some =
     fully-unfound related (bounds_of xs) ps qs (sym (ap (each_takes related (bounds_of xs)) none) ∙ found)
     (ap (λ (n : ℕ). n == 0) (length-map xs bound_of) ∙ some)
 
--- and where none is, what is left over decides
+-- if no element is left that needs one, the elements left over decide
 pub loop-found : (related : plain.Bound → plain.Bound → Bool) (xs : List Bound) (rest ps qs : List plain.Bound)
     (fit among : Bool)
     → rest ≡ []

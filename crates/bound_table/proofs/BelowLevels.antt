@@ -44,7 +44,7 @@ node_count-pos (ProductOf ps) = omega arith
 node_count-pos (MaximumOf ps) = omega arith
 node_count-pos (PowerOf c e) = omega arith
 
--- as a factor a bound weighs at most so much
+-- an upper bound on the weight of a bound as a factor
 pub factor_weight-le : (b : Bound) → factor_weight b ≤ 3 * node_count b + 3
 factor_weight-le (Constant c) = omega arith
 factor_weight-le (Input i) = omega arith
@@ -53,7 +53,7 @@ factor_weight-le (ProductOf ps) = omega arith
 factor_weight-le (MaximumOf ps) = omega arith
 factor_weight-le (PowerOf c e) = omega arith
 
--- and at least so much
+-- a lower bound on the weight of a bound as a factor
 pub factor_weight-ge : (b : Bound) → 3 * node_count b ≤ factor_weight b
 factor_weight-ge (Constant c) = omega arith
 factor_weight-ge (Input i) = omega arith
@@ -104,7 +104,7 @@ terms_of-weight (PowerOf c e) one = omega arith
 abbrev Agree : ℕ → (Bound → Bound → Bool) → (Bound → Bound → Bool) → Type 0
 Agree n f g = (p q : Bound) → bound_weight p + bound_weight q < n → f p q ≡ g p q
 
--- they agree on factors that weigh at most n
+-- the tests agree on factors that weigh at most n
 abbrev AgreeOnFactors : ℕ → (Bound → Bound → Bool) → (Bound → Bound → Bool) → Type 0
 AgreeOnFactors n f g = (p q : Bound) → factor_weight p + factor_weight q ≤ n → f p q ≡ g p q
 
@@ -112,7 +112,7 @@ AgreeOnFactors n f g = (p q : Bound) → factor_weight p + factor_weight q ≤ n
 same-cond : {X : Type 0} (a b : Bool) (x y v w : X) → a ≡ b → x ≡ y → v ≡ w → cond a x v ≡ cond b y w
 same-cond a b x y v w ab xy vw = ap (λ c. cond c x v) ab ∙ ap (λ z. cond b z v) xy ∙ ap (λ z. cond b y z) vw
 
--- so the same ones find one
+-- each element finds one by one test exactly if it does by the other
 each_takes-agree : (n : ℕ) (f g : Bound → Bound → Bool) (ps qs : List Bound) → AgreeOnFactors n f g
     → factors_weight ps + factors_weight qs ≤ n
     → each_takes f ps qs ≡ each_takes g ps qs
@@ -124,7 +124,7 @@ each_takes-agree n f g (p ∷ ps) (q ∷ qs) same h =
     (same p q (omega arith)) (each_takes-agree n f g ps qs same (omega arith))
     (each_takes-agree n f g (p ∷ ps) qs same (omega arith))
 
--- the same are taken
+-- the same elements are taken
 taken-agree : (n : ℕ) (f g : Bound → Bound → Bool) (ps qs : List Bound) → AgreeOnFactors n f g
     → factors_weight ps + factors_weight qs ≤ n
     → matches f ps qs ≡ matches g ps qs
@@ -135,7 +135,7 @@ taken-agree n f g (p ∷ ps) (q ∷ qs) same h =
     (same p q (omega arith)) (ap (λ (ts : List Bound). q ∷ ts) (taken-agree n f g ps qs same (omega arith)))
     (taken-agree n f g (p ∷ ps) qs same (omega arith))
 
--- and the same are left over
+-- the same elements are left over
 spare-agree : (n : ℕ) (f g : Bound → Bound → Bool) (ps qs : List Bound) → AgreeOnFactors n f g
     → factors_weight ps + factors_weight qs ≤ n
     → leftovers f ps qs ≡ leftovers g ps qs
@@ -171,7 +171,7 @@ factor_below-agree n f g same p (MaximumOf qs) h =
     nest-agree n f g p (MaximumOf qs) same (λ _. omega (arith, factor_weight-ge p))
 factor_below-agree n f g same p q h = refl
 
--- the same for a part
+-- the tests agree on a part
 term_below-agree : (n : ℕ) (f g : Bound → Bound → Bool) → Agree n f g → AgreeOnFactors n (term_below f) (term_below g)
 term_below-agree n f g same p q h =
     let fs = factors_of p in
@@ -189,7 +189,7 @@ term_below-agree n f g same p q h =
     (λ ss. before && each_takes (factor_below g) fs gs && list_all (may_be_leftover (matches (factor_below g) fs gs)) ss)
     (spare-agree n (factor_below f) (factor_below g) fs gs on_factors within)
 
--- and a bound with the parts of a maximum
+-- the tests agree on a bound and the parts of a maximum
 any-agree : (n : ℕ) (f g : Bound → Bound → Bool) (a : Bound) (qs : Parts) → Agree n f g
     → bound_weight a + (3 * node_count_of_all qs + 1) < n
     → list_any (λ q. f a q) (list_of qs) ≡ list_any (λ q. g a q) (list_of qs)
@@ -198,7 +198,7 @@ any-agree n f g a (Part q qs) same h =
     ap (λ v. v || list_any (λ q. f a q) (list_of qs)) (same a q (omega arith))
     ∙ ap (λ v. g a q || v) (any-agree n f g a qs same (omega arith))
 
--- and the parts of a maximum with a bound
+-- the tests agree on the parts of a maximum and a bound
 all-agree : (n : ℕ) (f g : Bound → Bound → Bool) (ps : Parts) (b : Bound) → Agree n f g
     → (3 * node_count_of_all ps + 1) + bound_weight b < n
     → list_all (λ p. f p b) (list_of ps) ≡ list_all (λ p. g p b) (list_of ps)
@@ -207,7 +207,7 @@ all-agree n f g (Part p ps) b same h =
     ap (λ v. v && list_all (λ p. f p b) (list_of ps)) (same p b (omega arith))
     ∙ ap (λ v. g p b && v) (all-agree n f g ps b same (omega arith))
 
--- and the parts of two sums
+-- the tests agree on the parts of two sums
 terms-agree : (f g : Bound → Bound → Bool) (a b : Bound) → IsNoMaximum a → IsNoMaximum b
     → Agree (bound_weight a + bound_weight b) f g
     → each_takes (term_below f) (terms_of a) (terms_of b) ≡ each_takes (term_below g) (terms_of a) (terms_of b)
@@ -215,7 +215,7 @@ terms-agree f g a b one one' same =
     each_takes-agree (bound_weight a + bound_weight b) (term_below f) (term_below g) (terms_of a) (terms_of b)
     (term_below-agree (bound_weight a + bound_weight b) f g same) (omega (arith, terms_of-weight a one, terms_of-weight b one'))
 
--- and a bound that is no maximum
+-- the tests agree on a bound that is no maximum
 below_one-agree : (f g : Bound → Bound → Bool) (a b : Bound) → IsNoMaximum a
     → Agree (bound_weight a + bound_weight b) f g → below_one f a b ≡ below_one g a b
 below_one-agree f g a (MaximumOf qs) one same = any-agree _ f g a qs same (omega arith)
@@ -225,7 +225,7 @@ below_one-agree f g a (SumOf ps) one same = terms-agree f g a (SumOf ps) one tt 
 below_one-agree f g a (ProductOf ps) one same = terms-agree f g a (ProductOf ps) one tt same
 below_one-agree f g a (PowerOf c e) one same = terms-agree f g a (PowerOf c e) one tt same
 
--- so one level of the test asks the same of tests that agree
+-- one level over tests that agree gives tests that agree
 below_step-agree : (f g : Bound → Bound → Bool) (a b : Bound) → Agree (bound_weight a + bound_weight b) f g
     → below_step f a b ≡ below_step g a b
 below_step-agree f g (Constant zero) b same = refl
@@ -245,7 +245,7 @@ below_within-enough (suc k) (suc l) a b h h' =
     below_step-agree (λ p q. below_within k p q) (λ p q. below_within l p q) a b
     (λ p q less. below_within-enough k l p q (omega arith) (omega arith))
 
--- with as many levels as nodes one more changes nothing
+-- with as many levels as nodes, one more level changes nothing
 below-levels : (n : ℕ) (a b : Bound) → node_count a + node_count b ≡ n
     → below_within n a b ≡ below_step (λ p q. below p q) a b
 unfolding below

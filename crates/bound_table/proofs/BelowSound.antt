@@ -22,7 +22,7 @@ use Rattle.bound_table.proofs.Products.{sum_at, product_at, maximum_at, val_sum-
 abbrev IsSoundAt : List ℕ → (Bound → Bound → Bool) → Type 0
 IsSoundAt m related = (p q : Bound) → IsBased p → IsBased q → related p q ≡ true → val p m ≤ val q m
 
--- those that are taken and those that are left are all
+-- the product of all is that of the taken times that of the others
 product-taken-spare : (related : Bound → Bound → Bool) (fs gs : List Bound) (m : List ℕ)
     → each_takes related fs gs ≡ true
     → product_at gs m ≡ product_at (matches related fs gs) m * product_at (leftovers related fs gs) m
@@ -98,7 +98,7 @@ spare-one ts (SumOf ps) m based may = cc
 spare-one ts (ProductOf ps) m based may = cc
 spare-one ts (MaximumOf ps) m based may = cc
 
--- the same of all factors that are left
+-- the factors left over multiply to at least 1, or those taken to 0
 spares-one : (ts gs : List Bound) (m : List ℕ) → Each IsBased gs → list_all (may_be_leftover ts) gs ≡ true
     → (1 ≤ product_at gs m) ⊎ (product_at ts m ≡ 0)
 spares-one ts [] m based all = inl (omega arith)
@@ -111,7 +111,7 @@ spares-one ts (g ∷ gs) m based all =
     go (inl one) (inr none) = inr none
     go (inr none) ones = inr none
 
--- what is left has the bases of all
+-- the factors left over have the bases of all
 spare-based : (related : Bound → Bound → Bool) (fs gs : List Bound) → Each IsBased gs
     → Each IsBased (leftovers related fs gs)
 spare-based related [] gs based = based
@@ -152,7 +152,7 @@ powers-le : (c e d f : ℕ) → 1 ≤ c → c ≤ d → e ≤ f → c ^ e ≤ d 
 powers-le c e d f one bases exponents =
     omega (arith, pow-le-pow_left bases e, pow-le-pow_right {n = d} (omega arith) exponents)
 
--- so the test on factors is sound where that on bounds is
+-- the test on factors is sound if that on bounds is
 factor_below-sound : (smaller : Bound → Bound → Bool) (m : List ℕ) → IsSoundAt m smaller
     → IsSoundAt m (factor_below smaller)
 factor_below-sound smaller m sound (Input i) (Input j) bp bq holds =
@@ -258,7 +258,7 @@ all-le smaller (p ∷ ps) b m sound bp bb all =
     let both = and_parts (smaller p b) (list_all (λ p. smaller p b) ps) all in
     omega (arith, sound p b bp.0 bb both.0, all-le smaller ps b m sound bp.1 bb both.1)
 
--- so the test on a bound that is no maximum is sound
+-- the test on a bound that is no maximum is sound
 below_one-sound : (smaller : Bound → Bound → Bool) (m : List ℕ) → IsSoundAt m smaller → IsSoundAt m (below_one smaller)
 below_one-sound smaller m sound a (MaximumOf qs) ba bb holds =
     omega (arith, val_maximum-list_of qs m, any-le smaller a (list_of qs) m sound ba (Each-list_of (IsBasedFrom 1) qs bb.1) holds)
@@ -268,7 +268,7 @@ below_one-sound smaller m sound a (SumOf qs) ba bb holds = terms-le smaller m so
 below_one-sound smaller m sound a (ProductOf qs) ba bb holds = terms-le smaller m sound a (ProductOf qs) ba bb holds
 below_one-sound smaller m sound a (PowerOf c e) ba bb holds = terms-le smaller m sound a (PowerOf c e) ba bb holds
 
--- and one level of the test
+-- one level of the test is sound
 below_step-sound : (smaller : Bound → Bound → Bool) (m : List ℕ) → IsSoundAt m smaller
     → IsSoundAt m (below_step smaller)
 below_step-sound smaller m sound (Constant zero) b ba bb holds = omega arith
@@ -283,7 +283,7 @@ below_step-sound smaller m sound (ProductOf ps) b ba bb holds =
 below_step-sound smaller m sound (PowerOf c e) b ba bb holds =
     below_one-sound smaller m sound (PowerOf c e) b ba bb holds
 
--- and any number of levels
+-- any number of levels of the test are sound
 below_within-sound : (n : ℕ) (m : List ℕ) → IsSoundAt m (λ p q. below_within n p q)
 below_within-sound zero m a b ba bb holds = cc
 below_within-sound (suc n) m a b ba bb holds =

@@ -24,7 +24,7 @@ joined-assoc AsSum a b c = omega arith
 joined-assoc AsProd a b c = mul_assoc a b c
 joined-assoc AsMax a b c = omega arith
 
--- and in any order
+-- joining is commutative
 joined-comm : (k : Kind) (a b : ℕ) → joined k a b ≡ joined k b a
 joined-comm AsSum a b = omega arith
 joined-comm AsProd a b = mul_comm a b
@@ -36,7 +36,7 @@ joined-unit AsSum a = omega arith
 joined-unit AsProd a = omega arith
 joined-unit AsMax a = omega arith
 
--- nor before it
+-- joining the unit before a number changes nothing
 unit-joined : (k : Kind) (a : ℕ) → joined k (unit_of k) a ≡ a
 unit-joined AsSum a = omega arith
 unit-joined AsProd a = omega arith
@@ -130,7 +130,7 @@ parts_at-zero (p ∷ ps) m any = go (is_zero p) refl any (parts_at-zero ps m)
     go true is any ih = ap (λ (v : ℕ). v * parts_at AsProd ps m) (zero-val p is) ∙ omega arith
     go false is any ih = ap (λ (v : ℕ). val p m * v) (ih any) ∙ omega arith
 
--- the same for making a product 0
+-- making a product 0 keeps the value
 pub val-zeroed : (k : Kind) (ps : List Bound) (m : List ℕ) → val (zeroed k ps) m ≡ parts_at k ps m
 val-zeroed AsSum ps m = val-whole AsSum ps m
 val-zeroed AsMax ps m = val-whole AsMax ps m

@@ -42,7 +42,7 @@ val-in_place before after p m =
     (parts_at-append AsProd (parts_of_kind AsProd p) after m
     ∙ ap (λ (v : ℕ). v * product_at after m) (parts_at-spread AsProd p m))
 
--- so their sum is
+-- the sum of these products has the value
 sum-each_in_place : (before after ps : List Bound) (m : List ℕ)
     → sum_at (each_in_place before after ps) m ≡ product_at before m * (sum_at ps m * product_at after m)
 sum-each_in_place before after [] m = omega arith
@@ -51,14 +51,14 @@ sum-each_in_place before after (p ∷ ps) m =
     ∙ ap (λ (v : ℕ). product_at before m * (val p m * product_at after m) + v) (sum-each_in_place before after ps m)
     ∙ omega arith
 
--- so multiplying out keeps the value
+-- multiplying out keeps the value
 val-multiplied_out : (ps : List Bound) (m : List ℕ) → has_sum ps ≡ true → val (multiplied_out ps) m ≡ product_at ps m
 val-multiplied_out ps m has =
     val_sum-parts_of (each_in_place (before_sum ps) (after_sum ps) (parts_of_sum ps)) m
     ∙ sum-each_in_place (before_sum ps) (after_sum ps) (parts_of_sum ps) m
     ∙ sym (product-split ps m has)
 
--- what is multiplied out has a sum among its factors
+-- a product that is multiplied out has a sum among its factors
 pub multiplied_out-has_sum : (ps : List Bound) → is_multiplied_out ps ≡ true → has_sum ps ≡ true
 multiplied_out-has_sum ps is = go (has_sum ps) refl
   where
@@ -66,7 +66,7 @@ multiplied_out-has_sum ps is = go (has_sum ps) refl
     go true has = has
     go false has = cc
 
--- so multiplying out where it is done keeps the value
+-- multiplying out keeps the value where it is done
 pub val-distributed : (k : Kind) (ps : List Bound) (m : List ℕ) → val (distributed k ps) m ≡ parts_at k ps m
 val-distributed AsSum ps m = val-whole AsSum ps m
 val-distributed AsMax ps m = val-whole AsMax ps m

@@ -14,7 +14,7 @@ use Rattle.bound_expr.specs.Views.{bound_of, bounds_of}
 use Rattle.bound_table.specs.Below.{below}
 use Rattle.bound_table.specs.Dominance.{dominant_after, below_another}
 
--- one part looked at: it is dropped, or it is kept
+-- one part is tested: it is dropped, or it is kept
 pub dominant_after-dropped : (ps : List plain.Bound) (i : ℕ) → i < length ps → below_another ps i ≡ true
     → dominant_after (take i ps) (drop i ps) ≡ dominant_after (take i ps) (drop (i + 1) ps)
 dominant_after-dropped ps i h lower =
@@ -33,7 +33,7 @@ dominant_after-kept ps i h high =
     high
     ∙ ap (λ (qs : List plain.Bound). dominant_after qs (drop (i + 1) ps)) (sym (take_more ps i (Constant 0) h))
 
--- a list without the part at a position: the parts before it and those behind it
+-- a list without the part at a position: the parts before it and those after it
 bounds_of-remove : (xs : List Bound) (i : ℕ)
     → bounds_of (remove xs i) ≡ take i (bounds_of xs) ++ drop (i + 1) (bounds_of xs)
 bounds_of-remove xs i =
@@ -50,7 +50,7 @@ seam fs bs i e =
     ∙ ap (λ (qs : List plain.Bound). dominant_after qs (drop (length fs) (fs ++ bs))) (take-append_seam fs bs)
     ∙ ap (dominant_after fs) (drop-append_seam fs bs)
 
--- a part taken away changes nothing of what will stay
+-- removing such a part doesn't change which parts stay
 pub dominant_after-remove : (xs ys : List Bound) (i : ℕ) → i < length xs → below_another (bounds_of xs) i ≡ true
     → ys ≡ remove xs i
     → dominant_after (take i (bounds_of ys)) (drop i (bounds_of ys))
@@ -62,7 +62,7 @@ dominant_after-remove xs ys i h lower is =
     ∙ seam (take i ps) (drop (i + 1) ps) i (length-take-le i ps (omega arith))
     ∙ sym (dominant_after-dropped ps i within lower)
 
--- being below another part is being below one before or one behind
+-- a part is below another one if it is below one before or one after it
 pub below_another-split : (xs : List Bound) (i : ℕ) (x : Bound) → i < length xs → x ≡ get_or xs i x
     → below_another (bounds_of xs) i
     ≡ (list_any (λ q. below (bound_of x) q) (bounds_of (take i xs)) || list_any (λ q. below (bound_of x) q) (bounds_of (drop (i + 1) xs)))
@@ -77,6 +77,6 @@ below_another-split xs i x h e =
     (λ (ps : List plain.Bound). list_any (λ q. below (bound_of x) q) (bounds_of (take i xs)) || list_any (λ q. below (bound_of x) q) ps)
     (drop-map bound_of (i + 1) xs)
 
--- the rest behind a position, cut at its own length
+-- the rest after a position, cut at its own length
 pub take-rest : (xs : List Bound) (i : ℕ) → take (length xs - i) (drop i xs) ≡ drop i xs
 take-rest xs i = take_all (length xs - i) (drop i xs) (omega (arith, length-drop i xs))

@@ -16,12 +16,12 @@ abbrev pub IsFilled : List Bound → Type 0
 IsFilled [] = ⊥
 IsFilled (f ∷ fs) = Unit {0}
 
--- what holds of every part of two lists holds of every part of both together
+-- a property of every part of two lists is one of every part of both together
 pub Each-append : (P : Bound → Type 0) (ps qs : List Bound) → Each P ps → Each P qs → Each P (ps ++ qs)
 Each-append P [] qs each each' = each'
 Each-append P (p ∷ ps) qs each each' = (each.0, Each-append P ps qs each.1 each')
 
--- what holds of every factor holds of those behind a leading constant
+-- a property of every factor is one of those after a leading constant
 pub Each-after_constant : (P : Bound → Type 0) (ps : List Bound) → Each P ps → Each P (after_constant ps)
 Each-after_constant P [] each = each
 Each-after_constant P (Constant c ∷ ps) each = each.1
@@ -31,17 +31,17 @@ Each-after_constant P (ProductOf qs ∷ ps) each = each
 Each-after_constant P (MaximumOf qs ∷ ps) each = each
 Each-after_constant P (PowerOf c e ∷ ps) each = each
 
--- what holds of each node of the parts holds of each node of every part of their list
+-- a property of each node of the parts is one of each node of every part of their list
 pub Each-list_of : (F : Bound → Type 0) (ps : Parts) → EachNodeOfAll F ps → Each (EachNode F) (list_of ps)
 Each-list_of F NoParts each = tt
 Each-list_of F (Part p ps) each = (each.0, Each-list_of F ps each.1)
 
--- and the other way round
+-- the converse
 pub Each-parts_of : (F : Bound → Type 0) (ps : List Bound) → Each (EachNode F) ps → EachNodeOfAll F (parts_of ps)
 Each-parts_of F [] each = tt
 Each-parts_of F (p ∷ ps) each = (each.0, Each-parts_of F ps each.1)
 
--- what holds of each node of a part holds of each node of its factors
+-- a property of each node of a part is one of each node of its factors
 pub Each-factors_of : (F : Bound → Type 0) (p : Bound) → EachNode F p → Each (EachNode F) (factors_of p)
 Each-factors_of F (Constant c) each = tt
 Each-factors_of F (Input i) each = (each, tt)

@@ -1,4 +1,4 @@
--- What holds of each part holds of each of those that the cases of powers and of distribution choose among them.
+-- A property of each part holds of each of those that the cases of powers and of distribution choose among them.
 use Rattle.std.proofs.Common.{List, [], ◌∷◌}
 use Rattle.bound_expr.specs.model.Bounds.{Bound, Constant, Input, SumOf, ProductOf, MaximumOf, PowerOf, Parts}
 use Rattle.bound_expr.specs.Views.{list_of}

@@ -30,7 +30,7 @@ same_lists fs gs same =
     (all_compared-same (parts_of fs) (parts_of gs) (sym (slice_cmp-compared fs gs) ∙ is_eq-Equal (slice_cmp compared fs gs) same))
     ∙ list_of-parts_of gs
 
--- so they are where the test says that factors are the same
+-- lists of factors that the test finds the same are equal
 same_factors-lists : (fs gs : List Bound) → are_same_factors fs gs ≡ true → fs ≡ gs
 same_factors-lists [] gs same = cc
 same_factors-lists (f ∷ fs) gs same = same_lists (f ∷ fs) gs same
@@ -63,7 +63,7 @@ joined_list-sum p (q ∷ qs) m alike = go (nat_le (constants_total (p ∷ q ∷ 
     go true = omega (arith, val-times (constants_total (p ∷ q ∷ qs)) (factors_of p) m, alike-sum p (q ∷ qs) m alike)
     go false = refl
 
--- so joining like parts keeps the value
+-- joining like parts keeps the value
 pub parts_at-likes_joined : (k : Kind) (ps : List Bound) (m : List ℕ)
     → parts_at k (likes_joined k ps) m ≡ parts_at k ps m
 parts_at-likes_joined AsSum ps m = parts_at-runs_joined AsSum is_like joined_list joined_list-sum ps m
@@ -105,7 +105,7 @@ maximum_at-dominant_after kept (p ∷ ps) m bk bp =
         omega (arith, ih, any-below p (kept ++ ps) m bp.0 (Each-append IsBased kept ps bk bp.1) is, maximum_at-append kept ps m)
     go false is ih ih' = omega (arith, ih', maximum_at-append kept (p ∷ []) m)
 
--- so the parts that stay have the value of all
+-- the parts that stay have the value of all
 pub parts_at-dominant : (k : Kind) (ps : List Bound) (m : List ℕ) → Each IsBased ps
     → parts_at k (dominant k ps) m ≡ parts_at k ps m
 parts_at-dominant AsSum ps m based = refl

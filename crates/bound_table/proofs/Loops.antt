@@ -9,7 +9,7 @@ use Rattle.bound_table.proofs.BelowLevels.{bound_weight, bounds_weight, factor_w
 use Rattle.bound_expr.proofs.Views.{seen}
 use Rattle.bound_expr.proofs.PartLists.{list_of-parts_of}
 
--- the expressions of what is left of a list: the next one, then those behind it
+-- the expressions of the rest of a list: the next one, then those after it
 pub bounds_of-drop : (xs : List Bound) (i : ℕ) (x : Bound) → i < length xs → x ≡ get_or xs i x
     → bounds_of (drop i xs) ≡ bound_of x ∷ bounds_of (drop (i + 1) xs)
 bounds_of-drop xs i x h e =
@@ -32,12 +32,12 @@ bounds_weight-at [] i x h e = absurd (omega arith)
 bounds_weight-at (y ∷ ys) zero x h e = omega (arith, ap (λ (z : Bound). bound_weight (bound_of z)) e)
 bounds_weight-at (y ∷ ys) (suc i) x h e = omega (arith, bounds_weight-at ys i x (omega arith) e)
 
--- the same as factors
+-- the weight of a bound as a factor is at most that of all factors
 pub factors_weight-at : (xs : List Bound) (i : ℕ) (x : Bound) → i < length xs → x ≡ get_or xs i x
     → factor_weight (bound_of x) ≤ factors_weight (bounds_of xs)
 factors_weight-at [] i x h e = absurd (omega arith)
 factors_weight-at (y ∷ ys) zero x h e = omega (arith, ap (λ (z : Bound). factor_weight (bound_of z)) e)
 factors_weight-at (y ∷ ys) (suc i) x h e = omega (arith, factors_weight-at ys i x (omega arith) e)
 
--- what a bound is seen as, with the parts of a node as a list
+-- the view of a bound, with the parts of a node as a list
 pub ruleset views = (seen, list_of-parts_of)

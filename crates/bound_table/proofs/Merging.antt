@@ -23,12 +23,12 @@ is_lt-Less Less lt = refl
 is_lt-Less Equal lt = cc
 is_lt-Less Greater lt = cc
 
--- what comes before what comes before comes before
+-- `before` is transitive
 before-trans : (k : Kind) (a b c : plain.Bound) → before k a b ≡ true → before k b c ≡ true → before k a c ≡ true
 before-trans k a b c ab bc =
     ap is_lt ((order_of-total k).trans a b c (is_lt-Less (order_of k a b) ab) (is_lt-Less (order_of k b c) bc))
 
--- what comes before c comes before all that does not
+-- an element before c comes before all elements that aren't
 before-apart : (k : Kind) (a b c : plain.Bound) → before k a c ≡ true → before k b c ≡ false → before k a b ≡ true
 before-apart k a b c ac bc = go (order_of k a b) refl
   where
@@ -71,7 +71,7 @@ inserted-later : (k : Kind) (p q : plain.Bound) (qs : List plain.Bound) → befo
     → inserted k p (q ∷ qs) ≡ q ∷ inserted k p qs
 inserted-later k p q qs is = ap (λ b. cond b (q ∷ inserted k p qs) (p ∷ q ∷ qs)) is
 
--- and before anything else
+-- an element is inserted before one that doesn't come before it
 inserted-here : (k : Kind) (p q : plain.Bound) (qs : List plain.Bound) → before k q p ≡ false
     → inserted k p (q ∷ qs) ≡ p ∷ q ∷ qs
 inserted-here k p q qs is = ap (λ b. cond b (q ∷ inserted k p qs) (p ∷ q ∷ qs)) is
@@ -82,7 +82,7 @@ merged-second : (k : Kind) (p : plain.Bound) (ps : List plain.Bound) (q : plain.
 merged-second k p ps q qs is =
     merged-step k p ps q qs ∙ ap (λ b. cond b (q ∷ merged k (p ∷ ps) qs) (p ∷ merged k ps (q ∷ qs))) is
 
--- else the first of the first list does
+-- else the first of the first list comes first
 merged-first : (k : Kind) (p : plain.Bound) (ps : List plain.Bound) (q : plain.Bound) (qs : List plain.Bound)
     → before k q p ≡ false → merged k (p ∷ ps) (q ∷ qs) ≡ p ∷ merged k ps (q ∷ qs)
 merged-first k p ps q qs is =
@@ -127,7 +127,7 @@ inserted-step k p x xs y ys ih ih' false false false is_xp is_yx is_yp =
     ∙ sym (inserted-here k p x (merged k xs (y ∷ ys)) is_xp)
     ∙ ap (inserted k p) (sym (merged-first k x xs y ys is_yx))
 
--- the same for any second list
+-- the law for any second list
 merged-inserted_by : (k : Kind) (p x : plain.Bound) (xs : List plain.Bound)
     → ((zs : List plain.Bound) → merged k (inserted k p xs) zs ≡ inserted k p (merged k xs zs))
     → (ys : List plain.Bound) → merged k (inserted k p (x ∷ xs)) ys ≡ inserted k p (merged k (x ∷ xs) ys)

@@ -1,4 +1,4 @@
--- The nodes of what a product is multiplied out to.
+-- The number of nodes of a product multiplied out.
 use Rattle.std.proofs.Common.{◌≡◌, ℕ, ◌+◌, min, List, [], ◌∷◌, ◌++◌, length, refl, ap, arith}
 use Rattle.bound_expr.specs.model.Bounds.{Bound}
 use Rattle.bound_expr.specs.Views.{parts_of}
@@ -34,7 +34,7 @@ placed-nodes : (before after fs : List Bound)
 placed-nodes before after fs =
     omega (arith, nodes_of-append before (fs ++ after), nodes_of-append fs after)
 
--- where it is a single factor, the nodes of the product are theirs, counted up to a limit
+-- for a single factor, the nodes of the product are its nodes, counted up to a limit
 pub in_place-single : (before after fs : List Bound) (p : Bound) (others inner nodes limit : ℕ)
     → fs ≡ parts_of_kind AsProd p → length (before ++ (fs ++ after)) ≡ 1
     → others ≡ min (nodes_of before + nodes_of after) limit → inner ≡ min (nodes_of fs) limit

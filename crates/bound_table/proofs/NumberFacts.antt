@@ -68,7 +68,7 @@ module _ (F : Bound → Type 0) (of : IsOfNumbers F) (constant : (c : ℕ) → c
     (constant c small, Each-parts_of F (factors_of p) (Each-factors_of F p each)),
   )
 
-  -- so each case keeps it
+  -- each case keeps the property
   numbers-kept : (k : Kind) → IsKept k (EachNode F)
   numbers-kept k = record {
     constant = constant;
@@ -98,7 +98,7 @@ module _ (F : Bound → Type 0) (of : IsOfNumbers F) (constant : (c : ℕ) → c
   sum_or_single-each (p ∷ []) each = each.0
   sum_or_single-each (p ∷ q ∷ ps) each = whole-each AsSum (p ∷ q ∷ ps) each
 
-  -- what is left of an exponent
+  -- the remaining exponent has the property
   exponent_left-each : (e : Bound) → EachNode F e → EachNode F (exponent_left e)
   exponent_left-each (SumOf ps) each =
       sum_or_single-each (but_first_constant (list_of ps))
@@ -266,7 +266,7 @@ module _ (F : Bound → Type 0) (of : IsOfNumbers F) (constant : (c : ℕ) → c
   passes-each (suc n) cs b each =
       passes-each n cs (one_pass cs b) (at_node_all-each cs (parts_passed cs b) (parts_passed-each cs b each))
 
-  -- what a rewriting gives
+  -- a rewritten bound has the property
   pub simplified-each : (cs : List Case) (b outcome : Bound) → outcome ≡ simplified cs b → EachNode F b
       → EachNode F outcome
   simplified-each cs b outcome is each = subst (EachNode F) (sym (is ∙ simplified-is cs b)) (passes-each 16 cs b each)
@@ -279,7 +279,7 @@ at_node-based = at_node-each (IsBasedFrom 1) (bases-of_numbers 1) (λ c small. t
 pub at_node_all-based : (cs : List Case) (b : Bound) → IsBased b → IsBased (at_node_all cs b)
 at_node_all-based = at_node_all-each (IsBasedFrom 1) (bases-of_numbers 1) (λ c small. tt)
 
--- and through the parts
+-- a pass through the parts keeps the property
 pub parts_passed-based : (cs : List Case) (b : Bound) → IsBased b → IsBased (parts_passed cs b)
 parts_passed-based = parts_passed-each (IsBasedFrom 1) (bases-of_numbers 1) (λ c small. tt)
 
@@ -289,7 +289,7 @@ simplified-reads cs b outcome is = record {
   each = λ n reads. simplified-each (IsInputBelow n) (inputs-of_numbers n) (λ c small. tt) cs b outcome is reads;
 }
 
--- and keeps the properties of bases and constants
+-- rewriting keeps the properties of bases and constants
 pub simplified-numbers : (cs : List Case) (b outcome : Bound) → outcome ≡ simplified cs b → KeepsNumbers outcome b
 simplified-numbers cs b outcome is = record {
   bases = λ n has. simplified-each (IsBasedFrom n) (bases-of_numbers n) (λ c small. tt) cs b outcome is has;

@@ -1,4 +1,4 @@
--- What holds of every part before a case holds of every part after it.
+-- A property of every part before a case is one of every part after it.
 use Rattle.std.proofs.Common.{◌≡◌, ℕ, ◌≤◌, nat_le, Bool, true, false, cond, ◌&&◌, List, [], ◌∷◌, ◌++◌, refl}
 use Rattle.std.specs.List.{list_any, count_by}
 use Rattle.std.specs.Ordering.{is_lt}
@@ -20,21 +20,21 @@ use Rattle.bound_table.specs.Dominance.{dominant_after, dominant}
 use Rattle.bound_table.specs.Below.{below}
 use Rattle.bound_table.proofs.Each.{Each, IsFilled, Each-append}
 
--- a fact that holds of what a case makes new among the parts of a node of the kind
+-- a property of the new parts that a case makes in a node of the kind
 pub record IsKept (k : Kind) (P : Bound → Type 0) : Type 0 where
   pub constant : (c : ℕ) → c ≤ constant_limit → P (Constant c)
   pub inner : (p : Bound) → P p → Each P (parts_of_kind k p)
   pub product : k ≡ AsSum → (c : ℕ) (p : Bound) → c ≤ constant_limit → IsFilled (factors_of p) → P p
       → P (times c (factors_of p))
 
--- splicing keeps what holds of the parts of a part
+-- splicing keeps a property of the parts of a part
 pub Each-spliced : (k : Kind) (P : Bound → Type 0) (ps : List Bound) → ((p : Bound) → P p → Each P (parts_of_kind k p))
     → Each P ps → Each P (spliced k ps)
 Each-spliced k P [] inner each = tt
 Each-spliced k P (p ∷ ps) inner each =
     Each-append P (parts_of_kind k p) (spliced k ps) (inner p each.0) (Each-spliced k P ps inner each.1)
 
--- dropping constants keeps what holds of each part
+-- dropping constants keeps a property of each part
 Each-without_constants : (P : Bound → Type 0) (ps : List Bound) → Each P ps → Each P (without_constants ps)
 Each-without_constants P [] each = tt
 Each-without_constants P (p ∷ ps) each = go (is_constant p) (Each-without_constants P ps each.1)
@@ -43,7 +43,7 @@ Each-without_constants P (p ∷ ps) each = go (is_constant p) (Each-without_cons
     go true ih = ih
     go false ih = (each.0, ih)
 
--- the same for one constant in place of all, of which it holds
+-- one constant in place of all keeps a property that it has
 Each-with_one_constant : (P : Bound → Type 0) (c : ℕ) (ps : List Bound) → P (Constant c) → Each P ps
     → Each P (with_one_constant c ps)
 Each-with_one_constant P c [] here each = tt
@@ -54,7 +54,7 @@ Each-with_one_constant P c (p ∷ ps) here each = go (is_constant p) (Each-with_
     go true ih = (here, Each-without_constants P ps each.1)
     go false ih = (each.0, ih)
 
--- so folding keeps it
+-- folding keeps the property
 pub Each-folded : (k : Kind) (P : Bound → Type 0) (ps : List Bound) → ((c : ℕ) → c ≤ constant_limit → P (Constant c))
     → Each P ps → Each P (folded k ps)
 Each-folded k P ps constant each = go (nat_le 2 (count_by is_constant ps)) (nat_le total constant_limit) refl
@@ -70,7 +70,7 @@ Each-folded k P ps constant each = go (nat_le 2 (count_by is_constant ps)) (nat_
     go true false is = each
     go false small is = each
 
--- the same for dropping what changes nothing
+-- dropping neutral parts keeps the property
 pub Each-without_neutral : (k : Kind) (P : Bound → Type 0) (ps : List Bound) → Each P ps → Each P (without_neutral k ps)
 Each-without_neutral k P [] each = tt
 Each-without_neutral k P (p ∷ ps) each = go (is_neutral k p) (Each-without_neutral k P ps each.1)
@@ -89,7 +89,7 @@ Each-inserted k P p (q ∷ ps) here each = go (is_lt (order_of k q p)) (Each-ins
     go true ih = (each.0, ih)
     go false ih = (here, each)
 
--- so sorting keeps it
+-- sorting keeps the property
 pub Each-sorted : (k : Kind) (P : Bound → Type 0) (ps : List Bound) → Each P ps → Each P (sorted k ps)
 Each-sorted k P [] each = tt
 Each-sorted k P (p ∷ ps) each = Each-inserted k P p (sorted k ps) each.0 (Each-sorted k P ps each.1)
@@ -107,7 +107,7 @@ Each-dominant_after P kept (p ∷ ps) each each' =
     go true ih ih' = ih
     go false ih ih' = ih'
 
--- so it holds of the parts that stay
+-- the parts that stay have the property
 pub Each-dominant : (k : Kind) (P : Bound → Type 0) (ps : List Bound) → Each P ps → Each P (dominant k ps)
 Each-dominant AsMax P ps each = Each-dominant_after P [] ps tt each
 Each-dominant AsSum P ps each = each
@@ -139,13 +139,13 @@ with_part_before-good t P p (r ∷ rs) here good = go (t p r.first) refl
     go true like = (record { each = (here, good.0.each); alike = (like, good.0.alike) }, good.1)
     go false unlike = (record { each = (here, tt); alike = tt }, good)
 
--- so the runs of such parts are
+-- the runs of such parts are good
 pub runs_of-good : (t : Bound → Bound → Bool) (P : Bound → Type 0) (ps : List Bound) → Each P ps
     → EachRun (IsGoodRun t P) (runs_of t ps)
 runs_of-good t P [] each = tt
 runs_of-good t P (p ∷ ps) each = with_part_before-good t P p (runs_of t ps) each.0 (runs_of-good t P ps each.1)
 
--- joining runs keeps what holds of each part, where joining one run does
+-- joining runs keeps a property of each part, if joining one run does
 pub Each-all_runs_joined : (t : Bound → Bound → Bool) (join : List Bound → List Bound) (P : Bound → Type 0)
     → ((p : Bound) (ps : List Bound) → Each P (p ∷ ps) → AreTogether t p ps → Each P (join (p ∷ ps)))
     → (rs : List Run) → EachRun (IsGoodRun t P) rs → Each P (all_runs_joined join rs)
@@ -174,7 +174,7 @@ Each-joined_list k P sum kept p (q ∷ qs) each alike = go (nat_le (constants_to
     )
     go false is = each
 
--- so joining like parts keeps it
+-- joining like parts keeps the property
 pub Each-likes_joined : (k : Kind) (P : Bound → Type 0) → IsKept k P → (ps : List Bound) → Each P ps
     → Each P (likes_joined k ps)
 Each-likes_joined AsSum P kept ps each =

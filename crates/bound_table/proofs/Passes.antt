@@ -35,7 +35,7 @@ unfolding passes
 passes-same zero cs b same = refl
 passes-same (suc n) cs b same = ap (passes n cs) same ∙ passes-same n cs b same
 
--- so ending after a pass that changes nothing gives what all the passes give
+-- ending after a pass that changes nothing gives the result of all the passes
 passes_until_same-is : (n : ℕ) (cs : List Case) (b : Bound) → passes_until_same n cs b ≡ passes n cs b
 unfolding passes_until_same passes
 passes_until_same-is zero cs b = refl
@@ -50,7 +50,7 @@ passes_until_same-is (suc n) cs b =
         sym (ap (passes n cs) nothing ∙ passes-same n cs b nothing)
     go false is rest = rest
 
--- so sixteen passes give the outcome
+-- sixteen passes give the outcome
 pub simplified-is : (cs : List Case) (b : Bound) → simplified cs b ≡ passes 16 cs b
 unfolding simplified
 simplified-is cs b = passes_until_same-is 16 cs b
@@ -69,7 +69,7 @@ simplified-same n cs b now next h still is same =
     let again : one_pass cs now ≡ now = sym is ∙ same in
     same ∙ sym (passes-same n cs now again) ∙ still ∙ sym (simplified-is cs b)
 
--- and so do all the passes
+-- all the passes give the outcome
 pub simplified-done : (n : ℕ) (cs : List Case) (b now : Bound) → n ≡ 0 → passes n cs now ≡ passes 16 cs b
     → now ≡ simplified cs b
 unfolding passes

@@ -29,7 +29,7 @@ small_power-some c n v is = go (nat_le (c ^ n) constant_limit) refl is
         (same, subst (λ (w : ℕ). w ≤ constant_limit) (sym same) (leb-true (c ^ n) constant_limit within))
     go false within is = cc
 
--- so is the number of a power, and it is its value
+-- the number of a power is its value
 pub number_of_power-some : (c : ℕ) (e : Bound) (v : ℕ) (m : List ℕ) → number_of_power c e ≡ Some v
     → (v ≡ c ^ val e m) × (v ≤ constant_limit)
 number_of_power-some c (Constant n) v m is = small_power-some c n v is
@@ -59,7 +59,7 @@ HasTaken-before : (c : ℕ) (p : Bound) (ps : List Bound) (v : ℕ) (m : List �
     → (n : ℕ) × (v ≡ c ^ n) × (v ≤ constant_limit) × (val p m + sum_at ps m ≡ n + (val p m + sum_at (but_first_constant ps) m))
 HasTaken-before c p ps v m has = (has.taken, has.is_power, has.small, omega (arith, has.sum))
 
--- so they are where a power is taken
+-- the factors have the value if a power is taken out
 first_power-taken : (c : ℕ) (ps : List Bound) (v : ℕ) (m : List ℕ) → first_power c ps ≡ Some v → HasTaken c ps v m
 first_power-taken c [] v m is = cc
 first_power-taken c (Constant n ∷ ps) v m is =
@@ -151,7 +151,7 @@ powers-product c e (SumOf qs ∷ ps) m together = let no = together.0 in cc
 powers-product c e (ProductOf qs ∷ ps) m together = let no = together.0 in cc
 powers-product c e (MaximumOf qs ∷ ps) m together = let no = together.0 in cc
 
--- so a merged run has the product of its parts
+-- a merged run has the product of its parts
 powers_list-product : (p : Bound) (ps : List Bound) (m : List ℕ) → AreTogether have_one_base p ps
     → product_at (powers_list (p ∷ ps)) m ≡ product_at (p ∷ ps) m
 powers_list-product p [] m together = refl
@@ -165,7 +165,7 @@ powers_list-product (SumOf ps) (q ∷ qs) m together = refl
 powers_list-product (ProductOf ps) (q ∷ qs) m together = refl
 powers_list-product (MaximumOf ps) (q ∷ qs) m together = refl
 
--- so merging powers keeps the value
+-- merging powers keeps the value
 pub parts_at-powers_merged : (k : Kind) (ps : List Bound) (m : List ℕ)
     → parts_at k (powers_merged k ps) m ≡ parts_at k ps m
 parts_at-powers_merged AsProd ps m = parts_at-runs_joined AsProd have_one_base powers_list powers_list-product ps m

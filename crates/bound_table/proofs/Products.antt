@@ -14,15 +14,15 @@ abbrev pub parts_at : Kind → List Bound → List ℕ → ℕ
 parts_at k [] m = unit_of k
 parts_at k (p ∷ ps) m = joined k (val p m) (parts_at k ps m)
 
--- their sum
+-- the sum of a list of bounds at m
 abbrev pub sum_at : List Bound → List ℕ → ℕ
 sum_at ps m = parts_at AsSum ps m
 
--- their product
+-- the product of a list of bounds at m
 abbrev pub product_at : List Bound → List ℕ → ℕ
 product_at ps m = parts_at AsProd ps m
 
--- their maximum
+-- the maximum of a list of bounds at m
 abbrev pub maximum_at : List Bound → List ℕ → ℕ
 maximum_at ps m = parts_at AsMax ps m
 
@@ -41,7 +41,7 @@ pub val_maximum-list_of : (ps : Parts) (m : List ℕ) → val_maximum ps m ≡ m
 val_maximum-list_of NoParts m = refl
 val_maximum-list_of (Part p ps) m = ap (λ (v : ℕ). max (val p m) v) (val_maximum-list_of ps m)
 
--- and the other way round
+-- the sum of parts made from a list
 pub val_sum-parts_of : (ps : List Bound) (m : List ℕ) → val_sum (parts_of ps) m ≡ sum_at ps m
 val_sum-parts_of [] m = refl
 val_sum-parts_of (p ∷ ps) m = ap (λ (v : ℕ). val p m + v) (val_sum-parts_of ps m)

@@ -1,4 +1,4 @@
--- Joining runs keeps what the parts come to, where joining one run does.
+-- Joining runs keeps the value of the parts, if joining one run does.
 use Rattle.std.proofs.Common.{◌≡◌, ℕ, Bool, true, false, cond, List, [], ◌∷◌, ◌++◌, refl, ap, sym, ◌∙◌}
 use Rattle.bound_expr.specs.model.Bounds.{Bound}
 use Rattle.bound_table.specs.declared.kinds.Kind.{Kind}
@@ -50,7 +50,7 @@ all_runs_joined-value k t join one (r ∷ rs) m good =
     ∙ ap (joined k (parts_at k (run_parts r) m)) (all_runs_joined-value k t join one rs m good.1)
     ∙ sym (parts_at-append k (run_parts r) (all_parts rs) m)
 
--- so joining runs keeps it
+-- joining runs keeps the value
 pub parts_at-runs_joined : (k : Kind) (t : Bound → Bound → Bool) (join : List Bound → List Bound)
     → ((p : Bound) (ps : List Bound) (m : List ℕ) → AreTogether t p ps
     → parts_at k (join (p ∷ ps)) m ≡ parts_at k (p ∷ ps) m)

@@ -28,7 +28,7 @@ module _ (j : Joining) where
   abbrev pub before_runs : plain.Bound → List Run → List Run
   before_runs = with_part_before (belong_together j)
 
-  -- a part that goes on with a run
+  -- a part that continues a run
   abbrev pub goes_on : List plain.Bound → plain.Bound → Bool
   goes_on = last_belongs (belong_together j)
 
@@ -95,7 +95,7 @@ module _ (j : Joining) where
       (λ b. cond b (record { first = p; others = r ∷ ps } ∷ []) (record { first = p; others = [] } ∷ record { first = r; others = ps } ∷ []))
       chain.0
 
-  -- what a run that has ended gives, and what goes on behind it
+  -- the parts of a run that has ended, and those after it
   pub runs-ended : (run : List plain.Bound) (q : plain.Bound) (qs : List plain.Bound) → IsChain run
       → goes_on run q ≡ false
       → joined_by_runs (run ++ q ∷ qs) ≡ run_joined j run ++ joined_by_runs (q ∷ qs)
@@ -125,7 +125,7 @@ module _ (j : Joining) where
     pub joined : done ++ joined_by_runs (run ++ left) ≡ joined_by_runs all
     pub chain : IsChain run
 
-  -- a part that goes on with the run
+  -- a part that continues the run
   pub Stands-more : (done run : List plain.Bound) (q : plain.Bound) (qs all now : List plain.Bound)
       → Stands done run (q ∷ qs) all → goes_on run q ≡ true
       → now ≡ run ++ q ∷ [] → Stands done now qs all

@@ -1,4 +1,4 @@
--- The factors of a product about the first sum among them, as a loop finds them.
+-- The factors of a product before and after the first sum among them, as a loop finds them.
 use Rattle.std.proofs.Common.{◌≡◌, ℕ, ◌+◌, ◌<◌, ◌≤◌, true, false, List, [], ◌∷◌, ◌++◌, length, get_or, take, drop, refl}
 use Rattle.std.proofs.Common.{ap, sym}
 use Rattle.std.proofs.Common.{◌∙◌, append_assoc, append-nil, subst}
@@ -33,7 +33,7 @@ before_sum-other (ProductOf qs) ps other = (refl, refl, refl, refl)
 before_sum-other (MaximumOf qs) ps other = (refl, refl, refl, refl)
 before_sum-other (PowerOf c e) ps other = (refl, refl, refl, refl)
 
--- so it is one of the factors that were passed
+-- it is one of the factors that were passed
 pub ArePassed-more : (seen : List plain.Bound) (p : plain.Bound) (ps all : List plain.Bound) → is_sum p ≡ false
     → ArePassed seen (p ∷ ps) all
     → ArePassed (seen ++ p ∷ []) ps all

@@ -1,4 +1,4 @@
--- What the table in force keeps.
+-- The properties that the table in force keeps.
 use Rattle.std.proofs.Common.{[], ◌∷◌, refl}
 use Rattle.bound_expr.specs.model.Bounds.{Bound, IsBased}
 use Rattle.bound_expr.specs.Numbers.{HasTidyNumbers}
@@ -12,7 +12,7 @@ use Rattle.bound_table.proofs.Values.{simplified-value}
 use Rattle.bound_table.proofs.NumberFacts.{simplified-reads, simplified-numbers}
 use Rattle.bound_table.proofs.TidyCases.{simplified-tidy}
 
--- it begins with Flat and ends with Few
+-- the table begins with Flat and ends with Few
 pub in_force-tidying : IsTidying cases_in_force
 in_force-tidying = record {
   between =
@@ -21,22 +21,22 @@ in_force-tidying = record {
   is = refl;
 }
 
--- it keeps the value
+-- the table keeps the value
 pub rewritten-value : (b : Bound) → IsBased b → HasValueOf (rewritten b) b
 unfolding rewritten
 rewritten-value b based = simplified-value cases_in_force b (rewritten b) refl based
 
--- and the properties of the numbers
+-- the table keeps the properties of the numbers
 pub rewritten-numbers : (b : Bound) → KeepsNumbers (rewritten b) b
 unfolding rewritten
 rewritten-numbers b = simplified-numbers cases_in_force b (rewritten b) refl
 
--- it reads no more inputs
+-- the table's result reads no further input
 pub rewritten-reads : (b : Bound) → ReadsNoMore (rewritten b) b
 unfolding rewritten
 rewritten-reads b = simplified-reads cases_in_force b (rewritten b) refl
 
--- and its outcomes are tidy
+-- the results of the table are tidy
 pub rewritten-tidy : (b : Bound) → HasTidyNumbers b → IsTidy (rewritten b)
 unfolding rewritten
 rewritten-tidy b has = simplified-tidy cases_in_force b (rewritten b) refl in_force-tidying has

@@ -1,4 +1,4 @@
--- Parts that take parts one after another: one more that is offered, marks of what is taken, and what is left over.
+-- Parts that take parts one after another: one more that is offered, marks of those taken, and those left over.
 use Rattle.std.proofs.Common.{◌≡◌, ℕ, ◌<◌, ◌==◌, Bool, true, false, cond, ◌&&◌, ◌||◌, List, [], ◌∷◌, length, slice_set}
 use Rattle.std.proofs.Common.{slice_index_or, refl, ap, sym, ◌∙◌, arith}
 use Rattle.std.specs.Prelude.{replicate}
@@ -25,7 +25,7 @@ length-marked_one marks (ProductOf ps) = refl
 length-marked_one marks (MaximumOf ps) = refl
 length-marked_one marks (PowerOf c e) = refl
 
--- and so do all marks together
+-- all marks together keep the length
 pub length-marked : (marks : List Bool) (ts : List Bound) → length (marked marks ts) ≡ length marks
 length-marked marks [] = refl
 length-marked marks (t ∷ ts) = length-marked (marked_one marks t) ts ∙ length-marked_one marks t
@@ -47,7 +47,7 @@ get_or-marked_one marks (ProductOf ps) i h = refl
 get_or-marked_one marks (MaximumOf ps) i h = refl
 get_or-marked_one marks (PowerOf c e) i h = refl
 
--- or with what fails changes nothing
+-- the disjunction with false changes nothing
 pub or-false : (b : Bool) → (b || false) ≡ b
 or-false true = refl
 or-false false = refl
@@ -86,7 +86,7 @@ marked-IsMarked n marks ts is = record {
 same_input-self : (i : ℕ) → is_same_input (Input i) (Input i) ≡ true
 same_input-self i = eq-eqb i i refl
 
--- what is among some is among more
+-- an element among some is among more
 input_among-more : (ts : List Bound) (t g : Bound) → input_among ts g ≡ true → input_among (t ∷ ts) g ≡ true
 input_among-more ts t (Input i) h = go (is_same_input (Input i) t)
   where
@@ -99,7 +99,7 @@ input_among-more ts t (ProductOf ps) h = refl
 input_among-more ts t (MaximumOf ps) h = refl
 input_among-more ts t (PowerOf c e) h = refl
 
--- what is taken is among what is taken
+-- an element that is taken is among those taken
 input_among-first : (ts : List Bound) (t : Bound) → input_among (t ∷ ts) t ≡ true
 input_among-first ts (Input i) = ap (λ v. v || list_any (is_same_input (Input i)) ts) (same_input-self i)
 input_among-first ts (Constant c) = refl
@@ -113,7 +113,7 @@ abbrev AllAmong : List Bound → List Bound → Type 0
 AllAmong us [] = Unit {0}
 AllAmong us (t ∷ ts) = (input_among us t ≡ true) × AllAmong us ts
 
--- and stay so where there is one more
+-- all of a list are among another with one more
 AllAmong-more : (us : List Bound) (u : Bound) (ts : List Bound) → AllAmong us ts → AllAmong (u ∷ us) ts
 AllAmong-more us u [] all = tt
 AllAmong-more us u (t ∷ ts) all = (input_among-more us u t all.0, AllAmong-more us u ts all.1)
@@ -123,7 +123,7 @@ AllAmong-self : (ts : List Bound) → AllAmong ts ts
 AllAmong-self [] = tt
 AllAmong-self (t ∷ ts) = (input_among-first ts t, AllAmong-more ts t ts (AllAmong-self ts))
 
--- what may be left is a power or an input, and the input is among what is taken
+-- an element that may be left over is a power or an input, and the input is among those taken
 spare-kind : (us : List Bound) (g : Bound) → may_be_leftover us g ≡ (is_power_or_input g && input_among us g)
 spare-kind us (Input i) = refl
 spare-kind us (Constant c) = refl
@@ -139,7 +139,7 @@ and-swap true false true d = refl
 and-swap true false false d = refl
 and-swap false b c d = refl
 
--- what is left over may be left where it is powers and inputs, and every input offered is among those that are taken
+-- the elements may be left over if they are powers and inputs, and every input offered is among those taken
 spare-split_among : (related : Bound → Bound → Bool) (us ps qs : List Bound) → AllAmong us (matches related ps qs)
     → list_all (may_be_leftover us) (leftovers related ps qs)
     ≡ (list_all is_power_or_input (leftovers related ps qs) && list_all (input_among us) qs)
@@ -166,7 +166,7 @@ spare-split_among related us (p ∷ ps) (q ∷ qs) all =
         ∙ and-swap (is_power_or_input q) (input_among us q) (list_all is_power_or_input (leftovers related (p ∷ ps) qs))
         (list_all (input_among us) qs)
 
--- so what is left over is split into two tests
+-- whether the elements may be left over is split into two tests
 pub spare-split : (related : Bound → Bound → Bool) (ps qs : List Bound)
     → list_all (may_be_leftover (matches related ps qs)) (leftovers related ps qs)
     ≡ (list_all is_power_or_input (leftovers related ps qs) && list_all (input_among (matches related ps qs)) qs)

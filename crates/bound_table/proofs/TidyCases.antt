@@ -36,7 +36,7 @@ use Rattle.bound_table.proofs.TidyParts.{tidy-spread}
 use Rattle.bound_table.proofs.TidyPowers.{at_power-nearly, powers_merged-tidy}
 use Rattle.bound_table.proofs.TidyDistribution.{distributed-nearly}
 
--- and tidy where it is made simple
+-- making a node simple makes it tidy
 simple-tidy : (k : Kind) (ps : List Bound) → Each (IsTidyPart k) ps → IsTidy (simple k ps)
 simple-tidy k [] each = unit-small k
 simple-tidy k (p ∷ []) each = each.0.0
@@ -71,7 +71,7 @@ at_parts-nearly Like k ps each =
 at_parts-nearly Dominate k ps each = whole-nearly k (dominant k ps) (Each-dominant k (IsTidyPart k) ps each)
 at_parts-nearly Few k ps each = tidy-nearly (simple k ps) (simple-tidy k ps each)
 
--- so each case keeps a node nearly tidy
+-- each case keeps a node nearly tidy
 at_node-nearly : (c : Case) (b : Bound) → IsNearlyTidy b → IsNearlyTidy (at_node c b)
 unfolding at_node
 at_node-nearly c (Constant n) near = near
@@ -81,7 +81,7 @@ at_node-nearly c (ProductOf ps) near = at_parts-nearly c AsProd (list_of ps) nea
 at_node-nearly c (MaximumOf ps) near = at_parts-nearly c AsMax (list_of ps) near
 at_node-nearly c (PowerOf n e) near = at_power-nearly c n e near
 
--- and Few makes it tidy
+-- `Few` makes it tidy
 few-tidy : (b : Bound) → IsNearlyTidy b → IsTidy (at_node Few b)
 unfolding at_node
 few-tidy (Constant n) near = near
@@ -100,13 +100,13 @@ HasTidyParts (ProductOf ps) = Each IsTidy (list_of ps)
 HasTidyParts (MaximumOf ps) = Each IsTidy (list_of ps)
 HasTidyParts (PowerOf c e) = (2 ≤ c) × IsTidy e
 
--- so splicing makes parts tidy parts
+-- splicing makes parts tidy parts
 spliced-tidy : (k : Kind) (ps : List Bound) → Each IsTidy ps → Each (IsTidyPart k) (spliced k ps)
 spliced-tidy k [] each = tt
 spliced-tidy k (p ∷ ps) each =
     Each-append (IsTidyPart k) (parts_of_kind k p) (spliced k ps) (tidy-spread k p each.0) (spliced-tidy k ps each.1)
 
--- so Flat makes a node of tidy parts nearly tidy
+-- `Flat` makes a node of tidy parts nearly tidy
 flat-nearly : (b : Bound) → HasTidyParts b → IsNearlyTidy (at_node Flat b)
 unfolding at_node
 flat-nearly (Constant n) has = has
@@ -122,7 +122,7 @@ ended-tidy : (cs : List Case) (b : Bound) → IsNearlyTidy b → IsTidy (at_node
 ended-tidy [] b near = few-tidy b near
 ended-tidy (c ∷ cs) b near = ended-tidy cs (at_node c b) (at_node-nearly c b near)
 
--- so a table that begins with Flat and ends with Few makes a node of tidy parts tidy
+-- a table that begins with `Flat` and ends with `Few` makes a node of tidy parts tidy
 at_node_all-tidy : (cs : List Case) → IsTidying cs → (b : Bound) → HasTidyParts b → IsTidy (at_node_all cs b)
 at_node_all-tidy cs tidying b has =
     subst (λ (ds : List Case). IsTidy (at_node_all ds b)) (sym tidying.is)
@@ -150,7 +150,7 @@ mutual
     one_pass_each-tidy cs tidying ps has.1,
   )
 
--- so a pass does
+-- a pass makes a bound tidy
 one_pass-tidy : (cs : List Case) → IsTidying cs → (b : Bound) → HasTidyNumbers b → IsTidy (one_pass cs b)
 one_pass-tidy cs tidying b has = at_node_all-tidy cs tidying (parts_passed cs b) (parts_passed-tidy cs tidying b has)
 
@@ -161,7 +161,7 @@ passes-tidy zero cs tidying b tidy = tidy
 passes-tidy (suc n) cs tidying b tidy =
     passes-tidy n cs tidying (one_pass cs b) (one_pass-tidy cs tidying b (IsTidy-numbers b tidy))
 
--- so at least one pass makes it tidy
+-- at least one pass makes a bound tidy
 passes-made_tidy : (n : ℕ) (cs : List Case) → IsTidying cs → (b : Bound) → 1 ≤ n → HasTidyNumbers b
     → IsTidy (passes n cs b)
 unfolding passes

@@ -40,7 +40,7 @@ alone-tidy (SumOf qs) tidy = tidy
 alone-tidy (MaximumOf qs) tidy = tidy
 alone-tidy (PowerOf c e) tidy = tidy
 
--- the same among other factors
+-- a tidy part in place of a sum, among other factors
 in_place-tidy : (before after : List Bound) (p : Bound) → Each (IsTidyPart AsProd) before
     → Each (IsTidyPart AsProd) after → IsTidyPart AsSum p
     → IsTidyPart AsSum (in_place before after p)
@@ -52,7 +52,7 @@ in_place-tidy (f ∷ fs) after p b a tidy =
     product-part (f ∷ fs ++ (parts_of_kind AsProd p ++ after)) (placed-tidy (f ∷ fs) after p b a tidy.0)
     (omega (arith, length-append fs (parts_of_kind AsProd p ++ after), length-append (parts_of_kind AsProd p) after, spread-some AsProd p tidy.0))
 
--- and so is each of the parts
+-- each of the parts in its place is tidy
 places-tidy : (before after ps : List Bound) → Each (IsTidyPart AsProd) before → Each (IsTidyPart AsProd) after
     → Each (IsTidyPart AsSum) ps → Each (IsTidyPart AsSum) (each_in_place before after ps)
 places-tidy before after [] b a each = tt
@@ -63,7 +63,7 @@ places-tidy before after (p ∷ ps) b a each =
 sum-parts : (qs : Parts) → IsTidyPart AsProd (SumOf qs) → Each (IsTidyPart AsSum) (list_of qs)
 sum-parts qs tidy = each-part IsNoSum qs tidy.0.0.1 tidy.0.1
 
--- so a product that may be multiplied out is nearly tidy
+-- a product that may be multiplied out is nearly tidy
 pub distributed-nearly : (k : Kind) (ps : List Bound) → Each (IsTidyPart k) ps → IsNearlyTidy (distributed k ps)
 distributed-nearly AsSum ps each = whole-nearly AsSum ps each
 distributed-nearly AsMax ps each = whole-nearly AsMax ps each

@@ -15,7 +15,7 @@ use Rattle.bound_table.specs.Likes.{times}
 use Rattle.bound_table.proofs.Each.{Each, IsFilled, Each-after_constant}
 use Rattle.bound_table.proofs.PartFacts.{IsKept}
 
--- it is no node of the kind
+-- the bound is no node of the kind
 abbrev pub IsNoKind : Kind → Bound → Type 0
 IsNoKind AsSum b = IsNoSum b
 IsNoKind AsProd b = IsNoProduct b
@@ -30,7 +30,7 @@ pub each-part : (P : Bound → Type 0) (ps : Parts) → EachPart P ps → AreTid
 each-part P NoParts each tidy = tt
 each-part P (Part p ps) each tidy = ((tidy.0, each.0), each-part P ps each.1 tidy.1)
 
--- and a list of them as parts
+-- a list of tidy bounds as parts
 pub parts-tidy : (P : Bound → Type 0) (ps : List Bound) → Each (λ p. IsTidy p × P p) ps
     → EachPart P (parts_of ps) × AreTidy (parts_of ps)
 parts-tidy P [] each = (tt, tt)

@@ -24,7 +24,7 @@ use Rattle.bound_table.proofs.PartFacts.{AreTogether, runs_of-good, Each-all_run
 use Rattle.bound_table.proofs.PowerValues.{number_of_power-some, number_taken-some}
 use Rattle.bound_table.proofs.TidyParts.{IsTidyPart, each-part, IsNearlyTidy, whole-tidy, tidy-spread}
 
--- a list of parts has as many as the parts
+-- the list of parts has as many elements as there are parts
 pub length-list_of : (ps : Parts) → length (list_of ps) ≡ part_count ps
 length-list_of NoParts = refl
 length-list_of (Part p ps) = omega (arith, length-list_of ps)
@@ -58,7 +58,7 @@ sum_or_single-tidy [] each some = absurd (omega arith)
 sum_or_single-tidy (p ∷ []) each some = each.0.0
 sum_or_single-tidy (p ∷ q ∷ ps) each some = whole-tidy AsSum p q ps each
 
--- so what is left of a tidy exponent is tidy
+-- the remaining exponent of a tidy one is tidy
 exponent_left-tidy : (e : Bound) → IsTidy e → IsTidy (exponent_left e)
 exponent_left-tidy (SumOf ps) tidy =
     sum_or_single-tidy (but_first_constant (list_of ps))
@@ -78,7 +78,7 @@ evaluated-nearly n e near = go (number_of_power n e) refl
     go None is = near
     go (Some v) is = (number_of_power-some n e v [] is).1
 
--- the same for a power that may have a number taken out
+-- a power of which a number may be taken out is nearly tidy
 shifted-nearly : (n : ℕ) (e : Bound) → (2 ≤ n) × IsTidy e → IsNearlyTidy (shifted n e)
 shifted-nearly n e near = go (number_taken n e) refl
   where
@@ -143,7 +143,7 @@ one_power-tidy (SumOf ps) (q ∷ qs) each together = each
 one_power-tidy (ProductOf ps) (q ∷ qs) each together = each
 one_power-tidy (MaximumOf ps) (q ∷ qs) each together = each
 
--- so merging powers keeps tidy parts
+-- merging powers keeps tidy parts
 pub powers_merged-tidy : (k : Kind) (ps : List Bound) → Each (IsTidyPart k) ps → Each (IsTidyPart k) (powers_merged k ps)
 powers_merged-tidy AsProd ps each =
     Each-all_runs_joined have_one_base powers_list (IsTidyPart AsProd) one_power-tidy (runs_of have_one_base ps)

@@ -24,7 +24,7 @@ pub all_compared-shorter : (qs : List Bound) → (length qs == 0) ≡ false → 
 all_compared-shorter [] some = cc
 all_compared-shorter (q ∷ qs) some = refl
 
--- a bound spelt out in numbers: its kind, its number or base, its parts and a 0 behind the last one
+-- a bound spelled in numbers: its kind, its number or base, its parts and a 0 after the last one
 abbrev mutual
   spelled : Bound → List ℕ
   spelled (Constant c) = 1 ∷ c ∷ []
@@ -66,7 +66,7 @@ end-first (ProductOf ps) r s = refl
 end-first (MaximumOf ps) r s = refl
 end-first (PowerOf c e) r s = refl
 
--- and any bound after it
+-- the end comes before any bound after it
 end-last : (p : Bound) (r s : List ℕ) → slice_cmp nat_cmp (spelled p ++ r) (0 ∷ s) ≡ Greater
 end-last (Constant c) r s = refl
 end-last (Input i) r s = refl
@@ -75,7 +75,7 @@ end-last (ProductOf ps) r s = refl
 end-last (MaximumOf ps) r s = refl
 end-last (PowerOf c e) r s = refl
 
--- what spells bounds out is compared as the bounds are
+-- the spellings of bounds are compared as the bounds are
 mutual
   compared-spelled : (a b : Bound) (r s : List ℕ)
       → slice_cmp nat_cmp (spelled a ++ r) (spelled b ++ s) ≡ ordering_then (compared a b) (slice_cmp nat_cmp r s)
@@ -108,7 +108,7 @@ mutual
       ∙ ap (ordering_then (compared p q)) (all_compared-spelled ps qs r s)
       ∙ ordering_then-assoc (compared p q) (all_compared ps qs) (slice_cmp nat_cmp r s)
 
--- so bounds are compared as what spells them out
+-- bounds are compared as their spellings
 compared-by_spelling : (a b : Bound) → slice_cmp nat_cmp (spelled a) (spelled b) ≡ compared a b
 compared-by_spelling a b =
     ap (λ (w : List ℕ). slice_cmp nat_cmp w (spelled b)) (sym (append-nil (spelled a)))
@@ -133,11 +133,11 @@ compared-total =
 factors_compared-total : IsTotalOrder factors_compared
 factors_compared-total = then_total (on_total factor_rank nat_cmp_total) compared-total
 
--- the same for an order by a count, greater first
+-- the order by a count, greater first, is total
 count-total : (c : Counted) → IsTotalOrder (flip_args (on (count_in c) nat_cmp))
 count-total c = back_total (on_total (count_in c) nat_cmp_total)
 
--- the same for that of parts
+-- the order of parts is total
 parts_compared-total : IsTotalOrder parts_compared
 parts_compared-total =
     then_total (count-total Powers) (then_total (count-total Nests) (then_total (count-total Inputs)
@@ -149,7 +149,7 @@ order_of-total AsProd = factors_compared-total
 order_of-total AsSum = parts_compared-total
 order_of-total AsMax = parts_compared-total
 
--- what is equal in the structural order is the same
+-- two orders, one after the other, find equal only what both do
 ordering_then-parts : (a b : Ordering) → ordering_then a b ≡ Equal → (a ≡ Equal) × (b ≡ Equal)
 ordering_then-parts Less b e = cc
 ordering_then-parts Equal b e = (refl, e)
@@ -188,6 +188,6 @@ is_eq-Equal Less e = cc
 is_eq-Equal Equal e = refl
 is_eq-Equal Greater e = cc
 
--- so bounds that the test finds equal are the same
+-- bounds that the test finds equal are equal
 pub is_eq-same : (a b : Bound) → is_eq (compared a b) ≡ true → a ≡ b
 is_eq-same a b same = compared-same a b (is_eq-Equal (compared a b) same)

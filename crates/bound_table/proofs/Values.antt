@@ -88,7 +88,7 @@ one_pass-val : (cs : List Case) (b : Bound) (m : List ℕ) → IsBased b → val
     → val (one_pass cs b) m ≡ val b m
 one_pass-val cs b m based parts = at_node_all-val cs (parts_passed cs b) m (parts_passed-based cs b based) ∙ parts
 
--- and it does keep those of the parts
+-- passing through the parts keeps the value
 mutual
   unfolding parts_passed
 
@@ -121,7 +121,7 @@ mutual
   one_pass_each-maximum cs (Part p ps) m based =
       omega (arith, one_pass-val cs p m based.0 (parts_passed-val cs p m based.0), one_pass_each-maximum cs ps m based.1)
 
--- and passes keep the value of the bound
+-- passes keep the value of the bound
 passes-val : (n : ℕ) (cs : List Case) (b : Bound) (m : List ℕ) → IsBased b → val (passes n cs b) m ≡ val b m
 unfolding passes
 passes-val zero cs b m based = refl

@@ -1,4 +1,4 @@
--- What a rewriting within the limits gives is a rewriting, and not large.
+-- The result of rewriting within the limits is the rewritten bound, and not large.
 use Rattle.std.proofs.Common.{◌≡◌, Bool, true, false, if◌then◌else◌, refl, sym, subst}
 use Rattle.bound_expr.specs.model.Bounds.{Bound}
 use Rattle.bound_expr.specs.Measure.{is_large}
@@ -14,7 +14,7 @@ unless_large-fits P b fits = go (is_large b) refl
     go true is = tt
     go false is = fits is
 
--- what holds of the rewriting of a bound where that is not large holds of what fits
+-- a property of the rewritten bound, if that isn't large, is one of the result that fits
 pub rewritten_within-fits : (P : Bound → Type 0) (b : Bound) → (is_large (rewritten b) ≡ false → P (rewritten b))
     → WhereFits (rewritten_within b) P
 unfolding rewritten_within
@@ -25,7 +25,7 @@ rewritten_within-fits P b fits = go (is_large b) (unless_large-fits P (rewritten
     go true after = tt
     go false after = after
 
--- so it does of every answer that is the one of the definition
+-- it is one of every answer that agrees with the definition
 pub answer-fits : (P : Bound → Type 0) (b : Bound) (answer : Answer)
     → (is_large (rewritten b) ≡ false → P (rewritten b))
     → answer ≡ rewritten_within b → WhereFits answer P

@@ -8,20 +8,20 @@ use Rattle.bound_expr.specs.Kinds.{is_constant, is_power, is_input}
 use Rattle.bound_table.specs.Kinds.{is_same_input, is_nest}
 use Rattle.bound_table.specs.Terms.{constant_of, factors_of}
 
--- each of the first list, in order, takes the first of the second list, after the one taken before, that it is related
--- to; yes where each finds one
+-- each element of the first list, in order, takes the first related one of the second list after the one taken before;
+-- true if each finds one
 abbrev pub each_takes : (Bound → Bound → Bool) → List Bound → List Bound → Bool
 each_takes related [] qs = true
 each_takes related (p ∷ ps) [] = false
 each_takes related (p ∷ ps) (q ∷ qs) = cond (related p q) (each_takes related ps qs) (each_takes related (p ∷ ps) qs)
 
--- those of the second list that are taken so
+-- the elements of the second list that are taken
 abbrev pub matches : (Bound → Bound → Bool) → List Bound → List Bound → List Bound
 matches related [] qs = []
 matches related (p ∷ ps) [] = []
 matches related (p ∷ ps) (q ∷ qs) = cond (related p q) (q ∷ matches related ps qs) (matches related (p ∷ ps) qs)
 
--- those that are left over
+-- the elements that are left over
 abbrev pub leftovers : (Bound → Bound → Bool) → List Bound → List Bound → List Bound
 leftovers related [] qs = qs
 leftovers related (p ∷ ps) [] = []

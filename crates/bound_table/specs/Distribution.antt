@@ -20,7 +20,7 @@ abbrev pub width : Bound → ℕ
 width (SumOf ps) = length (list_of ps)
 width _ = 1
 
--- what the numbers of parts of all the sums among the factors multiply to
+-- the product of the numbers of parts of all the sums among the factors
 abbrev pub all_widths : List Bound → ℕ
 all_widths [] = 1
 all_widths (p ∷ ps) = width p * all_widths ps

@@ -11,7 +11,7 @@ abbrev pub belong_together : Joining → Bound → Bound → Bool
 belong_together AsLikes = is_like
 belong_together AsPowers = have_one_base
 
--- what the parts of a run become
+-- the parts that replace those of a run
 abbrev pub run_joined : Joining → List Bound → List Bound
 run_joined AsLikes = joined_list
 run_joined AsPowers = powers_list

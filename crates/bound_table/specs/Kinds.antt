@@ -12,7 +12,7 @@ whole AsSum ps = SumOf (parts_of ps)
 whole AsProd ps = ProductOf (parts_of ps)
 whole AsMax ps = MaximumOf (parts_of ps)
 
--- the number that a node of a kind without parts stands for
+-- the number that a node of a kind without parts denotes
 abbrev pub unit_of : Kind → ℕ
 unit_of AsSum = 0
 unit_of AsProd = 1

@@ -1,4 +1,4 @@
--- what public contracts cite
+-- The definitions that public contracts cite.
 pub mod Comparison
 pub mod Below
 pub mod Rewriting
@@ -8,7 +8,7 @@ pub mod RewriteResult
 pub mod Worked
 pub mod WorkedParts
 pub mod WorkedBelow
--- what these say part by part
+-- the parts of these definitions
 pub mod Kinds
 pub mod Counting
 pub mod Terms
@@ -19,7 +19,7 @@ pub mod Likes
 pub mod Powers
 pub mod Distribution
 pub mod Dominance
--- what the proofs of loops cite besides
+-- further definitions that proofs of loops cite
 pub mod Taking
 pub mod Joining
 -- the crates below, which callers name through this one

@@ -54,7 +54,7 @@ abbrev pub exponent_left : Bound → Bound
 exponent_left (SumOf ps) = sum_or_single (but_first_constant (list_of ps))
 exponent_left e = e
 
--- a power as a number times what is left of it, where there is one
+-- a power as a number times the remaining power, if a number is taken out
 abbrev pub times_power_left : ℕ → Bound → Option ℕ → Bound
 times_power_left c e (Some v) = whole AsProd (Constant v ∷ PowerOf c (exponent_left e) ∷ [])
 times_power_left c e None = PowerOf c e

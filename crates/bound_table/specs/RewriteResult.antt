@@ -7,7 +7,7 @@ use Rattle.bound_table.specs.declared.within.RewriteResult as code
 use Rattle.bound_table.specs.declared.within.RewriteResult.TheVariants.{Rewritten, Large}
 use Rattle.bound_table.specs.InForce.{rewritten}
 
--- the rewritten bound, or the number of nodes of what is too large
+-- the rewritten bound, or the number of nodes of a bound that is too large
 pub data Answer : Type 0 where
   Fits : Bound → Answer
   TooLarge : ℕ → Answer

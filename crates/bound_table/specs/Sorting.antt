@@ -55,12 +55,12 @@ abbrev pub sorted : Kind → List Bound → List Bound
 sorted k [] = []
 sorted k (p ∷ ps) = inserted k p (sorted k ps)
 
--- the longest prefix of what comes before p
+-- the longest prefix of bounds that come before p
 abbrev pub coming_before : Kind → Bound → List Bound → List Bound
 coming_before k p [] = []
 coming_before k p (q ∷ qs) = cond (is_lt (order_of k q p)) (q ∷ coming_before k p qs) []
 
--- and the rest
+-- the rest
 abbrev pub not_before : Kind → Bound → List Bound → List Bound
 not_before k p [] = []
 not_before k p (q ∷ qs) = cond (is_lt (order_of k q p)) (not_before k p qs) (q ∷ qs)

@@ -13,7 +13,7 @@ abbrev pub paired_below : Pairing → (Bound → Bound → Bool) → Bound → B
 paired_below AsTerms smaller = term_below smaller
 paired_below AsFactors smaller = factor_below smaller
 
--- those that still look for one to take, after q has been offered to the first of them
+-- the elements that still need one to take, after q was offered to the first of them
 abbrev pub left_after : (Bound → Bound → Bool) → List Bound → Bound → List Bound
 left_after related [] q = []
 left_after related (p ∷ ps) q = cond (related p q) ps (p ∷ ps)
@@ -37,7 +37,7 @@ abbrev pub marked : List Bool → List Bound → List Bool
 marked marks [] = marks
 marked marks (t ∷ ts) = marked (marked_one marks t) ts
 
--- where it is an input, it is the same as one that is taken
+-- a bound that is an input is the same as one that is taken
 abbrev pub input_among : List Bound → Bound → Bool
 input_among ts (Input i) = list_any (is_same_input (Input i)) ts
 input_among ts _ = true

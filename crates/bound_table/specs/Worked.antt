@@ -48,7 +48,7 @@ pub record PowersAreShifted : Type 0 where
   pub no_constant : shifted 2 a_and_b ≡ PowerOf 2 a_and_b
   pub no_sum : shifted 2 (Constant 3) ≡ PowerOf 2 (Constant 3)
 
--- neighbours of one base merge, sums spliced; others don't, nor does a power alone, nor do parts of a sum
+-- neighbours of one base merge, with sums spliced; others don't, nor does a power alone, nor parts of a sum
 pub record PowersAreMerged : Type 0 where
   pub two : powers_merged AsProd (PowerOf 2 input_a ∷ PowerOf 2 input_b ∷ []) ≡ PowerOf 2 a_and_b ∷ []
   pub spliced : powers_merged AsProd (PowerOf 2 a_and_b ∷ PowerOf 2 input_c ∷ input_d ∷ [])

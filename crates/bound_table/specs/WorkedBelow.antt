@@ -55,8 +55,8 @@ pub record PowersAreBelow : Type 0 where
   pub left_over : below input_a (product (PowerOf 2 input_b) input_a) ≡ true
   pub input : below input_a (PowerOf 2 input_a) ≡ false
 
--- A is below A^2, since an input may be left over where it is taken too, and not below A*B, since B may be 0; constants
--- in front count, and none may stand among the factors
+-- A is below A^2, since an input may be left over if it is taken too, and not below A*B, since B may be 0; constants
+-- in front count, and there may be none among the factors
 pub record ProductsAreBelow : Type 0 where
   pub square : below input_a (product input_a input_a) ≡ true
   pub root : below (product input_a input_a) input_a ≡ false

@@ -1,4 +1,4 @@
--- What the cases that splice, fold, drop, sort and join parts make of small bounds, worked out by hand.
+-- Worked values of the cases that splice, fold, drop, sort and join parts of small bounds.
 use Rattle.std.specs.Prelude.{◌≡◌, ◌^◌, ◌-◌}
 use Rattle.bound_expr.specs.model.Bounds.{Bound, Constant, SumOf, ProductOf, MaximumOf, PowerOf, Parts, NoParts, Part}
 use Rattle.bound_expr.specs.model.Worked.{one_part, two_parts}
@@ -26,8 +26,8 @@ pub record PartsAreSpliced : Type 0 where
   pub other_kind : at_node Flat (SumOf (two_parts (MaximumOf (two_parts input_a input_b)) input_c))
       ≡ SumOf (two_parts (MaximumOf (two_parts input_a input_b)) input_c)
 
--- two or more constants become their sum, product or maximum, where the first one stands; one alone stays, and so do
--- those that make more than 2^127 - 1
+-- two or more constants become their sum, product or maximum, in the place of the first one; one alone stays, and so
+-- do those that make more than 2^127 - 1
 pub record ConstantsAreFolded : Type 0 where
   pub sum : at_node FoldConst (SumOf (Part input_a (three_parts (Constant 2) input_b (Constant 3))))
       ≡ SumOf (three_parts input_a (Constant 5) input_b)
@@ -114,7 +114,7 @@ pub record DominatedPartsAreDropped : Type 0 where
   pub apart : at_node Dominate (MaximumOf (two_parts input_a input_b)) ≡ MaximumOf (two_parts input_a input_b)
   pub in_sum : at_node Dominate (SumOf (two_parts input_a a_and_b)) ≡ SumOf (two_parts input_a a_and_b)
 
--- an empty sum or maximum is 0, an empty product 1, and a single part stands by itself; two parts stay
+-- an empty sum or maximum is 0, an empty product 1, and a single part replaces its node; two parts stay
 pub record FewPartsAreSimple : Type 0 where
   pub empty_sum : at_node Few (SumOf NoParts) ≡ Constant 0
   pub empty_product : at_node Few (ProductOf NoParts) ≡ Constant 1

@@ -51,7 +51,7 @@ fn product_distributed(alloc: Global, parts: Vec<Bound>) -> Result<Bound, Memory
     }
 }
 
-// The factors of a product multiplied out, where they are: none is copied before both limits have been looked at.
+// The factors of a product multiplied out, if they are: none is copied before both limits have been checked.
 fn multiplied_out(alloc: Global, parts: &[Bound]) -> Result<Option<Bound>, Memory>
     ensures { IfOk result (λ o. MatchOption o (is_multiplied_out (bounds_of parts.now) ≡ false)
         (λ r. (is_multiplied_out (bounds_of parts.now) ≡ true)

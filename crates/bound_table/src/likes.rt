@@ -92,7 +92,7 @@ fn factors_from(alloc: Global, part: Bound) -> Result<Vec<Bound>, Memory>
     }
 }
 
-// The factors behind a leading constant.
+// The factors after a leading constant.
 fn without_leading(parts: Vec<Bound>) -> Vec<Bound>
     ensures { bounds_of result.items ≡ after_constant (bounds_of parts.items) }
 {

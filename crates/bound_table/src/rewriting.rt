@@ -25,7 +25,7 @@ use std::alloc::Global;
 // How many passes are made at most.
 const PASS_LIMIT: u32 = 16;
 
-// The arms of a match on the case: each case by its name, with its result at the node; behind a semicolon the result of
+// The arms of a match on the case: each case by its name, with its result at the node; after a semicolon the result of
 // the other cases.
 macro_rules! cases {
     ($case:expr; $($name:ident => $outcome:expr),+ $(,)?) => {

@@ -45,7 +45,7 @@ fn merge(
     Ok(all)
 }
 
-// Moves the longest prefix of what comes before the part.
+// Moves the longest prefix of parts that come before the part.
 fn move_before(
     kind: Kind,
     part: &Bound,

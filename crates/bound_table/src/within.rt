@@ -46,7 +46,7 @@ pub fn rewrite_within(alloc: Global, b: &Bound) -> Result<RewriteResult, Memory>
     measured_first(alloc, b)
 }
 
-// The answer: a large bound is looked at before it is rewritten.
+// The answer: a large bound is measured before it is rewritten.
 #[tactic(auto, using(crate::proofs::Loops::views), unfolding(crate::specs::RewriteResult::rewritten_within))]
 fn measured_first(alloc: Global, b: &Bound) -> Result<RewriteResult, Memory>
     ensures { IfOk result (λ w. answer_of w ≡ rewritten_within (bound_of b.now)) }

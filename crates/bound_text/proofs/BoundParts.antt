@@ -56,7 +56,7 @@ term-factors (ProductOf (Part b (Part c bs))) shaped none = (refl, refl)
 term-factors (MaximumOf bs) shaped none = (refl, refl)
 term-factors (PowerOf c e) shaped none = (refl, refl)
 
--- parts behind others
+-- parts after others
 abbrev pub appended : Parts → Parts → Parts
 appended ts NoParts = ts
 appended ts (Part b bs) = appended (with_part ts b) bs
@@ -81,7 +81,7 @@ appended-plus : (ts bs : Parts) → appended ts bs ≡ plus_parts ts bs
 appended-plus ts NoParts = sym (plus_parts-none ts)
 appended-plus ts (Part b bs) = appended-plus (with_part ts b) bs ∙ plus_parts-with_part ts b bs
 
--- parts behind none are they
+-- parts after none are they
 pub appended-none : (bs : Parts) → appended NoParts bs ≡ bs
 appended-none bs = appended-plus NoParts bs
 

@@ -1,4 +1,4 @@
--- A run is carried with too many nodes exactly where it has too many.
+-- A run is carried with too many nodes exactly if it has too many.
 use Rattle.std.proofs.Common.{◌≡◌, ℕ, zero, suc, ◌+◌, ◌-◌, ◌^◌, ◌<◌, ◌≤◌, Bool, true, false, cond, min, nat_lt, nat_le}
 use Rattle.std.proofs.Common.{Option, Some, None, refl, ap, sym, subst, ◌∙◌, arith}
 use Rattle.std.proofs.lemmas.Bool.Decides.{nat_tests}
@@ -26,7 +26,7 @@ kept_few nodes n h = go (nat_lt node_limit nodes)
     go true = omega (arith, h)
     go false = omega (arith, h)
 
--- and of more two at least
+-- of more than two copies at least two are carried
 pub kept_two : (nodes n : ℕ) → 2 ≤ n → 2 ≤ copies_within_limit nodes n
 kept_two nodes n h = go (nat_lt node_limit nodes)
   where
@@ -38,35 +38,35 @@ kept_two nodes n h = go (nat_lt node_limit nodes)
 pub is_several : (n : ℕ) → 2 ≤ n → nat_lt 1 n ≡ true
 is_several n h = grind (arith, nat_tests)
 
--- and the other way round
+-- a number that passes the test is at least 2
 pub are_two : (n : ℕ) → nat_lt 1 n ≡ true → 2 ≤ n
 are_two n h = grind (arith, nat_tests)
 
--- or one at most
+-- a number that fails the test is at most 2
 pub are_few : (n : ℕ) → nat_lt 1 n ≡ false → n ≤ 2
 are_few n h = grind (arith, nat_tests)
 
--- and the other way round
+-- a number that passes the test is over the limit
 pub are_over : (m : ℕ) → nat_lt node_limit m ≡ true → node_limit < m
 are_over m h = grind (arith, nat_tests)
 
--- or within it
+-- a number within the limit fails the test
 pub is_within : (m : ℕ) → m ≤ node_limit → nat_lt node_limit m ≡ false
 is_within m h = grind (arith, nat_tests)
 
--- and the other way round
+-- a number that fails the test is within the limit
 pub are_within : (m : ℕ) → nat_lt node_limit m ≡ false → m ≤ node_limit
 are_within m h = grind (arith, nat_tests)
 
--- behind what is within the limit a run is carried whole that isn't over it
+-- after what is within the limit a run is carried whole that isn't over it
 pub kept_short : (nodes n : ℕ) → nat_lt node_limit nodes ≡ false → n ≤ node_limit → copies_within_limit nodes n ≡ n
 kept_short nodes n e h = ap (λ (v : Bool). min n (cond v 2 (node_limit + 1))) e ∙ omega (arith, h)
 
--- and one that is over it with copies over it
+-- copies over the limit are carried as copies over the limit
 kept_over : (nodes n : ℕ) → nat_lt node_limit nodes ≡ false → node_limit < n → node_limit < copies_within_limit nodes n
 kept_over nodes n e h = subst (λ (v : Bool). node_limit < min n (cond v 2 (node_limit + 1))) (sym e) (omega (arith, h))
 
--- the nodes behind a run
+-- the nodes after a run
 run_nodes : (outer : Outer) (ts fs : Parts) (n i : ℕ) → nat_lt 1 n ≡ true
     → nodes_of (front_at outer ts (with_copies n i fs) ItemRead) ≡ nodes_round outer + sum_node outer ts + node_count_of_all ts + 1 + node_count_of_all fs + n
 run_nodes outer ts fs zero i more = cc
@@ -80,7 +80,7 @@ run_large outer ts fs n i more h = ap (λ (v : Bool). has_many (when v f)) more 
     f : Front
     f = front_at outer ts (with_copies n i fs) ItemRead
 
--- or by what comes before
+-- the nodes are too many by the copies, or by the pieces before
 behind_large : (outer : Outer) (ts fs : Parts) (n i : ℕ) → nat_lt 1 n ≡ true → nat_lt node_limit (nodes_of (front_at outer ts fs (RunCaret i))) ≡ true → has_many (end_run outer ts fs i (Number n)) ≡ true
 behind_large outer ts fs zero i more h = cc
 behind_large outer ts fs (suc zero) i more h = cc
@@ -94,7 +94,7 @@ behind_large outer ts fs (suc (suc n)) i more h =
     g : Front
     g = front_at outer ts (with_copies (suc (suc n)) i fs) ItemRead
 
--- so the capped number of copies is too large exactly where the written one is
+-- the capped number of copies is too large exactly if the written one is
 pub run_many : (outer : Outer) (ts fs : Parts) (n i : ℕ)
     → has_many (end_run outer ts fs i (Number (copies_within_limit (nodes_of (front_at outer ts fs (RunCaret i))) n))) ≡ has_many (end_run outer ts fs i (Number n))
 run_many outer ts fs n i = go (nat_lt 1 n) refl
@@ -156,13 +156,13 @@ carries fs n kept i nodes before many e b more k m = record {
 carries_begun : (n kept : ℕ) (many : Bool) → nat_lt 1 n ≡ true → copies_within_limit 1 n ≡ kept → nat_lt node_limit (1 + 0 + n) ≡ many → IsCarried begun_run n kept many
 carries_begun n kept many = carries NoParts n kept 0 1 0 many refl refl
 
--- the nodes of `B^` behind copies
+-- the nodes of `B^` after copies
 behind_nodes : (k : ℕ) → nat_lt 0 k ≡ true → nodes_of (behind_run k) ≡ k + 2
 behind_nodes zero h = cc
 behind_nodes (suc k) h =
     omega (arith, product_node-with_part (with_copies (suc k) 0 NoParts) (Input 0) refl, product_two (with_copies k 0 NoParts) (Input 0) (Input 0), node_count-with_copies (suc k) 0 NoParts)
 
--- and behind copies
+-- the state after copies is carried
 carries_behind : (k n kept : ℕ) (many : Bool) → nat_lt 0 k ≡ true → nat_lt 1 n ≡ true → copies_within_limit (k + 2) n ≡ kept → nat_lt node_limit (1 + k + n) ≡ many → IsCarried (behind_run k) n kept many
 carries_behind k n kept many some = carries (with_copies k 0 NoParts) n kept 1 (k + 2) k many (behind_nodes k some) (omega (arith, node_count-with_copies k 0 NoParts))
 

@@ -1,4 +1,4 @@
--- No mark depends on how large a base is, nor on how long a run is.
+-- No mark depends on the size of a base, nor on the length of a run.
 use Rattle.std.proofs.Common.{◌≡◌, ℕ, zero, suc, ◌-◌, ◌+◌, ◌^◌, ◌<◌, ◌≤◌, Bool, true, false, cond, not, ◌&&◌, min}
 use Rattle.std.proofs.Common.{nat_lt, nat_le, List, [], ◌∷◌, Option, Some, None, refl, ap, sym, subst, ◌∙◌, arith}
 use Rattle.std.specs.Prelude.{IsTrue, Result, Ok, Err}
@@ -34,7 +34,7 @@ use Rattle.bound_text.proofs.StepCases.{step_leads}
 use Rattle.bound_text.proofs.TreeSizes.{grows}
 use Rattle.bound_text.proofs.MarkLaws.{copies_behind, ends_nothing}
 
--- the marks of a front behind a run
+-- the marks of a state after a run
 abbrev run_marks : Outer → Parts → Parts → ℕ → ℕ → Marks
 run_marks outer ts fs n i = front_marks (front_at outer ts (with_copies n i fs) ItemRead)
 
@@ -59,13 +59,13 @@ two_alike outer ts fs n i h = same (suc n) (more n) ∙ sym (same 1 refl)
         (copies_behind level (suc m) i fs [] (ends_nothing fs i (ap not h))
         ∙ ap (λ (v : Bool). factors_marks level Nothing fs (star_marks fs (Some level ∷ cond v (None ∷ None ∷ []) []))) e)
 
--- so every run that can be read has
+-- every run that can be read has at least two copies
 run_two : (outer : Outer) (ts fs : Parts) (n i : ℕ) → nat_lt 1 n ≡ true → is_input i (last fs) ≡ false → option_map front_marks (end_run outer ts fs i (Number n)) ≡ Some (run_marks outer ts fs 2 i)
 run_two outer ts fs zero i more h = cc
 run_two outer ts fs (suc zero) i more h = cc
 run_two outer ts fs (suc (suc n)) i more h = rw more (ap Some (two_alike outer ts fs n i h))
 
--- so a run has its marks as it is carried
+-- the carried run has the marks of the exact one
 run_alike : (outer : Outer) (ts fs : Parts) (nodes n i : ℕ) → is_input i (last fs) ≡ false
     → option_map front_marks (end_run outer ts fs i (Number (copies_within_limit nodes n))) ≡ option_map front_marks (end_run outer ts fs i (Number n))
 run_alike outer ts fs nodes n i h = go (nat_lt 1 n) refl
@@ -74,7 +74,7 @@ run_alike outer ts fs nodes n i h = go (nat_lt 1 n) refl
     go true e = run_two outer ts fs (copies_within_limit nodes n) i (is_several (copies_within_limit nodes n) (kept_two nodes n (are_two n e))) h ∙ sym (run_two outer ts fs n i e h)
     go false e = ap (λ (k : ℕ). option_map front_marks (end_run outer ts fs i (Number k))) (kept_few nodes n (are_few n e))
 
--- and so does a base
+-- the carried base has the marks of the exact one
 base_alike : (outer : Outer) (ts fs : Parts) (factor : Option Bound)
     → option_map front_marks (cond (is_large_number factor) (Some (front_at outer ts fs (PowerCaret (2 ^ 64 - 1)))) (caret_behind outer ts fs factor))
     ≡ option_map front_marks (caret_behind outer ts fs factor)
@@ -92,12 +92,12 @@ base_alike outer ts fs (Some (ProductOf bs)) = refl
 base_alike outer ts fs (Some (MaximumOf bs)) = refl
 base_alike outer ts fs (Some (PowerOf c e)) = refl
 
--- what is carried at a position, behind this many nodes
+-- the carried state after a piece at a position, after this many nodes
 abbrev carried_at : Position → Outer → Parts → Parts → ℕ → Piece → Option Front
 carried_at position outer ts fs nodes piece =
     cond (has_large_base_at position fs piece) (Some (front_at outer ts (init fs) (PowerCaret (2 ^ 64 - 1)))) (step_at position outer ts fs (kept_at position nodes piece))
 
--- behind an item
+-- after an item
 item_alike : (outer : Outer) (ts fs : Parts) (nodes : ℕ) (piece : Piece)
     → option_map front_marks (carried_at ItemRead outer ts fs nodes piece) ≡ option_map front_marks (step_at ItemRead outer ts fs piece)
 item_alike outer ts fs nodes (Variable i) = refl
@@ -112,7 +112,7 @@ item_alike outer ts fs nodes Blank = refl
 item_alike outer ts fs nodes Comma = refl
 item_alike outer ts fs nodes Wrong = refl
 
--- behind the `^` of a run
+-- after the `^` of a run
 number_alike : (outer : Outer) (ts fs : Parts) (nodes i : ℕ) (piece : Piece) → is_input i (last fs) ≡ false
     → option_map front_marks (carried_at (RunCaret i) outer ts fs nodes piece) ≡ option_map front_marks (step_at (RunCaret i) outer ts fs piece)
 number_alike outer ts fs nodes i (Variable j) h = refl
@@ -149,7 +149,7 @@ copies_same outer ts fs nodes n i small h = go (nat_lt 1 n) refl h
     go true e few = kept_short nodes n (is_within nodes small) (omega (arith, are_within (nodes_of f) few, node_count-with_copies n i fs))
     go false e few = kept_few nodes n (are_few n e)
 
--- and the piece itself
+-- the piece itself is carried unchanged
 kept_same : (position : Position) (outer : Outer) (ts fs : Parts) (nodes : ℕ) (piece : Piece) → nodes ≤ node_limit → has_many (step_at position outer ts fs piece) ≡ false
     → step_at position outer ts fs (kept_at position nodes piece) ≡ step_at position outer ts fs piece
 kept_same Begins outer ts fs nodes piece h many = refl
@@ -201,14 +201,14 @@ many_at BlankRead outer ts fs piece = refl
 many_at PlusRead outer ts fs piece = refl
 many_at CommaRead outer ts fs piece = refl
 
--- what is too large stays so, as the tree so far grows where a piece leads on
+-- a bound that is too large stays so, as the tree only grows
 stays_large : (f g : Front) (piece : Piece) (reached : Option Front) → IsFront f → step f piece ≡ reached → option_map front_marks (Some g) ≡ option_map front_marks reached
     → has_many (Some g) ≡ has_many reached → has_many (Some f) ≡ true → has_many (Some g) ≡ true
 stays_large f g piece None is leads marks many large = cc
 stays_large f g piece (Some h) is leads marks many large =
     many ∙ over (nodes_of h) (let more = (grows f h piece (step_leads f h piece is leads)).nodes in let before = are_over (nodes_of f) large in omega (arith, more, before))
 
--- what is carried leads on where the piece does, with the same marks, and is too large where that is
+-- the carried state accepts the same pieces, with the same marks, and is too large exactly if the exact one is
 pub carried_fronts_are_marked : CarriedFrontsAreMarked
 carried_fronts_are_marked = record {
   marks = λ f piece is. marks_alike f.position f.outer f.terms f.factors (nodes_of f) piece is.position;
@@ -247,7 +247,7 @@ run_carried outer ts fs behind piece nodes counted n kept i p more m k e = (
     several : nat_lt 1 kept ≡ true
     several = is_several kept two
 
--- behind a number that is a factor already no `^` can come
+-- after a number that is a factor already no `^` can come
 base_settled : (fs : Parts) (factor : Option Bound) → not (takes_caret fs factor) ≡ true → is_large_number factor ≡ true → ⊥
 base_settled fs None settled large = cc
 base_settled fs (Some (Constant c)) settled large = cc
@@ -279,7 +279,7 @@ finds_none n f piece behind base caret b e r u is h =
     go None h = refl
     go (Some kind) h = absurd h
 
--- or a fault does
+-- one of the tests finds the fault
 pub finds_some : (n : ℕ) (f : Front) (piece : Piece) (behind : List Piece) (base caret : Bool) → base ≡ (begins f.position && caret) → caret ≡ caret_next behind
     → (r : Result (Unit {0}) Fault) (fault : Fault) → r ≡ Err fault → FindsFault (fault_of n base piece) r → Some fault ≡ option_map fault_from (first_of (stands n f piece behind) early_kinds)
 finds_some n f piece behind base caret b e r fault is h =

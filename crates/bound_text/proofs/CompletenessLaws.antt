@@ -1,4 +1,4 @@
--- What a bound is written as leads the reader to that bound.
+-- The text of a bound leads the reader to that bound.
 use Rattle.std.proofs.Common.{◌≡◌, ℕ, zero, suc, ◌≤◌, nat_lt, nat_eq, Bool, true, false, not, cond, ◌&&◌, List, ◌∷◌}
 use Rattle.std.proofs.Common.{◌++◌, Option, Some, refl, ap, ◌∙◌, arith}
 use Rattle.std.specs.Prelude.{⊤}
@@ -20,11 +20,11 @@ use Rattle.bound_text.proofs.BoundParts.{factors_of, terms_from, last_factors, t
 use Rattle.bound_text.proofs.BoundParts.{appended, appended-none, bound-parts}
 use Rattle.std.proofs.lemmas.Bool.{eqb-true as same_number}
 
--- where an item can begin, and behind one
+-- where an item can begin, and after one
 abbrev pub starts : Outer → Parts → Parts → Option Front
 starts outer ts fs = Some (front_at outer ts fs Begins)
 
--- behind an item
+-- after an item
 abbrev pub stands : Outer → Parts → Parts → Option Front
 stands outer ts fs = Some (front_at outer ts fs ItemRead)
 
@@ -38,7 +38,7 @@ pub read_input : (outer : Outer) (ts fs : Parts) (i : ℕ) (rest : List Piece) �
     → walk (starts outer ts fs) (Variable i ∷ rest) ≡ walk (stands outer ts (with_part fs (Input i))) rest
 read_input outer ts fs i rest h = walk-when (not (is_input i (last fs))) (behind_factor outer ts fs (Input i)) rest (ap not h)
 
--- `^` behind a variable, and behind a number
+-- `^` after a variable, and after a number
 pub read_run_caret : (outer : Outer) (ts fs : Parts) (i : ℕ) (rest : List Piece) → is_input i (last fs) ≡ false
     → walk (stands outer ts (with_part fs (Input i))) (Caret ∷ rest) ≡ walk (Some (front_at outer ts fs (RunCaret i))) rest
 read_run_caret outer ts fs i rest h =
@@ -65,7 +65,8 @@ read_run outer ts fs (suc n) i rest h =
     ∙ read_run_caret outer ts fs i (Number (suc (suc n)) ∷ rest) h
     ∙ walk-when (nat_lt 1 (suc (suc n))) (front_at outer ts (with_copies (suc (suc n)) i fs) ItemRead) rest more
 
--- what the next bound is read as: a sum's term behind the first terms, a product where there is no factor before, or
+-- the next bound can follow: as a sum's term after the first terms, as a product if there is no factor before, or as
+-- one more factor
 -- one more factor
 abbrev pub CanFollow : Bound → Parts → Type 0
 CanFollow (Input i) fs = is_input i (last fs) ≡ false
@@ -107,7 +108,7 @@ bound_read (Input i) r outer rest = r.each outer NoParts NoParts rest refl
 bound_read (MaximumOf bs) r outer rest = r.each outer NoParts NoParts rest tt
 bound_read (PowerOf c e) r outer rest = r.each outer NoParts NoParts rest tt
 
--- a term is read behind others
+-- a term is read after others
 pub term_read : (b : Bound) → Reads b → IsNoSum b → (outer : Outer) (ts : Parts) (rest : List Piece) → walk (starts outer ts NoParts) (text_then b rest) ≡ walk (stands outer ts (factors_of b)) rest
 term_read (SumOf bs) r none outer ts rest = absurd none
 term_read (ProductOf fs) r none outer ts rest = r.each outer ts rest
@@ -116,7 +117,7 @@ term_read (Input i) r none outer ts rest = r.each outer ts NoParts rest refl
 term_read (MaximumOf bs) r none outer ts rest = r.each outer ts NoParts rest tt
 term_read (PowerOf c e) r none outer ts rest = r.each outer ts NoParts rest tt
 
--- ` + ` behind a term
+-- ` + ` after a term
 pub read_plus : (b : Bound) → IsShaped b → IsNoSum b → (outer : Outer) (ts : Parts) (rest : List Piece)
     → walk (stands outer ts (factors_of b)) (Blank ∷ Plus ∷ Blank ∷ rest) ≡ walk (starts outer (with_part ts b) NoParts) rest
 read_plus b shaped none outer ts rest =
@@ -133,7 +134,7 @@ terms_read b (Part c cs) r rs none shaped outer ts rest =
     ∙ read_plus b shaped.0 none.0 outer ts (text_then c (more_then plus_between cs rest))
     ∙ terms_read c cs rs.0 rs.1 none.1 shaped.1 outer (with_part ts b) rest
 
--- a bracket closes behind its bound
+-- a bracket closes after its bound
 close_read : (bracket : Bracket) (b : Bound) (outer : Outer) (ts' fs' ts fs : Parts) (rest : List Piece) → can_end fs ≡ true → bound_of_parts ts fs ≡ b → can_close bracket b ≡ true
     → walk (stands (Inside bracket ts' fs' outer) ts fs) (Close ∷ rest) ≡ walk (stands outer ts' (with_part fs' (item_of bracket b))) rest
 close_read bracket b outer ts' fs' ts fs rest ends is closes =
@@ -162,7 +163,7 @@ factor_read (PowerOf c e) r shaped none h outer ts fs rest = r.each outer ts fs 
 last-copies : (n i j : ℕ) (fs : Parts) → is_input j (last (with_copies (suc n) i fs)) ≡ nat_eq i j
 last-copies n i j fs = ap (is_input j) (last-with_part (with_copies n i fs) (Input i))
 
--- behind a factor that is no variable the last one is none
+-- after a factor that is no variable the last one is none
 no_input : (b : Bound) (j : ℕ) (fs : Parts) → is_variable b ≡ false → is_input j (last (with_part fs b)) ≡ false
 no_input b j fs h = ap (is_input j) (last-with_part fs b) ∙ go b h
   where
@@ -174,7 +175,7 @@ no_input b j fs h = ap (is_input j) (last-with_part fs b) ∙ go b h
     go (MaximumOf bs) h = refl
     go (PowerOf c e) h = refl
 
--- a variable behind a run that isn't read yet
+-- a variable after a run that isn't read yet
 variable_read : (bs : Parts) (n i j : ℕ) (outer : Outer) (ts fs : Parts) (rest : List Piece) → is_input i (last fs) ≡ false → (v : Bool) → nat_eq i j ≡ v
     → ((m : ℕ) (gs : Parts) → is_input i (last gs) ≡ false → walk (starts outer ts gs) (factors_then (Run i (suc m)) bs rest) ≡ walk (stands outer ts (appended (with_copies (suc m) i gs) bs)) rest)
     → ((gs : Parts) → is_input j (last gs) ≡ false → walk (starts outer ts gs) (factors_then (Run j 1) bs rest) ≡ walk (stands outer ts (appended (with_part gs (Input j)) bs)) rest)
@@ -189,7 +190,7 @@ variable_read bs n i j outer ts fs rest h false e same other =
     ∙ other (with_copies (suc n) i fs) (last-copies n i j fs ∙ e)
 
 mutual
-  -- the factors behind a run that isn't read yet
+  -- the factors after a run that isn't read yet
   run_factors_read : (bs : Parts) → AllRead bs → EachPart IsNoProduct bs → AreShaped bs → (n i : ℕ) (outer : Outer) (ts fs : Parts) (rest : List Piece) → is_input i (last fs) ≡ false
       → walk (starts outer ts fs) (factors_then (Run i (suc n)) bs rest) ≡ walk (stands outer ts (appended (with_copies (suc n) i fs) bs)) rest
   run_factors_read NoParts rs none shaped n i outer ts fs rest h = read_run outer ts fs n i rest h
@@ -202,7 +203,7 @@ mutual
       ∙ factor_read b rs.0 shaped.0 none.0 refl outer ts (with_copies (suc n) i fs) (factors_then Other bs rest)
       ∙ factors_read bs rs.1 none.1 shaped.1 outer ts (with_part (with_copies (suc n) i fs) b) rest (λ j. no_input b j (with_copies (suc n) i fs) refl)
 
-  -- the factors behind others
+  -- the factors after others
   factors_read : (bs : Parts) → AllRead bs → EachPart IsNoProduct bs → AreShaped bs → (outer : Outer) (ts fs : Parts) (rest : List Piece) → ((j : ℕ) → is_input j (last fs) ≡ false)
       → walk (stands outer ts fs) (factors_then Other bs rest) ≡ walk (stands outer ts (appended fs bs)) rest
   factors_read NoParts rs none shaped outer ts fs rest h = refl
@@ -222,7 +223,7 @@ product_read b bs rs none shaped outer ts rest = go b rs none shaped ∙ ap (λ 
         factor_read b rs.0 shaped.0 none.0 refl outer ts NoParts (factors_then Other bs rest)
         ∙ factors_read bs rs.1 none.1 shaped.1 outer ts (Part b NoParts) rest (λ j. no_input b j NoParts refl)
 
--- what is no maximum isn't tested as one
+-- a bound that is no maximum fails the test of a maximum
 no_maximum : (b : Bound) → IsNoMaximum b → is_maximum b ≡ false
 no_maximum (Constant c) h = refl
 no_maximum (Input i) h = refl
@@ -231,7 +232,7 @@ no_maximum (ProductOf bs) h = refl
 no_maximum (MaximumOf bs) h = absurd h
 no_maximum (PowerOf c e) h = refl
 
--- an argument with `, ` behind it is read
+-- an argument with `, ` after it is read
 pub argument_read : (b : Bound) → Reads b → IsShaped b → IsNoMaximum b → (args ts fs : Parts) (outer : Outer) (rest : List Piece)
     → walk (starts (Inside (Arguments args) ts fs outer) NoParts NoParts) (text_then b (Comma ∷ Blank ∷ rest)) ≡ walk (starts (Inside (Arguments (with_part args b)) ts fs outer) NoParts NoParts) rest
 argument_read b r shaped none args ts fs outer rest =
@@ -299,7 +300,7 @@ mutual
 pub walk-bound : (b : Bound) → IsShaped b → (rest : List Piece) → walk (Some beginning) (text_then b rest) ≡ walk (stands Whole (terms_in b) (factors_in b)) rest
 walk-bound b shaped rest = bound_read b (reads b shaped) Whole rest
 
--- and the text can end there
+-- the text can end after a bound
 pub finish-bound : (b : Bound) → IsShaped b → finish (front_at Whole (terms_in b) (factors_in b) ItemRead) ≡ Some b
 finish-bound b shaped =
     let p = bound-parts b shaped in

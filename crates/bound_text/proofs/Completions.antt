@@ -1,4 +1,4 @@
--- What has been read can be completed: a text begins with it.
+-- The pieces read so far can be completed: a text begins with them.
 use Rattle.std.proofs.Common.{◌≡◌, Bool, true, not, ◌&&◌, List, [], ◌∷◌, Option, Some, None, refl, ap, ◌∙◌}
 use Rattle.std.specs.Prelude.{IsTrue}
 use Rattle.text_core.specs.model.Bounds.{Bound, Constant, SumOf, PowerOf, Parts, NoParts, Part}
@@ -42,7 +42,7 @@ more outer ts fs c = record {
   ends = ap finished (walk-when (can_end (with_part fs (Constant 0))) (front_at outer ts (with_part fs (Constant 0)) BlankRead) (Plus ∷ Blank ∷ Number 0 ∷ c.pieces) (can_end_more fs)) ∙ c.ends;
 }
 
--- a bracket closes behind a sum
+-- a bracket closes after a sum
 closes : (bracket : Bracket) (ts' fs' : Parts) (outer : Outer) (ts : Parts) (t : Bound) → can_close bracket (bound_of_parts (with_part ts t) (Part (Constant 0) NoParts)) ≡ true
     → Completes (stands outer ts' (with_part fs' (item_of bracket (bound_of_parts (with_part ts t) (Part (Constant 0) NoParts)))))
     → Completes (stands (Inside bracket ts' fs' outer) (with_part ts t) (Part (Constant 0) NoParts))
@@ -68,14 +68,14 @@ one_more bs ts' fs' outer ts t c = record {
     B : Bound
     B = bound_of_parts (with_part ts t) (Part (Constant 0) NoParts)
 
--- all brackets close behind a sum
+-- all brackets close after a sum
 close_all : (outer : Outer) (ts : Parts) (t : Bound) → Completes (stands outer (with_part ts t) (Part (Constant 0) NoParts))
 close_all Whole ts t = record { pieces = []; bound = bound_of_parts (with_part ts t) (Part (Constant 0) NoParts); ends = refl }
 close_all (Inside (Arguments bs) ts' fs' outer) ts t = one_more bs ts' fs' outer ts t (more outer ts' _ (close_all outer ts' _))
 close_all (Inside (Exponent c) ts' fs' outer) ts t = closes (Exponent c) ts' fs' outer ts t (ap (λ (b : Bound). not (is_leaf b)) (two_terms ts t)) (more outer ts' _ (close_all outer ts' _))
 close_all (Inside Factor ts' fs' outer) ts t = closes Factor ts' fs' outer ts t (ap is_sum (two_terms ts t)) (more outer ts' _ (close_all outer ts' _))
 
--- behind an item
+-- after an item
 item_completes : (outer : Outer) (ts fs : Parts) → Completes (stands outer ts fs)
 item_completes outer ts fs = more outer ts fs (close_all outer ts (term_of (with_part fs (Constant 0))))
 
@@ -83,7 +83,7 @@ item_completes outer ts fs = more outer ts fs (close_all outer ts (term_of (with
 begin_completes : (outer : Outer) (ts fs : Parts) → Completes (starts outer ts fs)
 begin_completes outer ts fs = let c = item_completes outer ts (with_part fs (Constant 0)) in record { pieces = Number 0 ∷ c.pieces; bound = c.bound; ends = c.ends }
 
--- what has been read can be completed
+-- the pieces of a state can be completed
 pub completes : (f : Front) → IsFront f → Completes (Some f)
 completes f is = go f.position is.position
   where

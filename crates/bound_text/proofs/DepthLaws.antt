@@ -32,7 +32,7 @@ use Rattle.bound_text.specs.declared.state.Opened.{Opened}
 use Rattle.bound_text.specs.declared.state.Position.{Position}
 use Rattle.bound_text.proofs.MarkLaws.{other_factor, front_here}
 
--- what follows where nothing fails
+-- the result if no allocation fails
 abbrev pub Answer : Type 0
 Answer = Result (Unit {0}) AllocError
 
@@ -99,7 +99,7 @@ product_marked room lower old new b v items r is low same =
     (ap (λ (xs : List Bound). ProductOf (parts_of (bounds_of xs))) same ∙ sym (ap bound_of is ∙ bound_of-Prod v))
     (record { each = λ most level rest e. h.each most (suc level) rest (less room lower most level low e) }))
 
--- a maximum: its name, its arguments a level below, and the bracket behind them
+-- a maximum: its name, its arguments a level below, and the bracket after them
 pub maximum_marked : (room lower : ℕ) (old a c new : List Bool) (b : Bound) (v : Vec Bound Global) (items : List Bound) (r : Answer) → b ≡ Max v
     → lower ≡ room - 1 → items ≡ v.items → FlagsAll room old a (λ level rest. Some level ∷ rest)
     → FlagsAll lower a c (λ level. joined_marks comma_between level (parts_of (bounds_of items)))
@@ -131,7 +131,7 @@ power_marked room lower old a c new b base x exponent r is low same g h =
           ∙ g.each most level (None ∷ exponent_marks (is_leaf (bound_of exponent)) (bound_marks (suc level) (bound_of exponent)) rest) e;
     }))
 
--- such a factor behind what comes before it
+-- such a factor after what comes before it
 pub other_marked : (room : ℕ) (old a new : List Bool) (before : Before) (b : plain.Bound) (r : Answer) → IsFalse (is_variable b)
     → FlagsAll room old a (λ level rest. ended_marks level before (times_marks before rest))
     → OnOk r (FlagsAll room a new (λ level. factor_marks (is_sum b) level (bound_marks level b)))
@@ -161,7 +161,7 @@ factors_on room old mid new all before behind factors k f in_list here w h = rec
       (drop_more factors k f in_list ∙ ap (λ (x : Bound). x ∷ drop (k + 1) factors) (sym here)) (w.each most level rest e);
 }
 
--- behind the last factor the run before is all that is left
+-- after the last factor the run before is all that is left
 pub factors_done : (room : ℕ) (old mid new : List Bool) (all : ℕ → Marks → Marks) (before : Before) (factors : List Bound) (k : ℕ) (r : Answer)
     → length factors ≤ k → Flags room old mid all (λ level. factors_marks level before (parts_of (bounds_of (drop k factors))))
     → OnOk r (FlagsAll room mid new (λ level. ended_marks level before)) → OnOk r (FlagsAll room old new all)
@@ -173,7 +173,7 @@ factors_done room old mid new all before factors k r past w =
           (drop_all k factors past) (w.each most level rest e);
     })
 
--- behind the last part and its separator nothing is left
+-- after the last part and its separator nothing is left
 pub each_done : (room : ℕ) (old new : List Bool) (all : ℕ → Marks → Marks) (separator : List Piece) (parts : List Bound) (k : ℕ) → length parts ≤ k
     → Flags room old new all (λ level. each_marks separator level (parts_of (bounds_of (drop k parts)))) → FlagsAll room old new all
 each_done room old new all separator parts k past w = record {
@@ -182,7 +182,7 @@ each_done room old new all separator parts k past w = record {
       (drop_all k parts past) (w.each most level rest e);
 }
 
--- behind the last part nothing is left
+-- after the last part nothing is left
 pub parts_done : (room : ℕ) (old new : List Bool) (all : ℕ → Marks → Marks) (separator : List Piece) (parts : List Bound) (k : ℕ) → length parts ≤ k
     → Flags room old new all (λ level. more_marks separator level (parts_of (bounds_of (drop k parts)))) → FlagsAll room old new all
 parts_done room old new all separator parts k past w = record {
@@ -281,7 +281,7 @@ first_deep most (Some level ∷ marks) h (u ∷ ts) t e = go (nat_lt most level)
     go true l e further = ap (λ (o : Token Piece). record { kind = TooDeep; at = o.at } ∷ []) (let f : u ≡ t = cc in f)
     go false l e further = further (omega (arith, l)) (token_behind ts u t (unset (flags most marks)) e)
 
--- hence it is found
+-- the first part that is too deep is found
 pub finds : (most : ℕ) (f : Front) (found : List Bool) (r : Option ℕ) → found ≡ flags most (front_marks f)
     → r ≡ position (λ (deep : Bool). deep) found → FindsDeep most f r
 finds most f found r same e =

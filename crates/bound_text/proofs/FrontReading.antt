@@ -14,7 +14,7 @@ use Rattle.bound_text.proofs.BoundParts.{appended, appended-none}
 use Rattle.bound_text.proofs.CompletenessLaws.{starts, stands, walk-when, read_input, read_run_caret, read_base}
 use Rattle.bound_text.proofs.CompletenessLaws.{AllRead, term_read, read_plus, argument_read, product_read, all_read}
 
--- terms with ` + ` behind each
+-- terms with ` + ` after each
 terms_before_read : (ts : Parts) → AllRead ts → EachPart IsNoSum ts → AreShaped ts → (outer : Outer) (acc : Parts) (rest : List Piece)
     → walk (starts outer acc NoParts) (each_then plus_between ts rest) ≡ walk (starts outer (appended acc ts) NoParts) rest
 terms_before_read NoParts rs none shaped outer acc rest = refl
@@ -23,7 +23,7 @@ terms_before_read (Part b bs) rs none shaped outer acc rest =
     ∙ read_plus b shaped.0 none.0 outer acc (each_then plus_between bs rest)
     ∙ terms_before_read bs rs.1 none.1 shaped.1 outer (with_part acc b) rest
 
--- arguments with `, ` behind each
+-- arguments with `, ` after each
 arguments_before_read : (bs : Parts) → AllRead bs → EachPart IsNoMaximum bs → AreShaped bs → (outer : Outer) (acc ts fs : Parts) (rest : List Piece)
     → walk (starts (Inside (Arguments acc) ts fs outer) NoParts NoParts) (each_then comma_between bs rest) ≡ walk (starts (Inside (Arguments (appended acc bs)) ts fs outer) NoParts NoParts) rest
 arguments_before_read NoParts rs none shaped outer acc ts fs rest = refl
@@ -36,7 +36,7 @@ factors_at : (fs : Parts) → AreFactors fs → is_empty fs ≡ false → (outer
 factors_at NoParts all h outer ts rest = cc
 factors_at (Part b bs) all h outer ts rest = product_read b bs (all_read (Part b bs) all.shaped) all.no_products all.shaped outer ts rest
 
--- factors behind which an item can begin
+-- factors after which an item can begin
 factors_before : (fs : Parts) → AreFactors fs → (outer : Outer) (ts : Parts) (rest : List Piece) → walk (starts outer ts NoParts) (factors_then Nothing fs (star_then fs rest)) ≡ walk (starts outer ts fs) rest
 factors_before NoParts all outer ts rest = refl
 factors_before (Part b bs) all outer ts rest = factors_at (Part b bs) all refl outer ts (Times ∷ rest)
@@ -59,7 +59,7 @@ outer_read (Inside bracket ts fs outer) is rest =
     ∙ factors_before fs is.2 outer ts (bracket_then bracket rest)
     ∙ bracket_read bracket is.0 outer ts fs rest
 
--- what can end has factors
+-- a term that can end has factors
 some_end : (fs : Parts) → can_end fs ≡ true → is_empty fs ≡ false
 some_end NoParts h = cc
 some_end (Part b bs) h = refl

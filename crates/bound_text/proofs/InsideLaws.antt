@@ -11,7 +11,7 @@ use Rattle.bound_text.specs.Inside.{inner_bounds}
 use Rattle.bound_text.specs.WorkedInside.{two_names, DepthsAreWorkedOut, InnerBoundsAreRead}
 use Rattle.bound_text.proofs.ReaderLaws.{bound_laws}
 
--- what is shown is no part of the laws
+-- the laws don't depend on the shown faults
 inner_laws : (most n : ℕ) → Laws (inner_bounds most n)
 inner_laws most n = let laws = bound_laws n in record { goes_on = laws.goes_on; ends = laws.ends; reads = laws.reads; differ = laws.differ }
 

@@ -1,4 +1,4 @@
--- What terms and factors make.
+-- The bound that terms and factors make.
 use Rattle.std.proofs.Common.{◌≡◌, ◌≢◌, ℕ, suc, ◌-◌, cond, nat_lt, Bool, true, false, not, ◌&&◌, ◌||◌, List, [], ◌∷◌}
 use Rattle.std.proofs.Common.{length, None, refl, ap, ◌∙◌, arith}
 use Rattle.std.specs.Prelude.{slice_get, nat_eq}
@@ -48,7 +48,7 @@ is_leaf-bound_made NoParts (Part b NoParts) = refl
 is_leaf-bound_made NoParts (Part b (Part c bs)) = refl
 is_leaf-bound_made (Part b bs) fs = ap is_leaf (as_one-with_part b bs (term_of fs))
 
--- what kind of bound terms and factors make
+-- the kind of bound that terms and factors make
 pub ruleset kinds = (is_sum-bound_made, is_maximum-bound_made, is_leaf-bound_made)
 
 -- the last part is the last of the list

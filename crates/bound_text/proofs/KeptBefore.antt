@@ -1,4 +1,4 @@
--- What is kept behind a piece was kept before it.
+-- If the conditions hold of the tree after a piece, they hold before it.
 use Rattle.std.proofs.Common.{◌≡◌, ℕ, zero, suc, ◌^◌, ◌<◌, ◌≤◌, true, Option, Some, None, refl, ap, sym, subst, ◌∙◌}
 use Rattle.std.proofs.Common.{arith}
 use Rattle.std.specs.Prelude.{⊤}
@@ -20,7 +20,7 @@ use Rattle.bound_text.proofs.StepCases.{of_close, of_plus, of_term, of_argument}
 use Rattle.bound_text.proofs.KeptBounds.{Kept, AllKept, KeptBracket, KeptFront, KeptPiece, kept-more, kept-less}
 use Rattle.bound_text.proofs.KeptBounds.{kept_front}
 
--- with copies kept, the factors before them are
+-- if they hold of factors with copies, they hold of the factors before
 kept-fewer : (n k i : ℕ) (fs : Parts) → AllKept n (with_copies k i fs) → AllKept n fs
 kept-fewer n zero i fs all = all
 kept-fewer n (suc k) i fs all = kept-fewer n k i fs (kept-less n (with_copies k i fs) (Input i) all).0
@@ -44,7 +44,7 @@ item_kept n (Arguments bs) b k = kept-less n bs b k
 item_kept n (Exponent c) b k = k
 item_kept n Factor b k = (tt, k)
 
--- what is kept behind a piece was kept before it, and so is the piece
+-- if they hold after a piece, they hold before it, and of the piece
 pub keeps_back : (n : ℕ) (f g : Front) (piece : Piece) → Leads f piece g → nodes_of g < 2 ^ 127 → KeptFront n g → KeptFront n f × KeptPiece n piece
 keeps_back n f g piece (of_variable o ts fs i) m k = let t = kept-less n fs (Input i) k.factors in (kept_front n o ts fs Begins k.outer k.terms t.0 tt, t.1)
 keeps_back n f g piece (of_number o ts fs c) m k = let t = kept-less n fs (Constant c) k.factors in (kept_front n o ts fs Begins k.outer k.terms t.0 tt, t.1)
@@ -85,7 +85,7 @@ BaseFits (Some (ProductOf bs)) = ⊤
 BaseFits (Some (MaximumOf bs)) = ⊤
 BaseFits (Some (PowerOf c e)) = ⊤
 
--- what `^` follows is a base that fits, or a variable
+-- the base before a `^` is one that fits, or a variable
 pub base_fits : (n : ℕ) (f g : Front) → Leads f Caret g → IsFront g → KeptFront n g → BaseFits (last f.factors)
 base_fits n f g leads is kept = go f g Caret leads refl is kept
   where

@@ -1,4 +1,4 @@
--- What the checks of pieces keep out of the tree so far.
+-- The conditions that the checks of pieces keep in the tree so far.
 use Rattle.std.proofs.Common.{◌≡◌, ℕ, zero, suc, ◌^◌, ◌<◌, nat_le, true, false, ◌&&◌, List, [], ◌∷◌, Some, refl, ap}
 use Rattle.std.proofs.Common.{sym, subst, ◌∙◌, arith}
 use Rattle.std.specs.Prelude.{⊤}
@@ -33,23 +33,23 @@ abbrev mutual
   Kept n (MaximumOf bs) = AllKept n bs
   Kept n (PowerOf c e) = (c < 2 ^ 64) × Kept n e
 
-  -- they keep them out of each of several parts
+  -- the conditions hold of each of several parts
   pub AllKept : ℕ → Parts → Type 0
   AllKept n NoParts = ⊤
   AllKept n (Part b bs) = Kept n b × AllKept n bs
 
--- the same of a bracket
+-- the conditions hold of a bracket
 abbrev pub KeptBracket : ℕ → Bracket → Type 0
 KeptBracket n (Arguments bs) = AllKept n bs
 KeptBracket n (Exponent c) = c < 2 ^ 64
 KeptBracket n Factor = ⊤
 
--- the same for what surrounds a bound
+-- the conditions hold of the part around a bound
 abbrev pub KeptOuter : ℕ → Outer → Type 0
 KeptOuter n Whole = ⊤
 KeptOuter n (Inside bracket ts fs outer) = KeptBracket n bracket × AllKept n ts × AllKept n fs × KeptOuter n outer
 
--- and of a position
+-- the conditions hold of a position
 abbrev pub KeptPosition : ℕ → Position → Type 0
 KeptPosition n (RunCaret i) = i < n
 KeptPosition n (PowerCaret c) = c < 2 ^ 64
@@ -116,7 +116,7 @@ kept_item n (Arguments bs) b all here = kept-more n bs b all here
 kept_item n (Exponent c) b all here = (all, here)
 kept_item n Factor b all here = here
 
--- a kept front, put together
+-- a kept state, put together
 pub kept_front : (n : ℕ) (o : Outer) (ts fs : Parts) (position : Position) → KeptOuter n o → AllKept n ts → AllKept n fs → KeptPosition n position → KeptFront n (front_at o ts fs position)
 kept_front n o ts fs position a b c d = record { outer = a; terms = b; factors = c; position = d }
 
@@ -124,7 +124,7 @@ kept_front n o ts fs position a b c d = record { outer = a; terms = b; factors =
 not_large : (c : ℕ) (fs : Parts) → is_large_number (last (with_part fs (Constant c))) ≡ false → c < 2 ^ 64
 not_large c fs h = let e : nat_le (2 ^ 64) c ≡ false = sym (ap is_large_number (last-with_part fs (Constant c))) ∙ h in grind (arith, nat_tests)
 
--- what the checks let through is kept
+-- a piece that passes the checks keeps the conditions
 pub keeps : (n : ℕ) (f g : Front) (piece : Piece) → Leads f piece g → KeptFront n f → KeptPiece n piece → has_large_base f piece ≡ false → KeptFront n g
 keeps n f g piece (of_variable o ts fs i) k p h = kept_front n o ts (with_part fs (Input i)) ItemRead k.outer k.terms (kept-more n fs (Input i) k.factors p) tt
 keeps n f g piece (of_number o ts fs c) k p h = kept_front n o ts (with_part fs (Constant c)) ItemRead k.outer k.terms (kept-more n fs (Constant c) k.factors p) tt
@@ -163,7 +163,7 @@ item_no_number Factor (ProductOf bs) h = cc
 item_no_number Factor (MaximumOf bs) h = cc
 item_no_number Factor (PowerOf c e) h = cc
 
--- behind a piece no base that is too large is left
+-- after a piece no base that is too large is left
 pub large_after : (f g : Front) (piece : Piece) → Leads f piece g → begins f.position && is_large_base piece ≡ false → has_large_base g Caret ≡ false
 large_after f g piece (of_variable o ts fs i) h = no_number (Input i) fs refl
 large_after f g piece (of_number o ts fs c) h = no_number (Constant c) fs h
@@ -183,7 +183,7 @@ large_after f g piece (of_plus o ts fs) h = refl
 large_after f g piece (of_term o ts fs e) h = refl
 large_after f g piece (of_argument o bs ts' fs' ts fs e) h = refl
 
--- what is kept, with the shape of a text, is tidy, reads the first n variables, and has short bases
+-- a bound with the shape of a text that meets the conditions is tidy, reads the first n variables, and has short bases
 mutual
   -- a shaped bound that the checks let through is tidy, reads listed variables alone, and has short bases
   pub kept_tidy : (n : ℕ) (b : Bound) → IsShaped b → Kept n b → IsTidy b × ReadsBelow n b × HasShortBases b
@@ -194,7 +194,7 @@ mutual
   kept_tidy n (MaximumOf bs) shaped kept = let t = all_tidy n bs shaped.2 kept in (((shaped.0, shaped.1), t.0), (tt, t.1), t.2)
   kept_tidy n (PowerOf c e) shaped kept = let t = kept_tidy n e shaped.1 kept.1 in ((shaped.0, t.0), (tt, t.1), (kept.0, t.2))
 
-  -- the same of parts
+  -- the same law for parts
   all_tidy : (n : ℕ) (bs : Parts) → AreShaped bs → AllKept n bs → AreTidy bs × AllReadBelow n bs × HaveShortBases bs
   all_tidy n NoParts shaped kept = (tt, tt, tt)
   all_tidy n (Part b bs) shaped kept =
@@ -202,7 +202,7 @@ mutual
       let u = all_tidy n bs shaped.1 kept.1 in
       ((t.0, u.0), (t.1, u.1), (t.2, u.2))
 
--- and the other way round
+-- a tidy bound that reads the first n variables and has short bases meets the conditions
 mutual
   -- a tidy bound that reads listed variables alone, with short bases, is shaped, and the checks let it through
   pub tidy_kept : (n : ℕ) (b : Bound) → IsTidy b → ReadsBelow n b → HasShortBases b → IsShaped b × Kept n b
@@ -213,7 +213,7 @@ mutual
   tidy_kept n (MaximumOf bs) tidy listed short = let t = all_kept n bs tidy.1 listed.1 short in ((tidy.0.0, tidy.0.1, t.0), t.1)
   tidy_kept n (PowerOf c e) tidy listed short = let t = tidy_kept n e tidy.1 listed.1 short.1 in ((tidy.0, t.0), (short.0, t.1))
 
-  -- the same of parts
+  -- the converse for parts
   all_kept : (n : ℕ) (bs : Parts) → AreTidy bs → AllReadBelow n bs → HaveShortBases bs → AreShaped bs × AllKept n bs
   all_kept n NoParts tidy listed short = (tt, tt)
   all_kept n (Part b bs) tidy listed short =

@@ -1,4 +1,4 @@
--- Names and numbers at the front of a text.
+-- Names and numbers at the beginning of a text.
 use Rattle.std.proofs.Common.{◌≡◌, ℕ, suc, ◌+◌, Bool, true, false, cond, List, ◌∷◌, length, take, drop, sym, ap, ◌∙◌}
 use Rattle.std.proofs.Common.{arith}
 use Rattle.std.specs.Prelude.{IsTrue, Result, Ok, Err, IfOk}
@@ -24,7 +24,7 @@ module _ (p : ℕ → Bool) where
       ∙ ap (λ (k : ℕ). b ∷ take k others) h
       ∙ ap (λ (xs : List ℕ). b ∷ xs) (take-prefix p others)
 
-  -- and what is behind them
+  -- the bytes after a first byte and a prefix
   pub drop_with_first : (text others : List ℕ) (b n : ℕ) → text ≡ b ∷ others → n ≡ length (prefix p others) → drop (1 + n) text ≡ rest p others
   drop_with_first text others b n e h =
       ap (λ (xs : List ℕ). drop (1 + n) xs) e
@@ -32,7 +32,7 @@ module _ (p : ℕ → Bool) where
       ∙ ap (λ (k : ℕ). drop k others) h
       ∙ drop-prefix p others
 
--- a first digit and those behind it are digits
+-- a first digit and those after it are digits
 pub all_digits : (text others : List ℕ) (b n : ℕ) → text ≡ b ∷ others → n ≡ length (prefix is_ascii_digit others) → is_ascii_digit b ≡ true → IsTrue (list_all is_ascii_digit (take (1 + n) text))
 all_digits text others b n e h d = rw (take_with_first is_ascii_digit text others b n e h, d) (all_prefix is_ascii_digit others)
 

@@ -1,4 +1,4 @@
--- The limits on bounds, as the reader's fronts decide them: what is read is within them, and a text within them has no
+-- The limits on bounds, as the reader's states decide them: what is read is within them, and a text within them has no
 -- fault.
 use Rattle.std.proofs.Common.{◌≡◌, ℕ, ◌^◌, ◌≤◌, Bool, true, false, ◌&&◌, List, [], ◌∷◌, Some, None, refl, ap, sym}
 use Rattle.std.proofs.Common.{subst, ◌∙◌, inl, inr, arith}
@@ -28,13 +28,13 @@ use Rattle.bound_text.proofs.KeptBefore.{BaseFits, bound_kept, keeps_back, base_
 use Rattle.bound_text.proofs.ReaderLaws.{is_front}
 use Rattle.bound_expr.specs.Limits.{depth_limit, node_limit}
 
--- a base that is too large has no `^` behind it
+-- a base that is too large has no `^` after it
 pub base_ok : (position : Position) (fs : Parts) (piece : Piece) → (is_caret piece ≡ true → has_large_base_at position fs Caret ≡ false) → has_large_base_at position fs piece ≡ false
 base_ok position fs Caret h = h refl
 base_ok ItemRead fs piece h = refl
 base_ok position fs piece h = refl
 
--- what is no piece of a text leads nowhere
+-- a piece that is in no text is rejected
 wrong_none : (f : Front) → step f Wrong ≡ None
 wrong_none f = go f.position
   where
@@ -69,13 +69,13 @@ each_kind UnknownName = inr (inr (inl refl))
 each_kind TooDeep = inr (inr (inr (inl refl)))
 each_kind TooLarge = inr (inr (inr (inr (inl refl))))
 
--- what is written so, and is kept and within the limits
+-- a bound with the shape of a text, which meets the conditions and is within the limits
 pub record IsKeptWithin (n : ℕ) (b : Bound) : Type 0 where
   pub kept : Kept n b
   pub levels : depth_of b ≤ depth_limit
   pub nodes : node_count b ≤ node_limit
 
--- a front that is kept and within the limits, and no base that is too large has `^` behind it
+-- a state that is kept and within the limits, and no base that is too large has `^` after it
 pub record IsKept (n : ℕ) (f : Front) (ps : List Piece) : Type 0 where
   pub kept : KeptFront n f
   pub levels : levels_of f ≤ depth_limit
@@ -101,7 +101,7 @@ module _ (n : ℕ) (f g : Front) (piece : Piece) (behind : List Piece) (led : st
       go Comma e = tt
       go Wrong e = let w = wrong_none f in let l = sym (ap (step f) e) ∙ led in cc
 
-  -- and behind it `^` follows no base that is too large
+  -- after it no base that is too large comes before a `^`
   pub base_kept : Leads f piece g → caret_next behind ≡ true → has_large_base g Caret ≡ false
   base_kept leads h = large_after f g piece leads (sym (ap (λ (v : Bool). v && is_large_base piece) (with_caret (begins f.position) (caret_next behind) h)) ∙ (or_parts (is_large piece) (is_base f behind && is_large_base piece) (none NumberTooLarge)).1)
     where
@@ -152,7 +152,7 @@ abbrev pub Nothing : ℕ → Front → List Piece → Type 0
 Nothing n f [] = ⊤
 Nothing n f (p ∷ ps) = (kind : Kind) → stands n f p ps kind ≡ false
 
--- a front within the limits, where the base before `^` fits, and the next piece has no fault
+-- a state within the limits, where the base before `^` fits, and the next piece has no fault
 pub record IsSmall (n : ℕ) (f : Front) (ps : List Piece) : Type 0 where
   pub kept : KeptFront n f
   pub levels : levels_of f ≤ depth_limit
@@ -160,7 +160,7 @@ pub record IsSmall (n : ℕ) (f : Front) (ps : List Piece) : Type 0 where
   pub bases : caret_next ps ≡ true → BaseFits (last f.factors)
   pub none : Nothing n f ps
 
--- a piece behind which all is within the limits has no fault
+-- a piece after which all is within the limits has no fault
 module _ (n : ℕ) (f g : Front) (piece : Piece) (behind : List Piece) (led : step f piece ≡ Some g) (kept : KeptPiece n piece) (fits : caret_next behind ≡ true → BaseFits (last g.factors)) where
   -- a base fits
   fitting : (c : ℕ) → is_base f behind ≡ true → piece ≡ Number c → BaseFits (Some (Constant c))
@@ -168,7 +168,7 @@ module _ (n : ℕ) (f g : Front) (piece : Piece) (behind : List Piece) (led : st
       let t = and_parts (begins f.position) (caret_next behind) base in
       subst BaseFits (begin_number f g c t.0 (sym (ap (step f) e) ∙ led)) (fits t.1)
 
-  -- so it isn't under 2
+  -- the base isn't under 2
   no_small : is_base f behind && is_small_base piece ≡ false
   no_small = go (is_base f behind) refl piece refl
     where
@@ -177,7 +177,7 @@ module _ (n : ℕ) (f g : Front) (piece : Piece) (behind : List Piece) (led : st
       go true b (Number c) e = false_lt c 2 (fitting c b e).0
       go true b q e = refl
 
-  -- nor over 2^64-1
+  -- the base isn't over 2^64-1
   no_large : is_base f behind && is_large_base piece ≡ false
   no_large = go (is_base f behind) refl piece refl
     where
@@ -209,7 +209,7 @@ module _ (n : ℕ) (f g : Front) (piece : Piece) (behind : List Piece) (led : st
   nothing_here shallow small TooDeep = ap is_deep led ∙ false_lt depth_limit (levels_of g) shallow
   nothing_here shallow small TooLarge = ap has_many led ∙ false_lt node_limit (nodes_of g) small
 
--- what a bound within the limits ends
+-- a state that ends a bound within the limits is within them
 ended_small : (n : ℕ) (position : Position) (outer : Outer) (ts fs : Parts) (b : Bound) → finish_at position outer ts fs ≡ Some b → IsKeptWithin n b → IsSmall n (front_at outer ts fs position) []
 ended_small n ItemRead Whole ts fs b h w =
     let t = when-some (can_end fs) (bound_of_parts ts fs) b h in

@@ -34,7 +34,7 @@ grows_after : (n : ℕ) (ds : List ℕ) → n ≤ digits_value_after 10 n ds
 grows_after n [] = omega arith
 grows_after n (c ∷ ds) = omega (arith, grows_after (n * 10 + digit_value c) ds)
 
--- digits behind those of a number that isn't 0
+-- digits after those of a number that isn't 0
 numeral_after : (n : ℕ) (xs ds : List ℕ) → 1 ≤ n → decimal n ≡ xs → list_all is_ascii_digit ds ≡ true → digits_value_after 10 n ds < 10 ^ 64 → decimal (digits_value_after 10 n ds) ≡ xs ++ ds
 numeral_after n xs [] some is all small = is ∙ sym (append-nil xs)
 numeral_after n xs (c ∷ ds) some is all small =
@@ -70,13 +70,13 @@ numeral_of c (e ∷ ds) d all lead small =
     nonzero : (c v : ℕ) → c ≡ 48 + v → nat_eq c 48 ≡ false → 1 ≤ v
     nonzero c v e h = grind (arith, nat_tests)
 
--- what a numeral begins with
+-- the beginning of a numeral
 pub record IsProper (n : ℕ) (ds : List ℕ) : Type 0 where
   pub some : 0 < length ds
   pub first : 1 ≤ n → begins_with 48 ds ≡ false
   pub single : n < 10 → length ds ≡ 1
 
--- what some bytes begin with, they begin with before others
+-- a prefix of bytes is one of these followed by others
 begins-append : (xs ys : List ℕ) → 0 < length xs → begins_with 48 (xs ++ ys) ≡ begins_with 48 xs
 begins-append [] ys h = absurd (omega arith)
 begins-append (x ∷ xs) ys h = refl

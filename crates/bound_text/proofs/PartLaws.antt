@@ -29,8 +29,8 @@ pub is_empty-with_part : (bs : Parts) (b : plain.Bound) → is_empty (with_part 
 is_empty-with_part NoParts b = refl
 is_empty-with_part (Part c cs) b = refl
 
--- what is known of one more part
+-- the measures of parts with one more
 pub ruleset pushes = (parts_of-push, node_count-with_part, depth-with_part)
 
--- what is known of the last part
+-- the last of parts
 pub ruleset ends = (parts_of-push, last-with_part, init-with_part)

@@ -45,11 +45,11 @@ module _ (n : ℕ) (f : Front) (piece : Piece) (behind : List Piece) where
   one_least TooDeep = omega arith
   one_least TooLarge = omega arith
 
-  -- with the levels of the innermost bound all levels are within the limit
+  -- if the levels of the innermost bound are within the limit, all levels are
   shallow_after : IsFront f → levels_of f ≤ depth_limit → (g : Front) → step f piece ≡ Some g → inner_levels g ≤ depth_limit → levels_of g ≤ depth_limit
   shallow_after is shallow g e h = let r = (grows f g piece (step_leads f g piece is e)).round in omega (arith, r, shallow, h)
 
-  -- with no other fault, the limits decide
+  -- if there is no other fault, the limits decide
   judge_size : IsFront f → levels_of f ≤ depth_limit → (g : Front) → step f piece ≡ Some g → stands n f piece behind Syntax ≡ false → stands n f piece behind NumberTooLarge ≡ false → stands n f piece behind UnknownName ≡ false
       → (d m : Bool) → nat_lt depth_limit (inner_levels g) ≡ d → nat_lt node_limit (nodes_of g) ≡ m → IsJudged (cond d (Refused TooDeep) (cond m (Refused TooLarge) (Reached g)))
   judge_size is shallow g e s l u true m deep big = record { is = inl (ap is_deep e ∙ past depth_limit (levels_of g) (let d = ltb-true depth_limit (inner_levels g) deep in omega (arith, d))); nowhere = somewhere g e; least = least }

@@ -1,4 +1,4 @@
--- The reader of bounds keeps the laws of a reader, and its fronts are written as what has been read.
+-- The reader of bounds keeps the laws of a reader, and its states are written as what has been read.
 use Rattle.std.proofs.Common.{◌≡◌, ℕ, Bool, true, false, cond, List, [], ◌∷◌, Option, Some, None, refl, ap, sym, ◌∙◌}
 use Rattle.std.proofs.Common.{inl, inr, arith}
 use Rattle.std.specs.Prelude.{◌⊎◌}
@@ -21,11 +21,11 @@ use Rattle.bound_text.proofs.RunLaws.{run_settled}
 use Rattle.bound_text.proofs.BoundParts.{terms_in, factors_in}
 use Rattle.bound_text.proofs.WalkLaws.{walk_read, read_walk, walk_reads, walk_whole, whole_walk, walk_begins}
 
--- the front that pieces lead to, by a walk through them in order
+-- the state that pieces lead to, by a walk through them in order
 walked : (n : ℕ) (done : List Piece) (f : Front) → reached (bounds n) done ≡ Some f → walk (Some beginning) (onto done []) ≡ Some f
 walked n done f e = walk-onto (bounds n) done [] ∙ e
 
--- what has been read is a front
+-- the pieces read so far lead to a well-formed state
 pub is_front : (n : ℕ) (done : List Piece) (f : Front) → reached (bounds n) done ≡ Some f → IsFront f
 is_front n done f e = (walk_read (onto done []) f (walked n done f e)).is_front
 
@@ -88,7 +88,7 @@ begins_base f h = go f.position h
 two_more : (n : ℕ) (done : List Piece) (f : Front) (a b : Piece) → reached (bounds n) done ≡ Some f → reached (bounds n) (b ∷ a ∷ done) ≡ next step (step f a) b
 two_more n done f a b e = ap (λ (o : Option Front). next step (next step o a) b) e
 
--- fronts are written as what has been read
+-- states are written as what has been read
 pub fronts_are_read : FrontsAreRead
 fronts_are_read = record {
   read = λ n done f e. let r = walk_reads (onto done []) f (walked n done f e) in (r.is, r.text);

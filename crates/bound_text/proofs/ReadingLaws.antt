@@ -1,4 +1,4 @@
--- What reading has come to decides the answer with what is left.
+-- The state after some pieces decides the answer together with the remaining pieces.
 use Rattle.std.proofs.Common.{◌≡◌, length-drop, ℕ, ◌+◌, ◌-◌, ◌^◌, ◌<◌, ◌≤◌, Bool, true, false, cond, nat_eq, List, []}
 use Rattle.std.proofs.Common.{◌∷◌, length, drop, Option, Some, None, refl, ap, sym, subst, ◌∙◌, inl, inr, arith}
 use Rattle.std.specs.Prelude.{Result, Ok, Err, IsErrAnd, IsTrue, codes, ◌⊎◌}
@@ -67,7 +67,7 @@ mark_caret b = grind (arith, nat_tests)
 begins_no_caret : (b : ℕ) → begins_name b ≡ true → nat_eq b 94 ≡ false
 begins_no_caret b h = grind (arith, nat_tests)
 
--- nor is a digit
+-- a digit is no `^`
 digit_no_caret : (b : ℕ) → is_ascii_digit b ≡ true → nat_eq b 94 ≡ false
 digit_no_caret b h = grind (arith, nat_tests)
 
@@ -139,7 +139,7 @@ pub says_memory : (a : Answer plain.Bound Kind) → Says a (Err errors.Memory)
 says_memory (RefusedBy x) = refusal_memory x.kind x.at
 says_memory (Stands b) = tt
 
--- the same where an error is passed on
+-- the answer if an error is passed on
 pub says_passed_on : (a : Answer plain.Bound Kind) (result : Result Bound BoundTextError) → IsErrAnd result (λ e. e ≡ errors.Memory) → Says a result
 says_passed_on a (Ok b) h = absurd h
 says_passed_on a (Err e) h = subst (λ (x : BoundTextError). Says a (Err x)) (sym h) (says_memory a)
@@ -159,7 +159,7 @@ reached_front : (c : PieceResult) (r : Reader) (u : Unit {0}) → Obeys c r (Ok 
 reached_front (Refused kind) r u h = absurd h
 reached_front (Reached f) r u h = ap Reached h.0
 
--- a reader that took a piece is settled (its front is the one that the piece leads to)
+-- a reader that took a piece is settled (its state is the one that the piece leads to)
 pub settled_front : (c : PieceResult) (r : Reader) (result : Result (Unit {0}) Fault) (u : Unit {0}) → result ≡ Ok u → Obeys c r result → IsTrue (is_settled r)
 settled_front c r result u e h = go c (subst (λ (x : Result (Unit {0}) Fault). Obeys c r x) e h)
   where
@@ -191,24 +191,24 @@ decides_first names bytes = record {
   same = ap (λ (at : ℕ). run (bounds (length names)) (length bytes) (Going None [] beginning) (tokens_from (each_piece (lexeme_at names)) at 0 bytes)) (let e : 0 ≡ length bytes - length bytes = omega arith in e);
 }
 
--- the token that the text goes on with
+-- the token that the text continues
 module _ (names : List Name) (bytes left others behind : List ℕ) (b : ℕ) (l : Lexeme Piece) (first : left ≡ b ∷ others) (found_at : l ≡ lexeme_at names b others) (some : 0 < l.len) (fits : l.len ≤ length left) (rests : behind ≡ drop l.len left) (within : length left ≤ length bytes)
   where
     abbrev token : Token Piece
     token = record { piece = l.piece; at = length bytes - length left; upto = length bytes - length left + l.len }
 
-    -- what is left behind it
+    -- the bytes after the lexeme
     fewer : length behind ≡ length left - l.len
     fewer = ap length rests ∙ length-drop l.len left
 
-    -- the tokens that are left are that one, and those behind it
+    -- the tokens that are left are that one, and those after it
     next_token : left_tokens names bytes left ≡ token ∷ left_tokens names bytes behind
     next_token =
         tokens-first (each_piece (lexeme_at names)) (length bytes - length left) left others behind b (record { piece = Some l.piece; len = l.len }) first
         (ap (λ (m : Lexeme Piece). record { piece = Some m.piece; len = m.len }) found_at) some rests
         ∙ ap (λ (at : ℕ). token ∷ tokens_from (each_piece (lexeme_at names)) at 0 behind) (let e : length bytes - length left + l.len ≡ length bytes - length behind = omega (arith, fewer, fits, within) in e)
 
-    -- the tokens behind it are in order of position
+    -- the tokens after it are in order of position
     order : AreInOrder token.upto (left_tokens names bytes behind) (length bytes)
     order =
         subst (λ (p : ℕ). AreInOrder p (left_tokens names bytes behind) (length bytes)) (let e : length bytes - length behind + 0 ≡ length bytes - length left + l.len = omega (arith, fewer, fits, within) in e)

@@ -1,4 +1,4 @@
--- Runs: so many times one variable.
+-- Runs: this many times one variable.
 use Rattle.std.proofs.Common.{◌≡◌, ℕ, zero, suc, ◌+◌, ◌^◌, ◌<◌, ◌≤◌, min, max, nat_le, nat_lt, nat_eq, Bool, true}
 use Rattle.std.proofs.Common.{false, not, cond, Option, refl, ap, sym, subst, ◌∙◌, inl, inr, arith}
 use Rattle.std.specs.Prelude.{IsTrue, Result}
@@ -38,7 +38,7 @@ product_two NoParts a b = refl
 product_two (Part c NoParts) a b = refl
 product_two (Part c (Part d ds)) a b = refl
 
--- behind a run no `^` can come
+-- after a run no `^` can come
 pub run_settled : (n i : ℕ) (fs : Parts) → takes_caret (init (with_copies (suc (suc n)) i fs)) (last (with_copies (suc (suc n)) i fs)) ≡ false
 run_settled n i fs =
     ap (λ (gs : Parts). takes_caret gs (last (with_copies (suc (suc n)) i fs))) (init-with_part (with_copies (suc n) i fs) (Input i))
@@ -46,7 +46,7 @@ run_settled n i fs =
     ∙ ap (λ (b : Option Bound). not (is_input i b)) (last-with_part (with_copies n i fs) (Input i))
     ∙ ap not (is_same_input i)
 
--- the same for as many copies as were made
+-- with as many copies as were made, the same tests hold
 pub copies_settled : (n i : ℕ) (fs behind : Parts) → 2 ≤ n → behind ≡ with_copies n i fs → IsTrue (not (takes_caret (init behind) (last behind)))
 copies_settled zero i fs behind h e = absurd (omega arith)
 copies_settled (suc zero) i fs behind h e = absurd (omega arith)
@@ -57,7 +57,7 @@ levels-copies : (outer : Outer) (ts fs : Parts) (n i : ℕ) → inner_levels (fr
 levels-copies outer ts fs n i =
     omega (arith, depth-with_copies (suc n) i fs, depth-with_copies 1 i fs, product_two (with_copies n i fs) (Input i) (Input i), product_two fs (Input i) (Input i))
 
--- what is too large is refused, whatever it is
+-- a bound that is too large is refused, whatever it is
 refused_by : (a b : Bool) (f : Front) → b ≡ true → cond a (Refused TooDeep) (cond b (Refused TooLarge) (Reached f)) ≡ cond a (Refused TooDeep) (Refused TooLarge)
 refused_by true b f e = refl
 refused_by false b f e = ap (λ (v : Bool). cond v (Refused TooLarge) (Reached f)) e
@@ -66,7 +66,7 @@ refused_by false b f e = ap (λ (v : Bool). cond v (Refused TooLarge) (Reached f
 pub is_over : (m : ℕ) → node_limit < m → nat_lt node_limit m ≡ true
 is_over m h = grind (arith, nat_tests)
 
--- with more copies than a bound may have nodes the refusal is the same
+-- with more copies than a bound may have nodes, the refusal is the same
 sized-many : (outer : Outer) (ts fs : Parts) (n i : ℕ) → 4095 ≤ n
     → sized (front_at outer ts (with_copies (suc (suc n)) i fs) ItemRead) ≡ cond (nat_lt depth_limit (inner_levels (front_at outer ts (with_copies 2 i fs) ItemRead))) (Refused TooDeep) (Refused TooLarge)
 sized-many outer ts fs n i h =
@@ -76,7 +76,7 @@ sized-many outer ts fs n i h =
     f : Front
     f = front_at outer ts (with_copies (suc (suc n)) i fs) ItemRead
 
--- the same for a number of copies
+-- for two such numbers of copies the refusal is the same
 sized_alike : (outer : Outer) (ts fs : Parts) (n m i : ℕ) → 4097 ≤ n → 4097 ≤ m
     → sized (front_at outer ts (with_copies n i fs) ItemRead) ≡ sized (front_at outer ts (with_copies m i fs) ItemRead)
 sized_alike outer ts fs zero m i h k = absurd (omega arith)
@@ -85,7 +85,7 @@ sized_alike outer ts fs (suc (suc n)) zero i h k = absurd (omega arith)
 sized_alike outer ts fs (suc (suc n)) (suc zero) i h k = absurd (omega arith)
 sized_alike outer ts fs (suc (suc n)) (suc (suc m)) i h k = sized-many outer ts fs n i (omega arith) ∙ sym (sized-many outer ts fs m i (omega arith))
 
--- more copies than the limit count like as many as are refused
+-- more copies than the limit are refused like the capped number
 sized_capped : (outer : Outer) (ts fs : Parts) (n i : ℕ) → sized (front_at outer ts (with_copies n i fs) ItemRead) ≡ sized (front_at outer ts (with_copies (min n 4097) i fs) ItemRead)
 sized_capped outer ts fs n i = elim (cases_lt n 4097) [
   | inl h ↦ ap (λ (k : ℕ). sized (front_at outer ts (with_copies k i fs) ItemRead)) (let e : n ≡ min n 4097 = omega arith in e)

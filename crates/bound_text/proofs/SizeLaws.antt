@@ -21,7 +21,7 @@ nodes_here at.BlankRead outer ts fs = refl
 nodes_here at.PlusRead outer ts fs = refl
 nodes_here at.CommaRead outer ts fs = refl
 
--- and so do its levels
+-- the levels of a state, by its position
 pub levels_here : (position : Position) (outer : Outer) (ts fs : Parts)
     → inner_levels (front_with position outer ts fs) ≡ max (levels_above outer + sum_here position outer ts + maximum_depth ts) (levels_above outer + sum_here position outer ts + product_here position fs + max (maximum_depth fs) (item_here position))
 levels_here at.Begins outer ts fs = refl

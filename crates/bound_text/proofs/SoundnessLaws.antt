@@ -1,4 +1,4 @@
--- Where the reader comes to is what has been read.
+-- The state of the reader has the pieces read so far.
 use Rattle.std.proofs.Common.{◌≡◌, ℕ, zero, suc, ◌+◌, ◌≤◌, nat_lt, Bool, true, false, not, cond, ◌&&◌, List, ◌∷◌, ◌++◌}
 use Rattle.std.proofs.Common.{Some, refl, ap, sym, subst, ◌∙◌, arith}
 use Rattle.std.proofs.lemmas.Bool.Decides.{nat_tests}
@@ -22,7 +22,7 @@ use Rattle.bound_text.proofs.JoiningLaws.{as_one-with_part}
 use Rattle.bound_text.proofs.WritingLaws.{ends_in, joined-with_part, each-with_part, factors-other, factors-run}
 use Rattle.bound_text.proofs.WritingLaws.{term_text, bound_text}
 
--- behind the piece the reader has read what it had, and the piece
+-- after the piece the reader has read what it had, and the piece
 pub record Extends (f : Front) (piece : Piece) (g : Front) : Type 0 where
   pub is_front : IsFront g
   pub text : (rest : List Piece) → front_then g rest ≡ front_then f (piece ∷ rest)
@@ -32,7 +32,7 @@ pub when-some : {X : Type 0} (v : Bool) (f g : X) → when v f ≡ Some g → (v
 when-some true f g h = (refl, cc)
 when-some false f g h = cc
 
--- one more part keeps what holds of each
+-- a property of each part is kept with one more
 each-more : (P : Bound → Type 0) (bs : Parts) (b : Bound) → EachPart P bs → P b → EachPart P (with_part bs b)
 each-more P NoParts b all here = (here, tt)
 each-more P (Part c cs) b all here = (all.0, each-more P cs b all.1 here)
@@ -82,7 +82,7 @@ more_factor outer ts fs position b piece is shaped none texts = record {
   text = λ rest. ap (λ (ps : List Piece). outer_then outer (each_then plus_between ts ps)) (texts rest);
 }
 
--- with nothing before, the last factor decides
+-- without a part before, the last factor decides
 ends_first : (fs : Parts) (i : ℕ) → is_input i (last fs) ≡ false → ends_in Nothing fs i ≡ false
 ends_first NoParts i h = refl
 ends_first (Part b bs) i h = h
@@ -111,7 +111,7 @@ begin_sound outer ts fs Open g is h =
     })
 begin_sound outer ts fs piece g is h = cc
 
--- behind the `^` of a run
+-- after the `^` of a run
 run_sound : (outer : Outer) (ts fs : Parts) (i : ℕ) (piece : Piece) (g : Front) → IsFront (front_at outer ts fs (RunCaret i)) → end_run outer ts fs i piece ≡ Some g → Extends (front_at outer ts fs (RunCaret i)) piece g
 run_sound outer ts fs i (Number zero) g is h = cc
 run_sound outer ts fs i (Number (suc zero)) g is h = cc
@@ -127,7 +127,7 @@ run_sound outer ts fs i (Number (suc (suc n))) g is h =
     })
 run_sound outer ts fs i piece g is h = cc
 
--- behind the `^` of a power
+-- after the `^` of a power
 exponent_sound : (outer : Outer) (ts fs : Parts) (c : ℕ) (piece : Piece) (g : Front) → IsFront (front_at outer ts fs (PowerCaret c)) → begin_exponent outer ts fs c piece ≡ Some g
     → Extends (front_at outer ts fs (PowerCaret c)) piece g
 exponent_sound outer ts fs c (Number n) g is h =
@@ -165,7 +165,7 @@ bound_shaped (Part c cs) fs terms factors h =
     subst IsShaped (sym (as_one-with_part c cs (term_of fs)))
     (omega (arith, count-more (Part c cs) (term_of fs)), each-more IsNoSum (Part c cs) (term_of fs) terms.no_sums t.1, shaped-more (Part c cs) (term_of fs) terms.shaped t.0)
 
--- what fails the test of a maximum is none
+-- a bound that fails the test of a maximum is none
 no_maximum : (b : Bound) → is_maximum b ≡ false → IsNoMaximum b
 no_maximum (Constant c) h = tt
 no_maximum (Input i) h = tt
@@ -221,7 +221,7 @@ unsnoc NoParts h = cc
 unsnoc (Part b NoParts) h = (NoParts, b, refl)
 unsnoc (Part b (Part c cs)) h = let t = unsnoc (Part c cs) refl in (Part b t.0, t.1, ap (Part b) t.2)
 
--- at the `^` behind a factor
+-- at the `^` after a factor
 caret_sound : (outer : Outer) (ts gs : Parts) (b : Bound) (g : Front) → IsFront (front_at outer ts (with_part gs b) ItemRead) → caret_behind outer ts gs (Some b) ≡ Some g
     → Extends (front_at outer ts (with_part gs b) ItemRead) Caret g
 caret_sound outer ts gs (Constant c) g is h =
@@ -239,12 +239,12 @@ caret_sound outer ts gs (Input i) g is h =
     })
 caret_sound outer ts gs b g is h = cc
 
--- `*` behind some factors
+-- `*` after some factors
 star_some : (fs : Parts) (rest : List Piece) → is_empty fs ≡ false → star_then fs rest ≡ Times ∷ rest
 star_some NoParts rest h = cc
 star_some (Part b bs) rest h = refl
 
--- behind an item
+-- after an item
 follow_sound : (outer : Outer) (ts fs : Parts) (piece : Piece) (g : Front) → IsFront (front_at outer ts fs ItemRead) → follow_item outer ts fs piece ≡ Some g → Extends (front_at outer ts fs ItemRead) piece g
 follow_sound outer ts fs Times g is h =
     let e : front_at outer ts fs Begins ≡ g = cc in

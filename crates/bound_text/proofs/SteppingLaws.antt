@@ -1,4 +1,4 @@
--- What the code has read behind one more factor.
+-- The state of the code after one more factor.
 use Rattle.std.proofs.Common.{◌≡◌, ℕ, ◌^◌, ◌<◌, nat_le, arith, subst, true, false, not, Some, refl, ap, sym, ◌∙◌}
 use Rattle.std.specs.Prelude.{IsTrue, Result, Ok, Err, Option}
 use Rattle.text_core.specs.model.Bounds.{Bound, Constant, Parts}
@@ -16,7 +16,7 @@ use Rattle.bound_text.specs.declared.state.Position.{Position}
 use Rattle.bound_text.specs.declared.state.Position.TheVariants as at
 use Rattle.bound_text.proofs.PartLaws.{last-with_part, init-with_part}
 
--- behind a factor that takes no `^` the reader is settled
+-- after a factor that takes no `^` the reader is settled
 pub settled_factor : (outer : Outer) (ts fs behind : Parts) (b : Bound) → behind ≡ with_part fs b → takes_caret fs (Some b) ≡ false
     → (Some (behind_factor outer ts fs b) ≡ Some (front_at outer ts behind ItemRead)) × IsTrue (not (takes_caret (init behind) (last behind)))
 settled_factor outer ts fs behind b e none = (
@@ -24,7 +24,7 @@ settled_factor outer ts fs behind b e none = (
   ap not (ap (λ (gs : Parts). takes_caret (init gs) (last gs)) e ∙ ap (λ (gs : Parts). takes_caret gs (last (with_part fs b))) (init-with_part fs b) ∙ ap (takes_caret fs) (last-with_part fs b) ∙ none),
 )
 
--- behind a number that isn't too large for one there is a base that isn't
+-- after a number that isn't too large for one there is a base that isn't
 pub small_base : (position : Position) (outer : Outer) (ts fs : Parts) (n : ℕ) (piece : Piece) → position ≡ at.Number n → has_large_base (front_with position outer ts fs) piece ≡ false
     → IsTrue (is_caret piece) → n < 2 ^ 64
 small_base position outer ts fs n piece e large caret = go piece caret (subst (λ (p : Position). has_large_base (front_with p outer ts fs) piece ≡ false) e large)
@@ -47,10 +47,10 @@ settled_fresh at.BlankRead fs h = refl
 settled_fresh at.PlusRead fs h = refl
 settled_fresh at.CommaRead fs h = refl
 
--- behind a piece that is accepted the reader is settled
+-- after a piece that is accepted the reader is settled
 pub follows_settled : (reached : Option Front) (r : Reader) (result : Result (Unit {0}) Fault) (u : Unit {0}) → result ≡ Ok u → Follows reached r result → IsTrue (is_settled r)
 follows_settled reached r result u e h = (subst (Follows reached r) e h).1
 
--- and behind one that leads nowhere it can be searched
+-- after a rejected piece the state can still be searched
 pub keeps_fresh : (f : Front) (r : Reader) (result : Result (Unit {0}) Fault) → result ≡ Err faults.Syntax → Keeps f r result → IsTrue (is_fresh r)
 keeps_fresh f r result e h = (subst (Keeps f r) e h).1

@@ -1,4 +1,4 @@
--- What reading comes to is the answer to a text.
+-- The result of reading is the answer to a text.
 use Rattle.std.proofs.Common.{◌≡◌, ℕ, ◌≤◌, ◌<◌, ◌^◌, true, List, [], ◌∷◌, length, Option, Some, None, refl, ap, sym}
 use Rattle.std.proofs.Common.{subst, ◌∙◌, arith}
 use Rattle.std.specs.Prelude.{Result, Ok, Err}
@@ -38,7 +38,7 @@ use Rattle.bound_text.proofs.KeptBefore.{bound_kept, keeps_back}
 use Rattle.bound_text.proofs.Limits.{IsKeptWithin, IsKept, IsSmall, keeps_limits, shows_no_limit}
 use Rattle.bound_text.proofs.TextLexing.{text_spelled, pieces_lexed}
 
--- one front, two names
+-- one state, two names
 some_same : (a b : Front) → Some a ≡ Some b → a ≡ b
 some_same a b e = cc
 
@@ -67,7 +67,7 @@ record Led (names : List Name) (b : plain.Bound) : Type 0 where
   pub levels : levels_of last_one ≤ depth_of b
   pub nodes : nodes_of last_one ≤ node_count b
 
--- so they do for a kept bound as texts spell them
+-- the pieces of a bound with the shape of a text that meets the conditions lead to it
 shaped_led : (names : List Name) (b : plain.Bound) → IsShaped b → Kept (length names) b → Led names b
 shaped_led names b shaped is_kept = record {
   shaped = shaped;
@@ -84,11 +84,11 @@ shaped_led names b shaped is_kept = record {
     last_one : Front
     last_one = front_at Whole (terms_in b) (factors_in b) ItemRead
 
--- and for a tidy one over listed variables
+-- the pieces of a tidy bound over listed variables lead to it
 led : (names : List Name) (bytes : List ℕ) (b : plain.Bound) → IsText names bytes b → HasShortBases b → Led names b
 led names bytes b t bases = let k = tidy_kept (length names) b t.tidy t.listed bases in shaped_led names b k.0 k.1
 
--- the pieces of a text are those of the bound that it stands for
+-- the pieces of a text are those of the bound that it denotes
 pieces_found : (names : List Name) (bytes : List ℕ) (b : plain.Bound) → AreNames names → IsText names bytes b → FitsTypes b → pieces (tokens names bytes) ≡ pieces_of b
 pieces_found names bytes b are t fits =
     let l = led names bytes b t fits.bases in
@@ -106,7 +106,7 @@ text_written names bytes b are t =
       record { kept = k.1; levels = w.levels; nodes = w.nodes },
     )
 
--- and the other way round
+-- the bytes of a bound's pieces are its text
 written_text : (names : List Name) (bytes : List ℕ) (b : plain.Bound) → IsShaped b × (pieces_of b ≡ pieces (tokens names bytes)) → IsKeptWithin (length names) b → IsTextWithin names bytes b
 written_text names bytes b w k =
     let t = kept_tidy (length names) b w.0 k.kept in
@@ -163,7 +163,7 @@ says_gives_back names bytes result b are says t = go result (subst (λ (v : Answ
     go (Err errors.Memory) h = tt
     go (Err error) h = absurd h
 
--- a text stands for one bound at most
+-- a text denotes one bound at most
 pub one_bound : OneBound
 one_bound = record {
   each = λ names are bytes a b ta fa tb fb.

@@ -1,4 +1,4 @@
--- The bytes of a text's pieces are the text, and the pieces of what they are written as are they.
+-- The bytes of a text's pieces are the text, and the pieces of those bytes are the pieces.
 use Rattle.std.proofs.Common.{◌≡◌, ℕ, zero, suc, ◌+◌, ◌-◌, ◌^◌, ◌<◌, ◌≤◌, nat_eq, Bool, true, false, cond, List, []}
 use Rattle.std.proofs.Common.{◌∷◌, ◌++◌, length, length-append, min, drop, slice_index_or, Option, Some, None, refl}
 use Rattle.std.proofs.Common.{sym, ap, subst, ◌∙◌, arith}
@@ -47,7 +47,7 @@ lexeme_some names b bytes = go (begins_name b) (is_ascii_digit b)
     go false true = omega arith
     go false false = omega arith
 
--- and no more than there are
+-- a lexeme has no more bytes than there are
 lexeme_few : (names : List Name) (b : ℕ) (bytes : List ℕ) → (lexeme_at names b bytes).len ≤ length (b ∷ bytes)
 lexeme_few names b bytes = go (begins_name b) (is_ascii_digit b)
   where
@@ -70,7 +70,7 @@ lexeme_few names b bytes = go (begins_name b) (is_ascii_digit b)
     go false true = omega (arith, parts is_ascii_digit)
     go false false = omega arith
 
--- so the pieces of a text are in order of position
+-- the pieces of a text are in order of position
 pub lexes_within : (names : List Name) → LexesWithin (each_piece (lexeme_at names))
 lexes_within names = record { each = λ b bytes. (lexeme_some names b bytes, lexeme_few names b bytes) }
 
@@ -85,7 +85,7 @@ begins_split : (c : ℕ) (bytes : List ℕ) → begins_with c bytes ≡ true →
 begins_split c [] h = cc
 begins_split c (b ∷ bytes) h = (bytes, (let e : b ≡ c = grind (arith, nat_tests) in ap (λ (x : ℕ). x ∷ bytes) e))
 
--- what a kept name is written as
+-- the bytes of an accepted name
 word_spelled : (names : List Name) (w rest : List ℕ) → KeptPiece (length names) (word_at names w rest).piece → Spelled names (w ++ rest) (word_at names w rest)
 word_spelled names w rest kept = go (begins_with 40 rest) (is_same w (codes "max")) refl refl kept
   where
@@ -99,7 +99,7 @@ word_spelled names w rest kept = go (begins_with 40 rest) (is_same w (codes "max
     go true false e f kept = absurd kept
     go false u e f kept = let p = at_position names w kept in record { rest = rest; split = ap (λ (xs : List ℕ). xs ++ rest) (sym p); len = ap length p }
 
--- what a kept number is written as
+-- the bytes of an accepted number
 number_spelled : (names : List Name) (c : ℕ) (ds rest : List ℕ) → is_ascii_digit c ≡ true → list_all is_ascii_digit ds ≡ true → KeptPiece (length names) (number_at (c ∷ ds)).piece → Spelled names ((c ∷ ds) ++ rest) (number_at (c ∷ ds))
 number_spelled names c ds rest d all kept = go (has_leading_zero (c ∷ ds)) refl kept
   where
@@ -112,7 +112,7 @@ number_spelled names c ds rest d all kept = go (has_leading_zero (c ∷ ds)) ref
         let n : decimal (value_up_to (2 ^ 127) (c ∷ ds)) ≡ c ∷ ds = ap decimal same ∙ numeral_of c ds d all e (omega (arith, small)) in
         record { rest = rest; split = ap (λ (xs : List ℕ). xs ++ rest) (sym n); len = ap length n }
 
--- what any other kept byte is written as
+-- the bytes of any other accepted piece
 mark_spelled : (names : List Name) (b : ℕ) (rest : List ℕ) → KeptPiece (length names) (mark_at b) → Spelled names (b ∷ rest) (record { piece = mark_at b; len = 1 })
 mark_spelled names b rest kept = go (nat_eq b 40) (nat_eq b 41) (nat_eq b 42) (nat_eq b 94) (nat_eq b 43) (nat_eq b 32) (nat_eq b 44) refl refl refl refl refl refl refl kept
   where
@@ -146,7 +146,7 @@ lexeme_spelled names b bytes kept = go (begins_name b) (is_ascii_digit b) refl k
         (number_spelled names b (prefix is_ascii_digit bytes) (the_rest is_ascii_digit bytes) f (all_prefix is_ascii_digit bytes) kept)
     go false false f kept = mark_spelled names b bytes kept
 
--- what is behind the bytes of a piece
+-- the bytes after those of a piece
 behind_first : (b : ℕ) (bytes xs rest : List ℕ) (n : ℕ) → b ∷ bytes ≡ xs ++ rest → length xs ≡ n → 0 < n → drop (n - 1) bytes ≡ rest
 behind_first b bytes xs rest zero e h some = absurd (omega arith)
 behind_first b bytes xs rest (suc n) e h some =
@@ -166,7 +166,7 @@ text_spelled names at zero (b ∷ bytes) all =
     ∙ text_spelled names (at + 1) ((lexeme_at names b bytes).len - 1) bytes all.1)
 text_spelled names at (suc k) (b ∷ bytes) all = text_spelled names (at + 1) k bytes all
 
--- no byte that would go on a name or a number comes first, and no opening bracket
+-- the first byte doesn't continue a name or a number, and is no opening bracket
 abbrev pub Closes : List ℕ → Type 0
 Closes [] = ⊤
 Closes (b ∷ bytes) = (continues_name b ≡ false) × (is_ascii_digit b ≡ false) × (nat_eq b 40 ≡ false)
@@ -268,7 +268,7 @@ piece_found names Blank rest are kept closed = record { first = 32; others = [];
 piece_found names Comma rest are kept closed = record { first = 44; others = []; split = refl; lexeme = refl }
 piece_found names Wrong rest are kept closed = absurd kept
 
--- a name or a number leads behind an item, and what can follow closes it
+-- a name or a number leads after an item, and what can follow closes it
 behind_long : (f g : Front) (piece : Piece) → Leads f piece g → IsLong piece → g.position ≡ ItemRead
 behind_long f g piece (of_variable o ts fs i) long = refl
 behind_long f g piece (of_number o ts fs c) long = refl
@@ -288,7 +288,7 @@ behind_long f g piece (of_plus o ts fs) long = absurd long
 behind_long f g piece (of_term o ts fs e) long = absurd long
 behind_long f g piece (of_argument o bs ts' fs' ts fs e) long = absurd long
 
--- what can follow an item closes it
+-- a piece that can follow an item closes it
 mark_closes : (names : List Name) (f h : Front) (piece : Piece) (rest : List ℕ) → f.position ≡ ItemRead → step f piece ≡ Some h → Closes (spelled names piece ++ rest)
 mark_closes names f h piece rest e on = go piece (ap (λ (p : Position). step_at p f.outer f.terms f.factors piece) (sym e) ∙ on)
   where
@@ -305,7 +305,7 @@ mark_closes names f h piece rest e on = go piece (ap (λ (p : Position). step_at
     go Plus on = cc
     go Wrong on = cc
 
--- the same for the pieces that lead on
+-- pieces that are accepted after an item close it
 pieces_close : (names : List Name) (g last_one : Front) (ps : List Piece) → g.position ≡ ItemRead → walk (Some g) ps ≡ Some last_one → Closes (bytes_of names ps)
 pieces_close names g last_one [] e on = tt
 pieces_close names g last_one (p ∷ ps) e on = go (step g p) refl on

@@ -16,24 +16,24 @@ use Rattle.bound_text.proofs.StepCases.{Leads, of_variable, of_number, of_maximu
 use Rattle.bound_text.proofs.StepCases.{of_power_of, of_exponent, of_times, of_base, of_caret, of_blank, of_comma}
 use Rattle.bound_text.proofs.StepCases.{of_close, of_plus, of_term, of_argument}
 
--- from one front to the next the tree so far doesn't shrink, and the surroundings of the second were there or are
+-- from one state to the next the tree so far doesn't shrink, and the surroundings of the second were there or are
 -- counted in it
 pub record Grows (f g : Front) : Type 0 where
   pub nodes : nodes_of f ≤ nodes_of g
   pub levels : levels_of f ≤ levels_of g
   pub round : levels_round g.outer ≤ max (levels_of f) (inner_levels g)
 
--- with one more there are parts
+-- there are parts, with one more
 any-more : (bs : Parts) (b : Bound) → node_of_any (with_part bs b) ≡ 1
 any-more NoParts b = refl
 any-more (Part c cs) b = refl
 
--- it is one node at most
+-- the node of any parts is at most one
 any-small : (bs : Parts) → node_of_any bs ≤ 1
 any-small NoParts = omega arith
 any-small (Part b bs) = omega arith
 
--- with a sum in brackets as one more factor a product counts
+-- a product counts with a sum in brackets as one more factor
 product_node-sum : (bs : Parts) (b : Bound) → is_sum b ≡ true → product_node (with_part bs b) ≡ 1
 product_node-sum NoParts b h = rw h refl
 product_node-sum (Part c NoParts) b h = refl
@@ -113,11 +113,11 @@ sum_small o ts = go (in_factor o)
 max_le : (a b c : ℕ) → a ≤ c → b ≤ c → max a b ≤ c
 max_le a b c h k = omega arith
 
--- what is at most the maximum of two
+-- a number that is at most the first is at most the maximum
 le_left : (a b c : ℕ) → a ≤ b → a ≤ max b c
 le_left a b c h = omega arith
 
--- and of the other one
+-- a number that is at most the second is at most the maximum
 le_right : (a b c : ℕ) → a ≤ c → a ≤ max b c
 le_right a b c h = omega arith
 
@@ -157,7 +157,7 @@ argument_levels LR A S P TA FA B BB K T N F b =
 either : (x B BB u v d : ℕ) → BB ≡ max B d → x + B ≤ u → x + d ≤ v → x + BB ≤ max u v
 either x B BB u v d e h k = omega arith
 
--- what surrounds the next argument was there before
+-- the part around the next argument was there before
 argument_round : (LR A S P TA FA B BB K T N F G : ℕ) → BB ≡ max B (K + max T (N + F))
     → max LR (max (A + S + TA) (max (A + S + P + FA) (A + S + P + 1 + BB)))
     ≤ max (max (max LR (max (A + S + TA) (max (A + S + P + FA) (A + S + P + 1 + B)))) (max (A + S + P + 1 + K + T) (A + S + P + 1 + K + N + max F 0))) G

@@ -18,7 +18,7 @@ outer_from-push : (outer : Outer) (xs : List Opened) (x : Opened) → outer_from
 outer_from-push outer [] x = refl
 outer_from-push outer (y ∷ ys) x = outer_from-push (Inside (bracket_of y.bracket) (parts_in y.terms) (parts_in y.factors) outer) ys x
 
--- and from the outermost on
+-- the brackets as the code stores them, with the outermost first
 pub outer_of_push : (xs : List Opened) (x : Opened) → outer_of (xs ++ x ∷ []) ≡ Inside (bracket_of x.bracket) (parts_in x.terms) (parts_in x.factors) (outer_of xs)
 outer_of_push xs x = outer_from-push Whole xs x
 
@@ -35,7 +35,7 @@ in_arguments_from outer (y ∷ z ∷ xs) x h =
     in_arguments_from (Inside (bracket_of y.bracket) (parts_in y.terms) (parts_in y.factors) outer) (z ∷ xs) x
     (ap (λ (k : ℕ). slice_get (y ∷ z ∷ xs) k) (let e : suc (length (z ∷ xs) - 1) ≡ length (y ∷ z ∷ xs) - 1 = omega arith in e) ∙ h)
 
--- and from the outermost on
+-- the innermost bracket as the code stores it
 pub in_arguments_last : (xs : List Opened) (x : Opened) → slice_get xs (length xs - 1) ≡ Some x → in_arguments (outer_of xs) ≡ is_arguments (bracket_of x.bracket)
 in_arguments_last xs x h = in_arguments_from Whole xs x h
 
@@ -47,11 +47,11 @@ can_close_from outer (y ∷ z ∷ xs) x b h =
     can_close_from (Inside (bracket_of y.bracket) (parts_in y.terms) (parts_in y.factors) outer) (z ∷ xs) x b
     (ap (λ (k : ℕ). slice_get (y ∷ z ∷ xs) k) (let e : suc (length (z ∷ xs) - 1) ≡ length (y ∷ z ∷ xs) - 1 = omega arith in e) ∙ h)
 
--- and from the outermost on
+-- whether the innermost bracket can close, as the code stores it
 pub can_close_last : (xs : List Opened) (x : Opened) (b : Bound) → slice_get xs (length xs - 1) ≡ Some x → innermost_can_close (outer_of xs) b ≡ can_close (bracket_of x.bracket) b
 can_close_last xs x b h = can_close_from Whole xs x b h
 
--- and none does where there is none
+-- no bracket closes if none is open
 pub can_close_none : (xs : List Opened) (b : Bound) → length xs ≡ 0 → innermost_can_close (outer_of xs) b ≡ false
 can_close_none [] b h = refl
 can_close_none (x ∷ xs) b h = absurd (omega (arith, h))
@@ -72,7 +72,7 @@ rounds_from_push : (outer : Outer) (xs : List Opened) (x : Opened) → AreRounds
 rounds_from_push outer [] x rounds round = (round, tt)
 rounds_from_push outer (y ∷ ys) x rounds round = (rounds.0, rounds_from_push (Inside (bracket_of y.bracket) (parts_in y.terms) (parts_in y.factors) outer) ys x rounds.1 round)
 
--- and from the outermost on
+-- the rounds with one more bracket
 pub rounds_push : (xs : List Opened) (x : Opened) → AreRounds xs → IsRound (Inside (bracket_of x.bracket) (parts_in x.terms) (parts_in x.factors) (outer_of xs)) x.within → AreRounds (xs ++ x ∷ [])
 rounds_push xs x rounds round = rounds_from_push Whole xs x rounds round
 
@@ -81,7 +81,7 @@ rounds_from_front : (outer : Outer) (xs : List Opened) (x : Opened) → AreRound
 rounds_from_front outer [] x rounds = tt
 rounds_from_front outer (y ∷ ys) x rounds = (rounds.0, rounds_from_front (Inside (bracket_of y.bracket) (parts_in y.terms) (parts_in y.factors) outer) ys x rounds.1)
 
--- and from the outermost on
+-- the rounds without the innermost bracket
 pub rounds_front : (xs : List Opened) (x : Opened) → AreRounds (xs ++ x ∷ []) → AreRounds xs
 rounds_front xs x rounds = rounds_from_front Whole xs x rounds
 
@@ -95,7 +95,7 @@ rounds_from_last outer (y ∷ z ∷ xs) x h rounds =
     rounds_from_last (Inside (bracket_of y.bracket) (parts_in y.terms) (parts_in y.factors) outer) (z ∷ xs) x
     (ap (λ (k : ℕ). slice_get (y ∷ z ∷ xs) k) (let e : suc (length (z ∷ xs) - 1) ≡ length (y ∷ z ∷ xs) - 1 = omega arith in e) ∙ h) rounds.1
 
--- and from the outermost on
+-- the round of the innermost bracket
 pub rounds_last : (xs : List Opened) (x : Opened) → slice_get xs (length xs - 1) ≡ Some x → AreRounds xs → IsRound (outer_of xs) x.within
 rounds_last xs x h rounds = rounds_from_last Whole xs x h rounds
 
@@ -110,7 +110,7 @@ pub rounds_popped : (r : Option Opened) (xs ys : List Opened) → xs ≡ ys ++ o
 rounds_popped None xs ys e rounds = subst AreRounds (e ∙ append-nil ys) rounds
 rounds_popped (Some x) xs ys e rounds = rounds_front ys x (subst AreRounds e rounds)
 
--- and what it contained is outside of the innermost bound again
+-- the part before a closed bracket is around the innermost bound again
 pub outer_popped : (r : Option Opened) (xs ys : List Opened) → xs ≡ ys ++ option_to_list r → MatchOption r (length xs ≡ 0) (λ _. ⊤)
     → MatchOption r (outer_of xs ≡ Whole) (λ x. outer_of xs ≡ Inside (bracket_of x.bracket) (parts_in x.terms) (parts_in x.factors) (outer_of ys))
 outer_popped None [] ys e none = refl

@@ -1,4 +1,4 @@
--- A text begins with pieces exactly where they lead somewhere, and they are all of a text exactly where it can end there.
+-- A text begins with pieces exactly if they lead somewhere, and they are all of a text exactly if it can end there.
 use Rattle.std.proofs.Common.{◌≡◌, List, [], ◌∷◌, ◌++◌, Option, Some, None, refl, ap, sym, subst, ◌∙◌, append-nil}
 use Rattle.text_core.specs.model.Bounds.{Bound}
 use Rattle.bound_text.specs.Shapes.{IsShaped}
@@ -35,15 +35,15 @@ walk_sound (piece ∷ pieces) f g is h = go (step f piece) refl h (λ k is on. w
         let r = ih k x.is_front on in
         record { is_front = r.is_front; text = λ rest. r.text rest ∙ x.text (pieces ++ rest) }
 
--- what has been read with pieces from the start on
+-- the pieces of a walk from the beginning were read
 pub walk_read : (pieces : List Piece) (f : Front) → walk (Some beginning) pieces ≡ Some f → Read beginning f pieces
 walk_read pieces f h = walk_sound pieces beginning f beginning_front h
 
--- and the other way round
+-- pieces that were read are a walk
 pub read_walk : (pieces : List Piece) (f : Front) → Reads pieces f → walk (Some beginning) pieces ≡ Some f
 read_walk pieces f r = ap (walk (Some beginning)) (sym r.text) ∙ front_read f r.is []
 
--- what a walk leads to is what has been read
+-- the state that a walk leads to has read its pieces
 pub walk_reads : (pieces : List Piece) (f : Front) → walk (Some beginning) pieces ≡ Some f → Reads pieces f
 walk_reads pieces f h = let r = walk_read pieces f h in record { is = r.is_front; text = r.text [] ∙ append-nil pieces }
 
@@ -54,11 +54,11 @@ walk_whole pieces f b h e =
     let s = finish_sound f b r.is_front e in
     (s.0, s.1 [] ∙ r.text [] ∙ append-nil pieces)
 
--- and the other way round
+-- a whole text's pieces are a walk to a state that can end
 pub whole_walk : (pieces : List Piece) (b : Bound) → IsShaped b → pieces_of b ≡ pieces → (walk (Some beginning) pieces ≡ stands Whole (terms_in b) (factors_in b)) × (finish (front_at Whole (terms_in b) (factors_in b) ItemRead) ≡ Some b)
 whole_walk pieces b shaped e = (ap (walk (Some beginning)) (sym e) ∙ walk-bound b shaped [], finish-bound b shaped)
 
--- a text goes on from each front that pieces lead to
+-- a text can be completed from each state that pieces lead to
 pub walk_begins : (pieces : List Piece) (f : Front) → walk (Some beginning) pieces ≡ Some f → (b : Bound) × (rest : List Piece) × IsShaped b × (pieces_of b ≡ pieces ++ rest)
 walk_begins pieces f h = go (walk (Some f) c.pieces) refl c.ends
   where

@@ -23,7 +23,7 @@ pub joined-with_part : (s : List Piece) (bs : Parts) (b : Bound) (rest : List Pi
 joined-with_part s NoParts b rest = refl
 joined-with_part s (Part c cs) b rest = ap (text_then c) (more-with_part s cs b rest)
 
--- parts with the separator behind each, and one more
+-- parts with the separator after each, and one more
 pub each-with_part : (s : List Piece) (bs : Parts) (b : Bound) (rest : List Piece) → each_then s (with_part bs b) rest ≡ each_then s bs (text_then b (s ++ rest))
 each-with_part s NoParts b rest = refl
 each-with_part s (Part c cs) b rest = ap (λ (ps : List Piece). text_then c (s ++ ps)) (each-with_part s cs b rest)
@@ -34,7 +34,7 @@ lead_then Nothing fs rest = star_then fs rest
 lead_then (Run i n) fs rest = Times ∷ rest
 lead_then Other fs rest = Times ∷ rest
 
--- a factor that is no variable is written behind what comes before it
+-- a factor that is no variable is written after what comes before it
 pub other_factor : (w : Before) (b : Bound) (bs : Parts) (rest : List Piece) → is_variable b ≡ false
     → factors_then w (Part b bs) rest ≡ ended_then w (times_then w (bracketed_then (is_sum b) (text_then b) (factors_then Other bs rest)))
 other_factor w (Constant c) bs rest h = refl
@@ -44,19 +44,19 @@ other_factor w (ProductOf cs) bs rest h = refl
 other_factor w (MaximumOf cs) bs rest h = refl
 other_factor w (PowerOf c e) bs rest h = refl
 
--- with no factor among them, the lead is what comes before
+-- without factors, the lead is the part before
 lead_none : (w : Before) (rest : List Piece) → lead_then w NoParts rest ≡ times_then w rest
 lead_none Nothing rest = refl
 lead_none (Run i n) rest = refl
 lead_none Other rest = refl
 
--- behind a factor `*` leads
+-- after a factor `*` leads
 lead_some : (w : Before) (c : Bound) (cs : Parts) (rest : List Piece) → lead_then w (Part c cs) rest ≡ Times ∷ rest
 lead_some Nothing c cs rest = refl
 lead_some (Run i n) c cs rest = refl
 lead_some Other c cs rest = refl
 
--- a run that goes on is a run
+-- a run that continues is a run
 lead_run : (w : Before) (j : ℕ) (cs : Parts) (rest : List Piece) → lead_then (run_with w j) cs rest ≡ Times ∷ rest
 lead_run Nothing j cs rest = refl
 lead_run (Run i n) j cs rest = go (nat_eq i j)
@@ -96,7 +96,7 @@ factors-other w (Part c cs) b rest h =
     (factors-other Other cs b rest h ∙ ap (factors_then Other cs) (sym (lead_some w c cs (bracketed_then (is_sum b) (text_then b) rest))))
     ∙ sym (other_factor w c cs (lead_then w (Part c cs) (bracketed_then (is_sum b) (text_then b) rest)) refl)
 
--- copies behind a factor, and copies alone
+-- copies after a factor, and copies alone
 pub copies-part : (n i : ℕ) (c : Bound) (cs : Parts) → with_copies n i (Part c cs) ≡ Part c (with_copies n i cs)
 copies-part zero i c cs = refl
 copies-part (suc n) i c cs = ap (λ (gs : Parts). with_part gs (Input i)) (copies-part n i c cs)
@@ -106,7 +106,7 @@ pub copies-alone : (n i : ℕ) → with_copies (suc n) i NoParts ≡ Part (Input
 copies-alone zero i = refl
 copies-alone (suc n) i = ap (λ (gs : Parts). with_part gs (Input i)) (copies-alone n i)
 
--- copies go on a run
+-- copies continue a run
 run_on : (n i m : ℕ) (rest : List Piece) → factors_then (Run i m) (with_copies n i NoParts) rest ≡ run_then i (m + n) rest
 run_on zero i m rest = ap (λ (k : ℕ). run_then i k rest) (let e : m ≡ m + zero = omega arith in e)
 run_on (suc n) i m rest =
@@ -121,12 +121,12 @@ abbrev pub ends_in : Before → Parts → ℕ → Bool
 ends_in w NoParts i = goes_on w i
 ends_in w (Part b bs) i = is_input i (last (Part b bs))
 
--- behind variable j, it is where j is i
+-- after variable j, it is where j is i
 pub ends_run : (w : Before) (j i : ℕ) (cs : Parts) → ends_in w (Part (Input j) cs) i ≡ false → ends_in (Run j 1) cs i ≡ false
 ends_run w j i NoParts h = h
 ends_run w j i (Part c cs) h = h
 
--- behind the same variable it goes on
+-- after the same variable the run continues
 pub ends_same : (w : Before) (j i : ℕ) (cs : Parts) → goes_on w j ≡ true → ends_in w (Part (Input j) cs) i ≡ false → ends_in (run_with w j) cs i ≡ false
 ends_same Nothing j i cs e h = cc
 ends_same (Run k n) j i NoParts e h =
@@ -134,12 +134,12 @@ ends_same (Run k n) j i NoParts e h =
 ends_same (Run k n) j i (Part c cs) e h = h
 ends_same Other j i cs e h = cc
 
--- behind a factor that is no variable, it isn't
+-- after a factor that is no variable, it isn't
 pub ends_other : (w : Before) (c : Bound) (cs : Parts) (i : ℕ) → ends_in w (Part c cs) i ≡ false → ends_in Other cs i ≡ false
 ends_other w c NoParts i h = refl
 ends_other w c (Part d ds) i h = h
 
--- a run behind the factors
+-- a run after the factors
 pub factors-run : (w : Before) (fs : Parts) (n i : ℕ) (rest : List Piece) → ends_in w fs i ≡ false
     → factors_then w (with_copies (suc n) i fs) rest ≡ factors_then w fs (lead_then w fs (run_then i (suc n) rest))
 factors-run w NoParts n i rest h =

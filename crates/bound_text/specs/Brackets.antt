@@ -15,7 +15,7 @@ use Rattle.bound_text.specs.declared.size.Round.{Round}
 abbrev pub parts_in : Measured → Parts
 parts_in m = parts_of (bounds_of m.bounds.items)
 
--- what an open bracket belongs to
+-- the node that an open bracket belongs to
 abbrev pub bracket_of : Bracket → fronts.Bracket
 bracket_of (brackets.Arguments bs) = fronts.Arguments (parts_in bs)
 bracket_of (brackets.Exponent c) = fronts.Exponent c
@@ -26,11 +26,11 @@ abbrev pub outer_from : Outer → List Opened → Outer
 outer_from outer [] = outer
 outer_from outer (x ∷ xs) = outer_from (Inside (bracket_of x.bracket) (parts_in x.terms) (parts_in x.factors) outer) xs
 
--- what surrounds the innermost bound
+-- the brackets around the innermost bound
 abbrev pub outer_of : List Opened → Outer
 outer_of xs = outer_from Whole xs
 
--- what is counted around the innermost bound, each up to 2^64-1
+-- the levels and nodes counted around the innermost bound, each up to 2^64-1
 pub record IsRound (outer : Outer) (round : Round) : Type 0 where
   pub nodes : round.nodes ≡ min (fronts.nodes_round outer) (2 ^ 64 - 1)
   pub levels : round.levels ≡ min (fronts.levels_above outer) (2 ^ 64 - 1)
@@ -43,17 +43,17 @@ AreRoundsFrom outer (x ∷ xs) =
     IsRound (Inside (bracket_of x.bracket) (parts_in x.terms) (parts_in x.factors) outer) x.within
     × AreRoundsFrom (Inside (bracket_of x.bracket) (parts_in x.terms) (parts_in x.factors) outer) xs
 
--- which is a proposition: all its proofs are equal
+-- all proofs of this are equal
 AreRoundsFrom-prop : (outer : Outer) (xs : List Opened) → IsProp (AreRoundsFrom outer xs)
 AreRoundsFrom-prop outer [] = hlevel props
 AreRoundsFrom-prop outer (x ∷ xs) =
     let rest = AreRoundsFrom-prop (Inside (bracket_of x.bracket) (parts_in x.terms) (parts_in x.factors) outer) xs in
     hlevel (props, rest)
 
--- the same where they are the whole text's
+-- the rounds of the brackets of a whole text
 abbrev pub AreRounds : List Opened → Type 0
 AreRounds xs = AreRoundsFrom Whole xs
 
--- which is a proposition: all its proofs are equal
+-- all proofs of this are equal
 pub AreRounds-prop : (xs : List Opened) → IsProp (AreRounds xs)
 AreRounds-prop xs = AreRoundsFrom-prop Whole xs

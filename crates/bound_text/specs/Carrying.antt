@@ -1,5 +1,5 @@
--- The state that is carried on behind a number that is too large, so that reading can go on: no mark depends on how
--- large a base is, nor on how long a run is, and a bound that is too large stays so.
+-- The state that is carried on after a number that is too large, so that reading can continue: no mark depends on the
+-- size of a base, nor on the length of a run, and a bound that is too large stays so.
 use Rattle.std.specs.Prelude.{◌≡◌, ℕ, ◌≤◌, ◌+◌, ◌-◌, min, Bool, true, false, if◌then◌else◌, nat_lt, Option, Some}
 use Rattle.std.specs.Prelude.{None, List, [], ◌∷◌}
 use Rattle.std.specs.Option.{option_map}
@@ -13,17 +13,17 @@ use Rattle.bound_text.specs.Reading.{has_many}
 use Rattle.bound_text.specs.Inside.{front_marks}
 use Rattle.bound_expr.specs.Limits.{too_large_base, node_limit}
 
--- as many copies are carried as a run has, but no more than 4,097, which are too many nodes by themselves, and no more
--- than two where what was read before has more than 4,096 nodes already
+-- the number of copies carried for a run: its length, but at most 4,097, which are too many nodes by themselves, and
+-- at most two if the pieces before have more than 4,096 nodes already
 abbrev pub copies_within_limit : ℕ → ℕ → ℕ
 copies_within_limit nodes n = min n (if nat_lt node_limit nodes then 2 else node_limit + 1)
 
--- the piece that is carried, behind this many nodes
+-- the piece that is carried, after this many nodes
 abbrev pub kept_at : Position → ℕ → Piece → Piece
 kept_at (RunCaret i) nodes (Number n) = Number (copies_within_limit nodes n)
 kept_at position nodes piece = piece
 
--- where a piece leads, but that a base over 2^64-1 is carried as 2^64-1, and of a run only so many copies
+-- the state after a piece, but that a base over 2^64-1 is carried as 2^64-1, and of a run only this many copies
 abbrev pub limited_step : Front → Piece → Option Front
 limited_step f piece =
     if has_large_base f piece then Some (front_at f.outer f.terms (init f.factors) (PowerCaret (too_large_base - 1)))
@@ -38,7 +38,7 @@ first_of against (kind ∷ kinds) = if against kind then Some kind else first_of
 abbrev pub early_kinds : List Kind
 early_kinds = Syntax ∷ NumberTooLarge ∷ UnknownName ∷ []
 
--- `A^` at the beginning, and `B^` behind this many times `A`
+-- `A^` at the beginning, and `B^` after this many times `A`
 abbrev pub begun_run : Front
 begun_run = front_at Whole NoParts NoParts (RunCaret 0)
 
@@ -59,17 +59,17 @@ pub record RunsAreWorkedOut : Type 0 where
   -- the longest that is carried whole, and one that isn't
   pub longest : IsCarried begun_run 4097 4097 true
   pub longer : IsCarried begun_run 5000 4097 true
-  -- behind `A^4093` a `B^2` is within the limit; behind `A^4094` the `B^` is, and no run behind it
+  -- after `A^4093` a `B^2` is within the limit; after `A^4094` the `B^` is, and no run after it
   pub within : IsCarried (behind_run 4093) 2 2 false
   pub over : IsCarried (behind_run 4094) 2 2 true
   pub longer_over : IsCarried (behind_run 4094) 5000 4097 true
-  -- behind `A^4095` the `B^` is too large already, and behind what is carried of `A^5000`
+  -- after `A^4095` the `B^` is too large already, and after what is carried of `A^5000`
   pub behind_large : IsCarried (behind_run 4095) 5000 2 true
   pub behind_carried : IsCarried (behind_run 4097) 5000 2 true
 
--- what is carried leads on exactly where the piece does, with the same marks, and with too many nodes exactly where
--- there are; what is too large stays so; and where no base is too large, and nodes aren't too many, it is where the
--- piece leads
+-- the carried state accepts a piece exactly if the exact one does, with the same marks, and has too many nodes exactly
+-- if the exact one has; a bound that is too large stays so; and if no base is too large and the nodes aren't too many,
+-- it is the exact state after the piece
 pub record CarriedFrontsAreMarked : Type 0 where
   pub marks : (f : Front) (piece : Piece) → IsFront f
       → option_map front_marks (limited_step f piece) ≡ option_map front_marks (step f piece)

@@ -8,7 +8,7 @@ use Rattle.bound_text.specs.Steps.{step}
 use Rattle.bound_text.specs.Kinds.{Kind, Syntax, NumberTooLarge, UnknownName, TooDeep, TooLarge}
 use Rattle.bound_expr.specs.Limits.{cap, too_large_base, depth_limit, node_limit}
 
--- the result of taking a piece: a refusal, or the new front
+-- the result of taking a piece: a refusal, or the new state
 pub data PieceResult : Type 0 where
   Refused : Kind → PieceResult
   Reached : Front → PieceResult
@@ -57,16 +57,16 @@ abbrev pub is_large_number : Option Bound → Bool
 is_large_number (Some (Constant c)) = nat_le too_large_base c
 is_large_number factor = false
 
--- whether a piece is the `^` behind a base over 2^64-1
+-- whether a piece is the `^` after a base over 2^64-1
 abbrev pub has_large_base_at : Position → Parts → Piece → Bool
 has_large_base_at ItemRead fs Caret = is_large_number (last fs)
 has_large_base_at position fs piece = false
 
--- the same where what has been read ends
+-- whether the base that ends here is too large
 abbrev pub has_large_base : Front → Piece → Bool
 has_large_base f piece = has_large_base_at f.position f.factors piece
 
--- the result of a piece with this fault that leads to this front
+-- the result of a piece with this fault that leads to this state
 abbrev pub fault_or_front : Option Kind → Option Front → PieceResult
 fault_or_front fault None = Refused Syntax
 fault_or_front (Some kind) (Some f) = Refused kind

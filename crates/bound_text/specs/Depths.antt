@@ -13,7 +13,7 @@ use Rattle.bound_text.specs.Inside.{outer_marks, level_behind, deep_among}
 use Rattle.bound_text.specs.declared.state.Position.{Position}
 use Rattle.bound_text.specs.declared.state.Position.TheVariants as at
 
--- the number of the piece with which the first part begins that is deeper than so many levels: every text that begins
+-- the number of the piece with which the first part begins that is deeper than this many levels: every text that begins
 -- with what has been read is refused at that piece as too deep, and none is where there is no such part
 abbrev pub FindsDeep : ℕ → Front → Option ℕ → Type 0
 FindsDeep most f None = (ts : List (Token Piece)) → deep_among most (front_marks f) ts ≡ []
@@ -21,39 +21,39 @@ FindsDeep most f (Some i) =
     (ts : List (Token Piece)) (t : Token Piece) → slice_get ts i ≡ Some t
     → deep_among most (front_marks f) ts ≡ record { kind = TooDeep; at = t.at } ∷ []
 
--- for each piece, whether a part begins with it that is deeper than so many levels
+-- for each piece, whether a part begins with it that is deeper than this many levels
 abbrev pub flags : ℕ → Marks → List Bool
 flags most [] = []
 flags most (None ∷ marks) = false ∷ flags most marks
 flags most (Some level ∷ marks) = nat_lt most level ∷ flags most marks
 
--- behind the old flags those of a text at a level were put, whatever comes then, where `room` is how many levels parts
+-- after the old flags those of a text at a level were put, whatever comes then, where `room` is how many levels parts
 -- at that level may still have
 pub record Flags (room : ℕ) (old new : List Bool) (text left : ℕ → Marks → Marks) : Type 0 where
   pub each : (most level : ℕ) (rest : Marks) → room ≡ suc most - level
       → new ++ flags most (left level rest) ≡ old ++ flags most (text level rest)
 
--- the same where nothing of it is left
+-- the flags of all marks, where no marks are left
 abbrev pub FlagsAll : ℕ → List Bool → List Bool → (ℕ → Marks → Marks) → Type 0
 FlagsAll room old new text = Flags room old new text (λ level rest. rest)
 
--- the same for pieces with which no part begins, or whose parts each have their own level
+-- pieces with which no part begins, or whose parts each have their own level
 pub record Passes (old new : List Bool) (text : Marks → Marks) : Type 0 where
   pub each : (most : ℕ) (rest : Marks) → new ++ flags most rest ≡ old ++ flags most (text rest)
 
--- behind the old flags those of a factor were put, except for the run that it ends with
+-- after the old flags those of a factor were put, except for the run that it ends with
 pub record FlagsFactor (room : ℕ) (old new : List Bool) (before behind : Before) (b : Bound) : Type 0 where
   pub each : (bs : Parts) → Flags room old new (λ level. factors_marks level before (Part b bs))
       (λ level. factors_marks level behind bs)
 
--- the marks of terms, and of the factors of the next one, behind this many levels above with a sum's node and a
+-- the marks of terms, and of the factors of the next one, after this many levels above with a sum's node and a
 -- product's
 abbrev pub parts_marks : ℕ → ℕ → ℕ → Parts → Parts → Marks → Marks
 parts_marks above sum product ts fs rest =
     each_marks plus_between (level_behind above sum 0) ts
     (factors_marks (level_behind above sum product) Nothing fs rest)
 
--- behind the old flags those of terms and factors were put, where `room` is how many levels a part beside them may
+-- after the old flags those of terms and factors were put, where `room` is how many levels a part beside them may
 -- have, and `inner` how many a factor may have
 pub record FlagsParts (room sum product inner : ℕ) (old new : List Bool) (ts fs : Parts) : Type 0 where
   pub each : (most above : ℕ) (rest : Marks) → room ≡ most - above
@@ -67,7 +67,7 @@ opened_marks outer bracket ts fs rest =
     (star_marks fs (bracket_marks (level_behind (levels_above outer) (sum_node outer ts)
     (product_node_round bracket fs)) bracket rest))
 
--- behind the old flags those of an open bracket were put with the terms and the factors before it, where `room` is how
+-- after the old flags those of an open bracket were put with the terms and the factors before it, where `room` is how
 -- many levels the bound may have that they are in, and `within` how many a bound in the bracket may have
 pub record FlagsOpened (room : ℕ) (factor : Bool) (within : ℕ) (old new : List Bool) (bracket : Bracket)
     (ts fs : Parts) : Type 0 where
@@ -82,7 +82,7 @@ pub record FlagsOuter (most room : ℕ) (old new : List Bool) (outer : Outer) : 
   pub each : (rest : Marks) → new ++ flags most rest ≡ old ++ flags most (outer_marks outer rest)
   pub levels : room ≡ most - levels_above outer
 
--- the marks of what was read last, by the position of the code, an item at a level where one has begun
+-- the marks of the part that was read last, by the position of the code, with an item at a level if one has begun
 abbrev pub marks_here : ℕ → Position → Parts → Marks → Marks
 marks_here level at.Begins fs rest = star_marks fs rest
 marks_here level (at.Number c) fs rest = star_marks fs (Some level ∷ rest)

@@ -26,8 +26,8 @@ pub record TextsHaveNoFault : Type 0 where
   pub each : (names : List Name) → AreNames names → (bytes : List ℕ) (b : plain.Bound) (x : Fault Kind)
       → IsTextWithin names bytes b → IsFirst names bytes x → ⊥
 
--- a front is written as what has been read: pieces lead to it exactly where they are its text, which a text of a bound
--- can begin with; and an item begins there exactly where a base with its `^` can follow
+-- a state is written as what has been read: pieces lead to it exactly if they are its text, which a text of a bound
+-- can begin with; and an item begins there exactly if a base with its `^` can follow
 pub record FrontsAreRead : Type 0 where
   pub read : (n : ℕ) (done : List Piece) (f : Front) → reached (bounds n) done ≡ Some f → IsFront f
       × (front_then f [] ≡ onto done [])
@@ -38,7 +38,7 @@ pub record FrontsAreRead : Type 0 where
   pub begins : (n : ℕ) (done : List Piece) (f : Front) → reached (bounds n) done ≡ Some f
       → IsBeginning (bounds n) (Caret ∷ Number 2 ∷ done) → IsTrue (begins f.position)
 
--- what reading a text answers: the bound, or the first fault, if memory suffices
+-- the answer of reading a text: the bound, or the first fault, if memory suffices
 abbrev pub Answers : List Name → List ℕ → Result Bound BoundTextError → Type 0
 Answers names bytes (Ok b) = IsTextWithin names bytes (bound_of b)
 Answers names bytes (Err (errors.Syntax at)) = IsFirst names bytes (record { kind = Syntax; at = at })

@@ -8,20 +8,21 @@ use Rattle.bound_text.specs.Shapes.{is_sum, is_maximum, is_empty, with_part, Are
 use Rattle.bound_text.specs.Pieces.{Piece, Variable, Number, Maximum, Open, Times, Caret, Plus, Blank, Comma}
 use Rattle.bound_text.specs.Writing.{Nothing, plus_between, comma_between, text_then, factors_then}
 
--- what an open bracket belongs to: a maximum with the arguments so far, a power with this base, or a sum as a factor
+-- the node that an open bracket belongs to: a maximum with the arguments so far, a power with this base, or a sum as a
+-- factor
 pub data Bracket : Type 0 where
   Arguments : Parts → Bracket
   Exponent : ℕ → Bracket
   Factor : Bracket
 
--- what surrounds the innermost bound: nothing, or a bracket behind these terms of a sum and these factors of the
+-- the part around the innermost bound: nothing, or a bracket after these terms of a sum and these factors of the
 -- product that is the next term
 pub data Outer : Type 0 where
   Whole : Outer
   Inside : Bracket → Parts → Parts → Outer → Outer
 
--- what was read last in the innermost bound: what an item can follow; the `^` of a run or of a power; an item; or a
--- part of ` + ` or of `, `
+-- the part that was read last in the innermost bound: none, so that an item can follow; the `^` of a run or of a
+-- power; an item; or a part of ` + ` or of `, `
 pub data Position : Type 0 where
   Begins : Position
   RunCaret : ℕ → Position
@@ -39,12 +40,12 @@ pub record Front : Type 0 where
   pub factors : Parts
   pub position : Position
 
--- `*` behind factors, and then the rest
+-- `*` after factors, and then the rest
 abbrev pub star_then : Parts → List Piece → List Piece
 star_then NoParts rest = rest
 star_then (Part b bs) rest = Times ∷ rest
 
--- parts with the separator behind each, and then the rest
+-- parts with the separator after each, and then the rest
 abbrev pub each_then : List Piece → Parts → List Piece → List Piece
 each_then separator NoParts rest = rest
 each_then separator (Part b bs) rest = text_then b (separator ++ each_then separator bs rest)
@@ -61,7 +62,7 @@ outer_then Whole rest = rest
 outer_then (Inside bracket ts fs outer) rest =
     outer_then outer (each_then plus_between ts (factors_then Nothing fs (star_then fs (bracket_then bracket rest))))
 
--- what was read last, and then the rest
+-- the part that was read last, and then the rest
 abbrev pub position_then : Position → Parts → List Piece → List Piece
 position_then Begins fs rest = star_then fs rest
 position_then (RunCaret i) fs rest = star_then fs (Variable i ∷ Caret ∷ rest)
@@ -105,7 +106,7 @@ product_node_round (Arguments bs) fs = node_of_any fs
 product_node_round (Exponent c) fs = node_of_any fs
 product_node_round Factor fs = 1
 
--- the nodes of what a bracket belongs to
+-- the nodes of the node that a bracket belongs to
 abbrev pub bracket_nodes : Bracket → ℕ
 bracket_nodes (Arguments bs) = 1 + node_count_of_all bs
 bracket_nodes (Exponent c) = 1
@@ -231,7 +232,7 @@ pub record AreArguments (bs : Parts) : Type 0 where
   pub no_maximums : EachPart IsNoMaximum bs
   pub shaped : AreShaped bs
 
--- what a bracket belongs to can become a bound as texts spell them
+-- the node of a bracket can become a bound that has a text
 abbrev pub IsBracket : Bracket → Type 0
 IsBracket (Arguments bs) = AreArguments bs
 IsBracket (Exponent c) = 2 ≤ c
@@ -252,7 +253,7 @@ in_arguments Whole = false
 abbrev pub can_be_argument : Outer → Parts → Parts → Bool
 can_be_argument outer ts fs = in_arguments outer && (can_end fs && not (is_maximum (bound_of_parts ts fs)))
 
--- the position can be behind these terms and factors
+-- the position can be after these terms and factors
 abbrev pub IsPosition : Position → Outer → Parts → Parts → Type 0
 IsPosition Begins outer ts fs = ⊤
 IsPosition (RunCaret i) outer ts fs = IsFalse (is_input i (last fs))

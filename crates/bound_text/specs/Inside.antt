@@ -1,5 +1,5 @@
 -- Bounds inside another text: a part that is one level too deep is refused at its own first byte, though what makes it
--- too deep may come later, as the `*` behind it does.
+-- too deep may come later, as the `*` after it does.
 use Rattle.std.specs.Prelude.{ℕ, suc, ◌+◌, Bool, true, false, if◌then◌else◌, nat_lt, List, [], ◌∷◌, ◌++◌, Option, Some}
 use Rattle.std.specs.Prelude.{None}
 use Rattle.text_core.specs.model.Bounds.{Bound, Constant, Input, SumOf, ProductOf, MaximumOf, PowerOf, Parts, NoParts}
@@ -17,7 +17,7 @@ use Rattle.bound_text.specs.Fronts.{product_node_round, levels_above, sum_at, pr
 use Rattle.bound_text.specs.Reading.{stands, bounds}
 
 -- a mark for each piece: the level of the part that begins with it, where one does. A sum and a product begin with
--- their first part, but a sum in brackets with its bracket; an exponent begins behind its bracket
+-- their first part, but a sum in brackets with its bracket; an exponent begins after its bracket
 abbrev pub Marks : Type 0
 Marks = List (Option ℕ)
 
@@ -32,7 +32,7 @@ ended_marks level Nothing rest = rest
 ended_marks level (Run i n) rest = Some level ∷ (if nat_lt 1 n then None ∷ None ∷ rest else rest)
 ended_marks level Other rest = rest
 
--- the `*` behind factors
+-- the `*` after factors
 abbrev pub times_marks : Before → Marks → Marks
 times_marks Nothing rest = rest
 times_marks (Run i n) rest = None ∷ rest
@@ -57,18 +57,18 @@ abbrev mutual
   bound_marks level (MaximumOf bs) rest = Some level ∷ joined_marks comma_between (suc level) bs (None ∷ rest)
   bound_marks level (PowerOf c e) rest = Some level ∷ None ∷ exponent_marks (is_leaf e) (bound_marks (suc level) e) rest
 
-  -- those of parts at a level that a separator joins
+  -- the marks of parts at a level with a separator between each two
   pub joined_marks : List Piece → ℕ → Parts → Marks → Marks
   joined_marks separator level NoParts rest = rest
   joined_marks separator level (Part b bs) rest = bound_marks level b (more_marks separator level bs rest)
 
-  -- with the separator before each
+  -- the marks of parts with the separator before each
   pub more_marks : List Piece → ℕ → Parts → Marks → Marks
   more_marks separator level NoParts rest = rest
   more_marks separator level (Part b bs) rest =
       unmarked separator (bound_marks level b (more_marks separator level bs rest))
 
-  -- those of factors at a level
+  -- the marks of factors at a level
   pub factors_marks : ℕ → Before → Parts → Marks → Marks
   factors_marks level before NoParts rest = ended_marks level before rest
   factors_marks level before (Part (Input i) bs) rest =
@@ -78,13 +78,13 @@ abbrev mutual
       ended_marks level before (times_marks before (factor_marks (is_sum b) level (bound_marks level b)
       (factors_marks level Other bs rest)))
 
--- those of parts with the separator behind each
+-- the marks of parts with the separator after each
 abbrev pub each_marks : List Piece → ℕ → Parts → Marks → Marks
 each_marks separator level NoParts rest = rest
 each_marks separator level (Part b bs) rest =
     bound_marks level b (unmarked separator (each_marks separator level bs rest))
 
--- the `*` behind factors that aren't done
+-- the `*` after factors that aren't done
 abbrev pub star_marks : Parts → Marks → Marks
 star_marks NoParts rest = rest
 star_marks (Part b bs) rest = None ∷ rest
@@ -95,12 +95,12 @@ bracket_marks level (Arguments bs) rest = Some level ∷ each_marks comma_betwee
 bracket_marks level (Exponent c) rest = Some level ∷ None ∷ None ∷ rest
 bracket_marks level Factor rest = Some level ∷ rest
 
--- the level of terms, and of the factors of the last one, behind this many levels above with a sum's node and a
+-- the level of terms, and of the factors of the last one, after this many levels above with a sum's node and a
 -- product's
 abbrev pub level_behind : ℕ → ℕ → ℕ → ℕ
 level_behind above sum product = suc (above + sum + product)
 
--- what surrounds the innermost bound
+-- the marks of the part around the innermost bound
 abbrev pub outer_marks : Outer → Marks → Marks
 outer_marks Whole rest = rest
 outer_marks (Inside bracket ts fs outer) rest =
@@ -110,7 +110,7 @@ outer_marks (Inside bracket ts fs outer) rest =
     (star_marks fs (bracket_marks (level_behind (levels_above outer) (sum_node outer ts)
     (product_node_round bracket fs)) bracket rest))))
 
--- what was read last, an item at a level where one has begun
+-- the marks of the part that was read last, with an item at a level if one has begun
 abbrev pub position_marks : ℕ → Position → Parts → Marks
 position_marks level Begins fs = star_marks fs []
 position_marks level (RunCaret i) fs = star_marks fs (Some level ∷ None ∷ [])
@@ -120,7 +120,7 @@ position_marks level BlankRead fs = None ∷ []
 position_marks level PlusRead fs = None ∷ None ∷ []
 position_marks level CommaRead fs = None ∷ []
 
--- the marks of what has been read, by the tree so far
+-- the marks of the pieces read so far, by the tree so far
 abbrev pub front_marks : Front → Marks
 front_marks f =
     outer_marks f.outer
@@ -130,7 +130,7 @@ front_marks f =
     (position_marks (level_behind (levels_above f.outer) (sum_at f.position f.outer f.terms)
     (product_at f.position f.factors)) f.position f.factors)))
 
--- the first of the tokens with which a part begins that is deeper than so many levels is refused there
+-- the first of the tokens with which a part begins that is deeper than this many levels is refused there
 abbrev pub deep_at : ℕ → Option ℕ → ℕ → List (Fault Kind) → List (Fault Kind)
 deep_at most None at others = others
 deep_at most (Some level) at others = if nat_lt most level then record { kind = TooDeep; at = at } ∷ [] else others

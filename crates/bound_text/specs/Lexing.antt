@@ -14,20 +14,20 @@ use Rattle.bound_text.specs.Pieces.{Wrong}
 abbrev pub lexeme_with : Piece → ℕ → Lexeme Piece
 lexeme_with piece len = record { piece = piece; len = len }
 
--- what a name is that these bytes follow: before an opening bracket `max` alone is one, and elsewhere it is the
--- variable of that name; a name that isn't listed counts as the variable behind the last one
+-- the piece of a name with these bytes after it: before an opening bracket only `max` is one, and elsewhere it is the
+-- variable of that name; a name that isn't listed counts as the variable after the last one
 abbrev pub word_at : List Name → Name → List ℕ → Lexeme Piece
 word_at names name behind =
     if begins_with 40 behind
     then (if is_same name (codes "max") then lexeme_with Maximum (length name + 1) else lexeme_with Wrong (length name))
     else lexeme_with (Variable (position_of name names)) (length name)
 
--- what digits are: the number that they write, where one over 2^127 counts as 2^127
+-- the piece of digits: the number that they denote, or 2^127 if it is greater
 abbrev pub number_at : List ℕ → Lexeme Piece
 number_at digits =
     lexeme_with (if has_leading_zero digits then Wrong else Number (value_up_to cap digits)) (length digits)
 
--- what any other byte is
+-- the piece of any other byte
 abbrev pub mark_at : ℕ → Piece
 mark_at b =
     if b == 40 then Open

@@ -1,4 +1,4 @@
--- What was appended to a text.
+-- The text that was appended to a text.
 use Rattle.std.specs.Prelude.{◌≡◌, ℕ, ◌<◌, List, ◌++◌, ⊤}
 use Rattle.text_core.specs.model.Programs.{Name}
 use Rattle.text_core.specs.model.Bounds.{Bound, Parts, Part}
@@ -37,7 +37,7 @@ abbrev pub separator_of : Join → List plain.Piece
 separator_of joins.Plus = plus_between
 separator_of joins.Comma = comma_between
 
--- what comes before a factor, as plain data
+-- the part before a factor, as plain data
 abbrev pub before_of : Before → writing.Before
 before_of befores.Nothing = writing.Nothing
 before_of (befores.Run i n) = writing.Run i n
@@ -48,17 +48,17 @@ abbrev pub IsListedRun : ℕ → Before → Type 0
 IsListedRun n (befores.Run i k) = i < n
 IsListedRun n _ = ⊤
 
--- from the old bytes to the new ones that was written which, with the pieces of `left` behind it, are the pieces of
+-- from the old bytes to the new ones that was written which, with the pieces of `left` after it, are the pieces of
 -- `text`
 pub record Writes (names : List Name) (old new : List ℕ)
     (text left : List plain.Piece → List plain.Piece) : Type 0 where
   pub each : (rest : List plain.Piece) → new ++ bytes_of names (left rest) ≡ old ++ bytes_of names (text rest)
 
--- behind the old bytes the text was written
+-- after the old bytes the text was written
 abbrev pub WritesAll : List Name → List ℕ → List ℕ → (List plain.Piece → List plain.Piece) → Type 0
 WritesAll names old new text = Writes names old new text (λ rest. rest)
 
--- a factor was written behind what comes before it, except for the run that it ends with
+-- a factor was written after what comes before it, except for the run that it ends with
 pub record WritesFactor (names : List Name) (old new : List ℕ) (before behind : writing.Before)
     (b : Bound) : Type 0 where
   pub each : (bs : Parts) (rest : List plain.Piece)

@@ -40,7 +40,7 @@ stands n f piece behind UnknownName = is_unlisted n piece
 stands n f piece behind TooDeep = is_deep (step f piece)
 stands n f piece behind TooLarge = has_many (step f piece)
 
--- a front shows faults at the first byte of the next piece
+-- a state shows faults at the first byte of the next piece
 abbrev pub shown : ℕ → Front → List (Token Piece) → List (Fault Kind)
 shown n f [] = []
 shown n f (t ∷ rest) = faults_at t.at (stands n f t.piece (pieces rest)) kinds

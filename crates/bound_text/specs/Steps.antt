@@ -9,12 +9,12 @@ use Rattle.bound_text.specs.Fronts.{Bracket, Arguments, Exponent, Factor, Outer,
 use Rattle.bound_text.specs.Fronts.{RunCaret, PowerCaret, ItemRead, BlankRead, PlusRead, CommaRead, Front, last, init}
 use Rattle.bound_text.specs.Fronts.{is_input, term_of, bound_of_parts, can_end, can_be_argument}
 
--- n times variable i behind the factors
+-- n times variable i after the factors
 abbrev pub with_copies : ℕ → ℕ → Parts → Parts
 with_copies zero i fs = fs
 with_copies (suc n) i fs = with_part (with_copies n i fs) (Input i)
 
--- the front with these parts
+-- the state with these parts
 abbrev pub front_at : Outer → Parts → Parts → Position → Front
 front_at outer ts fs position = record { outer = outer; terms = ts; factors = fs; position = position }
 
@@ -26,7 +26,7 @@ beginning = front_at Whole NoParts NoParts Begins
 abbrev pub inside : Bracket → Outer → Parts → Parts → Front
 inside bracket outer ts fs = front_at (Inside bracket ts fs outer) NoParts NoParts Begins
 
--- behind one more factor
+-- after one more factor
 abbrev pub behind_factor : Outer → Parts → Parts → Bound → Front
 behind_factor outer ts fs b = front_at outer ts (with_part fs b) ItemRead
 
@@ -50,19 +50,19 @@ begin_exponent outer ts fs c (Variable i) = Some (behind_factor outer ts fs (Pow
 begin_exponent outer ts fs c Open = Some (inside (Exponent c) outer ts fs)
 begin_exponent outer ts fs c piece = None
 
--- `^` behind a factor, which is a base or the variable of a run
+-- `^` after a factor, which is a base or the variable of a run
 abbrev pub caret_behind : Outer → Parts → Parts → Option Bound → Option Front
 caret_behind outer ts fs (Some (Constant c)) = when (nat_lt 1 c) (front_at outer ts fs (PowerCaret c))
 caret_behind outer ts fs (Some (Input i)) = when (not (is_input i (last fs))) (front_at outer ts fs (RunCaret i))
 caret_behind outer ts fs factor = None
 
--- whether a bracket can close behind a bound
+-- whether a bracket can close after a bound
 abbrev pub can_close : Bracket → Bound → Bool
 can_close (Arguments bs) b = not (is_empty bs) && not (is_maximum b)
 can_close (Exponent c) b = not (is_leaf b)
 can_close Factor b = is_sum b
 
--- whether the innermost bracket can close behind a bound
+-- whether the innermost bracket can close after a bound
 abbrev pub innermost_can_close : Outer → Bound → Bool
 innermost_can_close Whole b = false
 innermost_can_close (Inside bracket ts fs outer) b = can_close bracket b
@@ -80,7 +80,7 @@ close_bracket (Inside bracket ts' fs' outer) ts fs =
     when (can_end fs && can_close bracket (bound_of_parts ts fs))
     (behind_factor outer ts' fs' (item_of bracket (bound_of_parts ts fs)))
 
--- what follows an item
+-- the state after a piece that follows an item
 abbrev pub follow_item : Outer → Parts → Parts → Piece → Option Front
 follow_item outer ts fs Times = Some (front_at outer ts fs Begins)
 follow_item outer ts fs Caret = caret_behind outer ts (init fs) (last fs)
@@ -95,7 +95,7 @@ end_argument (Inside (Arguments bs) ts' fs' outer) ts fs =
     Some (inside (Arguments (with_part bs (bound_of_parts ts fs))) outer ts' fs')
 end_argument outer ts fs = None
 
--- where a piece leads
+-- the state after a piece
 abbrev pub step_at : Position → Outer → Parts → Parts → Piece → Option Front
 step_at Begins outer ts fs piece = begin_item outer ts fs piece
 step_at (RunCaret i) outer ts fs piece = end_run outer ts fs i piece
@@ -106,7 +106,7 @@ step_at PlusRead outer ts fs Blank = Some (front_at outer (with_part ts (term_of
 step_at CommaRead outer ts fs Blank = end_argument outer ts fs
 step_at position outer ts fs piece = None
 
--- where a piece leads from the part that has been read
+-- the state after a piece from the part that has been read
 abbrev pub step : Front → Piece → Option Front
 step f piece = step_at f.position f.outer f.terms f.factors piece
 

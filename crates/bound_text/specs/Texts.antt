@@ -51,7 +51,7 @@ pub record FitsTypes (b : Bound) : Type 0 where
   pub bases : HasShortBases b
   pub nodes : node_count b < 2 ^ 127
 
--- over variables whose names are names and all differ, a text stands for one bound at most, however deep and large
+-- over variables whose names are names and all differ, a text denotes one bound at most, however deep and large
 pub record OneBound : Type 0 where
   pub each : (names : List Name) → AreNames names → (bytes : List ℕ) (a b : Bound) → IsText names bytes a → FitsTypes a
       → IsText names bytes b → FitsTypes b → a ≡ b

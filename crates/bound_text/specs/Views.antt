@@ -25,7 +25,7 @@ use Rattle.bound_text.specs.declared.fault.Fault.TheVariants as faults
 abbrev pub outer_in : Brackets → Outer
 outer_in b = outer_of b.opened.items
 
--- the front at a position of the code
+-- the state at a position of the code
 abbrev pub front_with : Position → Outer → Parts → Parts → Front
 front_with at.Begins outer ts fs = front_at outer ts fs fronts.Begins
 front_with (at.Number c) outer ts fs = behind_factor outer ts fs (Constant c)
@@ -41,7 +41,7 @@ front_with at.CommaRead outer ts fs = front_at outer ts fs fronts.CommaRead
 abbrev pub front_of : Reader → Front
 front_of r = front_with r.position (outer_in r.outer) (parts_in r.terms) (parts_in r.factors)
 
--- behind an item that is a factor already no `^` can come, and a variable that is none yet goes on no run
+-- no `^` can follow an item that is a factor already, and a variable that is none yet continues no run
 abbrev pub is_settled_at : Position → Parts → Bool
 is_settled_at at.ItemRead fs = not (takes_caret (init fs) (last fs))
 is_settled_at (at.Name i) fs = not (fronts.is_input i (last fs))
@@ -50,7 +50,7 @@ is_settled_at position fs = true
 abbrev pub is_settled : Reader → Bool
 is_settled r = is_settled_at r.position (parts_in r.factors)
 
--- a variable that is no factor yet goes on no run
+-- a variable that is no factor yet continues no run
 abbrev pub is_fresh_at : Position → Parts → Bool
 is_fresh_at (at.Name i) fs = not (fronts.is_input i (last fs))
 is_fresh_at position fs = true
@@ -86,7 +86,7 @@ fault_from plain.UnknownName = faults.UnknownName
 fault_from plain.TooDeep = faults.TooDeep
 fault_from plain.TooLarge = faults.TooLarge
 
--- the reader gets to the front to which the step leads; it answers `Syntax` exactly where the step leads nowhere, if
+-- the reader gets to the state to which the step leads; it answers `Syntax` exactly if the step is rejected, if
 -- memory suffices
 abbrev pub Follows : Option Front → Reader → Result (Unit {0}) Fault → Type 0
 Follows reached r (Ok u) = (reached ≡ Some (front_of r)) × IsTrue (is_settled r)
@@ -94,7 +94,7 @@ Follows reached r (Err faults.Syntax) = reached ≡ None
 Follows reached r (Err faults.Memory) = ⊤
 Follows reached r (Err fault) = ⊥
 
--- behind `Syntax` what has been read is as before
+-- after `Syntax` what has been read is as before
 abbrev pub Keeps : Front → Reader → Result (Unit {0}) Fault → Type 0
 Keeps f r (Ok u) = ⊤
 Keeps f r (Err faults.Syntax) = (front_of r ≡ f) × IsTrue (is_fresh r)
@@ -108,14 +108,14 @@ Obeys (Refused kind) r (Err fault) = IsKind kind fault
 Obeys (Reached f) r (Err faults.Memory) = ⊤
 Obeys (Reached f) r (Err fault) = ⊥
 
--- the code finds the fault of a piece by itself
+-- the code's own test finds the fault of a piece
 abbrev pub FindsFault : Option plain.Kind → Result (Unit {0}) Fault → Type 0
 FindsFault None (Ok u) = ⊤
 FindsFault None (Err fault) = ⊥
 FindsFault (Some kind) (Ok u) = ⊥
 FindsFault (Some kind) (Err fault) = fault ≡ fault_from kind
 
--- the bound that a text that ends here stands for; `Syntax` is answered exactly where there is none, if memory suffices
+-- the bound that a text that ends here denotes; `Syntax` is answered exactly if there is none, if memory suffices
 abbrev pub Finishes : Option bounds.Bound → Result Bound Fault → Type 0
 Finishes bound (Ok b) = bound ≡ Some (bound_of b)
 Finishes bound (Err faults.Syntax) = bound ≡ None

@@ -24,26 +24,26 @@ StandsFor most bytes b = IsTree (inner_bounds most 2) (length bytes) (tokens two
 
 -- where a part is too deep
 pub record DepthsAreWorkedOut : Type 0 where
-  -- with one level `A*B`, `A + B` and `A^2` are refused at their first factor, term and variable, and so is a bound
-  -- that is seen to be a sum by its blank; `A^` isn't a product yet
+  -- at one level `A*B`, `A + B` and `A^2` are refused at their first factor, term and variable, and so is a bound that
+  -- its blank shows to be a sum; `A^` isn't a product yet
   pub product : HasFirst 1 (codes "A*B") TooDeep 0
   pub sum : HasFirst 1 (codes "A + B") TooDeep 0
   pub begun_sum : HasFirst 1 (codes "A ") TooDeep 0
   pub run : HasFirst 1 (codes "A^2") TooDeep 0
   pub begun_run : HasFirst 1 (codes "A^") Syntax 2
-  -- with two levels they stand for bounds
+  -- at two levels they denote bounds
   pub two_levels : StandsFor 2 (codes "A*B") (ProductOf (Part (Input 0) (Part (Input 1) NoParts)))
-  -- with two levels an exponent's factor is too deep, which the `*` behind it shows; with three it isn't
+  -- at two levels an exponent's factor is too deep, which the `*` after it shows; at three it isn't
   pub exponent : HasFirst 2 (codes "2^(A*B)") TooDeep 3
   pub exponent_within : StandsFor 3 (codes "2^(A*B)") (PowerOf 2 (ProductOf (Part (Input 0) (Part (Input 1) NoParts))))
   -- a part deep within what a `*` pushes down is refused itself, and not its surroundings
   pub pushed : HasFirst 3 (codes "max(1, 2^A)*B") TooDeep 9
   pub pushed_within : StandsFor 4 (codes "max(1, 2^A)*B")
       (ProductOf (Part (MaximumOf (Part (Constant 1) (Part (PowerOf 2 (Input 0)) NoParts))) (Part (Input 1) NoParts)))
-  -- so one part can be too deep behind another that turns out to be so later, and first
+  -- one part can be too deep after another one that is found to be so later, and is reported first
   pub behind_one : HasFirst 3 (codes "max(1, 2^(2^A))*B") TooDeep 10
   pub one_alone : HasFirst 3 (codes "max(1, 2^(2^A))") TooDeep 12
-  -- a sum as a factor begins with its bracket, an exponent behind it
+  -- a sum as a factor begins with its bracket, an exponent after it
   pub bracket : HasFirst 1 (codes "(A + B)*A") TooDeep 0
   pub in_bracket : HasFirst 2 (codes "(A + B)*A") TooDeep 1
   pub bare_bracket : HasFirst 1 (codes "2^(") Syntax 3

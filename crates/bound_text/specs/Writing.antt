@@ -5,7 +5,7 @@ use Rattle.text_core.specs.model.Bounds.{Part}
 use Rattle.bound_text.specs.Shapes.{is_sum, is_leaf}
 use Rattle.bound_text.specs.Pieces.{Piece, Variable, Number, Maximum, Open, Close, Times, Caret, Plus, Blank, Comma}
 
--- what comes before the next factor of a product: nothing, a run of this many times one variable, or another factor
+-- the part before the next factor of a product: nothing, a run of this many times one variable, or another factor
 pub data Before : Type 0 where
   Nothing : Before
   Run : ℕ → ℕ → Before
@@ -17,7 +17,7 @@ goes_on Nothing i = false
 goes_on (Run j n) i = j == i
 goes_on Other i = false
 
--- the run with variable i, which begins one where it doesn't go on
+-- the run with variable i, a new one if the variable doesn't continue it
 abbrev pub run_with : Before → ℕ → Before
 run_with Nothing i = Run i 1
 run_with (Run j n) i = if j == i then Run j (suc n) else Run i 1
@@ -29,7 +29,7 @@ count_of Nothing = 0
 count_of (Run i n) = n
 count_of Other = 0
 
--- a run of n times variable i: the name, and from two on the number behind `^`; then the rest
+-- a run of n times variable i: the name, and from two on the number after `^`; then the rest
 abbrev pub run_then : ℕ → ℕ → List Piece → List Piece
 run_then i n rest = Variable i ∷ (if nat_lt 1 n then Caret ∷ Number n ∷ rest else rest)
 
@@ -79,7 +79,7 @@ abbrev mutual
   more_then separator NoParts rest = rest
   more_then separator (Part b bs) rest = separator ++ text_then b (more_then separator bs rest)
 
-  -- the factors behind what comes before: equal neighbouring variables are one run, and a sum is in brackets
+  -- the factors after what comes before: equal neighbouring variables are one run, and a sum is in brackets
   pub factors_then : Before → Parts → List Piece → List Piece
   factors_then before NoParts rest = ended_then before rest
   factors_then before (Part (Input i) bs) rest =

@@ -50,7 +50,7 @@ impl Brackets {
         }
     }
 
-    /// Whether the innermost open bracket can close behind the bound that terms and factors make.
+    /// Whether the innermost open bracket can close after the bound that terms and factors make.
     pub(crate) fn can_close(&self, terms: &Measured, factors: &Measured) -> bool
         ensures { result ≡ innermost_can_close (outer_in self.now)
             (bound_of_parts (parts_in terms.now) (parts_in factors.now)) }
@@ -75,7 +75,7 @@ impl Brackets {
         }
     }
 
-    /// A bracket opens, behind these terms and factors.
+    /// A bracket opens, after these terms and factors.
     pub(crate) fn open(
         &mut self,
         bracket: Bracket,

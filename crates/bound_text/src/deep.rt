@@ -19,7 +19,7 @@ use bound_expr::Memory;
 use std::alloc::Global;
 
 // Marks terms, and the factors of the next one, where a part beside the terms may have this many levels if neither a
-// sum nor a product counts as one. Returns how many a factor may have.
+// sum nor a product counts as one. Returns how many levels a factor may have.
 fn mark_parts(
     flags: &mut Vec<bool>,
     room: u64,
@@ -38,7 +38,7 @@ fn mark_parts(
     Ok(factor)
 }
 
-// The `*` behind factors that aren't done.
+// The `*` after factors that aren't done.
 fn mark_star(flags: &mut Vec<bool>, factors: &Measured) -> Result<(), Memory>
     ensures { OnOk result (Passes flags.old.items flags.new.items (star_marks (parts_in factors.now))) }
 {
@@ -49,7 +49,7 @@ fn mark_star(flags: &mut Vec<bool>, factors: &Measured) -> Result<(), Memory>
     }
 }
 
-// Marks an item that has begun behind factors, and may have this many levels.
+// Marks an item that has begun after factors, and may have this many levels.
 fn mark_item(flags: &mut Vec<bool>, room: u64, factors: &Measured) -> Result<(), Memory>
     ensures { OnOk result (FlagsAll room flags.old.items flags.new.items
         (λ level rest. star_marks (parts_in factors.now) (Some level ∷ rest))) }
@@ -145,7 +145,7 @@ impl Reader {
         self.mark_position(flags, inner)
     }
 
-    // Marks what was read last behind the factors.
+    // Marks what was read last after the factors.
     fn mark_position(&self, flags: &mut Vec<bool>, room: u64) -> Result<(), Memory>
         ensures { OnOk result (FlagsAll room flags.old.items flags.new.items
             (λ level. marks_here level self.now.position (parts_in self.now.factors))) }

@@ -119,7 +119,7 @@ pub(crate) fn mark_factors(
     mark_run(flags, room, before)
 }
 
-// One more factor: a variable that goes on the run before is marked with it, and another begins a run.
+// One more factor: a variable that continues the run before is marked with it, and another begins a run.
 #[cycle(mark)]
 fn mark_factor(
     flags: &mut Vec<bool>,

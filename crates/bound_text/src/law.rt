@@ -11,8 +11,8 @@ pub fn inner_bounds_are_read()
     ensures { InnerBoundsAreRead }
 {}
 
-/// The state that a reader carries behind a piece accepts the next piece where the exact state does, with the same
-/// marks, and is too large exactly where the exact one is; then it stays so. Within the limits it is the exact state.
+/// The state that a reader carries after a piece accepts the next piece where the exact state does, with the same
+/// marks, and is too large exactly if the exact one is; then it stays so. Within the limits it is the exact state.
 pub fn carried_fronts_are_marked()
     ensures { CarriedFrontsAreMarked }
 {}

@@ -22,7 +22,7 @@ pub struct Lexeme {
     pub len: usize,
 }
 
-// The piece of a name that `behind` follows.
+// The piece of a name with the bytes `behind` after it.
 fn word(names: &NameIndex<'_>, name: &[u8], behind: &[u8]) -> Result<Lexeme, Memory>
     ensures piece { IfOk result (λ l. lexeme_of l ≡ word_at (names_in names.now) name.now behind.now) }
     ensures some { IfOk result (λ l. length name.now ≤ l.len) }

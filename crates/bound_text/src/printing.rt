@@ -30,7 +30,7 @@ pub enum Join {
     Comma,
 }
 
-/// What comes before the next factor of a product.
+/// The part before the next factor of a product.
 #[derive(Clone, Copy)]
 pub enum Before {
     Nothing,
@@ -187,7 +187,7 @@ fn write_factors(names: &[Name], text: &mut Vec<u8>, factors: &[Bound]) -> Resul
     write_run(names, text, before)
 }
 
-// One more factor: a variable that goes on the run before is written with it, and another begins a run.
+// One more factor: a variable that continues the run before is written with it, and another begins a run.
 #[cycle(write)]
 fn write_factor(
     names: &[Name],

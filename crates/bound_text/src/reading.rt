@@ -51,8 +51,8 @@ pub fn texts_have_no_fault()
     ensures { TextsHaveNoFault }
 {}
 
-/// A front of the reader is written as what has been read: pieces lead to it exactly where they are its text, and a
-/// base can follow exactly where an item begins.
+/// A state of the reader is written as what has been read: pieces lead to it exactly if they are its text, and a
+/// base can follow exactly if an item begins.
 pub fn fronts_are_read()
     ensures { FrontsRead }
 {}

@@ -168,8 +168,8 @@ impl Reader {
         product.saturating_add(self.item_node())
     }
 
-    /// Whether what has been read is within the limits. `TooDeep` comes exactly where it has more than 200 levels, and
-    /// else `TooLarge` exactly where it has more than 4,096 nodes.
+    /// Whether what has been read is within the limits. `TooDeep` comes exactly if it has more than 200 levels, and
+    /// else `TooLarge` exactly if it has more than 4,096 nodes.
     pub(crate) fn check_size(&self) -> Result<(), Fault>
         requires { IsTrue (is_settled self.now) }
         ensures { Obeys (sized (front_of self.now)) self.now result }

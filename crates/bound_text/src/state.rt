@@ -9,7 +9,7 @@ use crate::measured::Measured;
 use crate::size::Round;
 use std::alloc::Global;
 
-/// What an open bracket belongs to.
+/// The node that an open bracket belongs to.
 #[derive(Drop)]
 pub enum Bracket {
     /// A maximum, with its arguments so far.
@@ -29,7 +29,7 @@ pub struct Opened {
     pub within: Round,
 }
 
-/// What was read last.
+/// The part that was read last.
 #[derive(Clone, Copy, Debug, PartialEq, Eq)]
 pub enum Position {
     /// An item can begin.

@@ -33,7 +33,7 @@ use std::mem;
 
 #[tactic(auto, using(crate::proofs::PartLaws::ends, crate::proofs::ViewLaws::outer_of_push))]
 impl Reader {
-    /// Whether this is the `^` behind a base over 2^64-1.
+    /// Whether this is the `^` after a base over 2^64-1.
     pub(crate) fn has_large_base(&self, piece: Piece) -> bool
         requires { IsTrue (is_settled self.now) }
         ensures { result ≡ has_large_base_of (front_of self.now) (piece_of piece) }
@@ -112,7 +112,7 @@ impl Reader {
         Ok(())
     }
 
-    // `^` behind a number that begins an item.
+    // `^` after a number that begins an item.
     fn begin_power(&mut self, number: u128) -> Result<(), Fault>
         requires small { number < 2 ^ 64 }
         requires fresh { IsTrue (is_fresh self.old) }
@@ -246,7 +246,7 @@ impl Reader {
         }
     }
 
-    // Behind a number that begins an item.
+    // After a number that begins an item.
     pub(crate) fn follow_number(
         &mut self,
         alloc: Global,
@@ -269,7 +269,7 @@ impl Reader {
         }
     }
 
-    // Behind a variable that begins an item.
+    // After a variable that begins an item.
     pub(crate) fn follow_name(
         &mut self,
         alloc: Global,
@@ -304,7 +304,7 @@ impl Bracket {
         matches!(self, Bracket::Arguments(_))
     }
 
-    /// Whether the bracket can close behind the bound that terms and factors make.
+    /// Whether the bracket can close after the bound that terms and factors make.
     pub(crate) fn can_close(&self, terms: &Measured, factors: &Measured) -> bool
         ensures { result ≡ bracket_can_close (bracket_of self.now)
             (bound_of_parts (parts_in terms.now) (parts_in factors.now)) }

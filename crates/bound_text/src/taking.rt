@@ -58,7 +58,7 @@ impl Measured {
     }
 }
 
-// How many copies of a run are carried behind this many nodes.
+// How many copies of a run are carried after this many nodes.
 fn copies_kept(nodes: u64, count: u128) -> u128
     ensures { result ≡ kept_copies nodes count }
 {
@@ -67,9 +67,9 @@ fn copies_kept(nodes: u64, count: u128) -> u128
 }
 
 impl Reader {
-    /// Takes one piece if it can follow, also where a limit is exceeded, so that reading can go on behind a fault: a
-    /// base over 2^64-1 is carried as 2^64-1, and of a run no more than 4,097 copies, or two where what was read before
-    /// has more than 4,096 nodes already. What is too large remains too large as carried.
+    /// Takes one piece if it can follow, even if a limit is exceeded, so that reading can continue after a fault: a
+    /// base over 2^64-1 is carried as 2^64-1, and a run as at most 4,097 copies, or two if the pieces before have more
+    /// than 4,096 nodes already. A bound that is too large stays too large as carried.
     ///
     /// # Errors
     ///
@@ -161,7 +161,7 @@ impl Reader {
         matches!(self.position, Position::Begins)
     }
 
-    // Where a piece leads, but behind the `^` of a run.
+    // Where a piece leads, but after the `^` of a run.
     fn follow(&mut self, alloc: Global, piece: Piece) -> Result<(), Fault>
         requires settled { IsTrue (is_settled self.old) }
         requires no_run { IsFalse (is_in_run self.old.position) }
@@ -194,7 +194,7 @@ impl Reader {
         }
     }
 
-    // A run ends with its number. More copies than a bound may have nodes are as many as are refused.
+    // A run ends with its number. More copies than a bound may have nodes are capped at a number that is refused too.
     fn end_run(&mut self, variable: u32, piece: Piece) -> Result<(), Fault>
         ensures { Obeys (fault_or_front (fault_of_piece 0 false (piece_of piece))
             (run_ended (outer_in self.old.outer) (parts_in self.old.terms) (parts_in self.old.factors) variable

@@ -1,4 +1,4 @@
--- What the tests of nodes on costs decide.
+-- The tests of nodes on costs decide acceptance.
 use Rattle.std.proofs.Common.{◌≡◌, ℕ, ◌&&◌, Option, Some, None, is_some, refl, sym, ap, ◌∙◌}
 use Rattle.std.specs.Bool.{Decides}
 use Rattle.std.proofs.lemmas.Bool.Decides.{Decides-and, Decides-like}

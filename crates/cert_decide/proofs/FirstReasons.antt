@@ -47,14 +47,14 @@ module _ (s : Setting) (past : List (List Fact)) where
       (refl, (decides-weaken_shape s.program b, (refl, (decides-weaker s (facts_of s past child) b, tt))))
   tests-decide (Charge node uses) = cost-decides s (table_of (joined_facts s past uses)) node
 
-  -- a reason is computed exactly where it is the first
+  -- a reason is computed exactly if it is the first
   reason-decided : (proof : Proof) (r : Reason) → (first_reason s past proof ≡ Some r) ↔ IsFirstReason s past proof r
   reason-decided proof r = (
     first-sound (checks_of s past proof) (tests_of s past proof) (tests-decide proof) r,
     first-complete (checks_of s past proof) (tests_of s past proof) (tests-decide proof) r,
   )
 
-  -- and none exactly where the node is accepted
+  -- there is no first reason exactly if the node is accepted
   none-decided : (proof : Proof) → (first_reason s past proof ≡ None) ↔ AcceptsNode s past proof
   none-decided proof = (
     (λ e. (first-reasons-in-line.none s past proof).1 (record {
@@ -70,7 +70,7 @@ module _ (s : Setting) (past : List (List Fact)) where
       go None e h = refl
       go (Some r) e h = absurd (h r ((reason-decided proof r).0 e))
 
--- what is accepted
+-- the tests decide which nodes are accepted
 module _ (s : Setting) where
   decides-node : (past : List (List Fact)) (proof : Proof) → Decides (accepts_node s past proof) (AcceptsNode s past proof)
   decides-node past proof = go (first_reason s past proof) refl (none-decided s past proof)
@@ -113,7 +113,7 @@ module _ (s : Setting) where
 pub first-reasons-decided : FirstReasonsAreDecided
 first-reasons-decided = record { some = reason-decided; none = none-decided }
 
--- the computed test of a list of lemmas says yes exactly where all are accepted
+-- the computed test of a list of lemmas says yes exactly if all are accepted
 pub lemmas-decided : LemmasAreDecided
 unfolding AcceptsLemmas
 lemmas-decided = record { each = λ s proofs. decides-from s [] proofs }

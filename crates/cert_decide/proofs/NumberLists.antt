@@ -1,4 +1,4 @@
--- What is in joined lists of numbers and in the images of one, and how many numbers of a list pass a test.
+-- Members of appended lists of numbers and of the images of a list, and how many numbers of a list pass a test.
 use Rattle.std.proofs.Common.{◌≡◌, ◌⊎◌, inl, inr, ℕ, suc, ◌≤◌, ◌==◌, Bool, true, false, cond, List, [], ◌∷◌, ◌++◌}
 use Rattle.std.proofs.Common.{length, filter, filter_map, Option, Some, None, refl, sym, ap, ◌∙◌, subst, arith}
 use Rattle.std.proofs.lemmas.Bool.{or_left, or_right}
@@ -7,15 +7,15 @@ use Rattle.cert_program.specs.model.Entries.{is_in}
 use Rattle.cert_program.proofs.model.Membership.{same_number, no_is_not_yes, is_in-cases, contains-is_in}
 use Rattle.cert_program.proofs.model.Membership.{is_in-contained}
 
--- what is in one of two lists is in their join
+-- a member of one list is one of the appended lists
 pub in-left : (xs ys : List ℕ) (x : ℕ) → is_in x xs ≡ true → is_in x (xs ++ ys) ≡ true
 in-left xs ys x h = is_in-contained (xs ++ ys) x (Contains-append_left xs ys x (contains-is_in xs x h))
 
--- what is in the second of two lists is in their join
+-- a member of the second list is one of the appended lists
 pub in-right : (xs ys : List ℕ) (x : ℕ) → is_in x ys ≡ true → is_in x (xs ++ ys) ≡ true
 in-right xs ys x h = is_in-contained (xs ++ ys) x (Contains-append_right xs ys x (contains-is_in ys x h))
 
--- what is in the join of two lists is in one of them
+-- a member of the appended lists is one of either
 pub in-either : (xs ys : List ℕ) (x : ℕ) → is_in x (xs ++ ys) ≡ true → (is_in x xs ≡ true) ⊎ (is_in x ys ≡ true)
 in-either [] ys x h = inr h
 in-either (y ∷ xs) ys x h = go (is_in-cases x y (xs ++ ys) h) (in-either xs ys x)
@@ -30,7 +30,7 @@ in-either (y ∷ xs) ys x h = go (is_in-cases x y (xs ++ ys) h) (in-either xs ys
     go (inl e) ih = inl (or_left (x == y) (is_in x xs) (subst (λ (n : ℕ). (x == n) ≡ true) e (same_number x)))
     go (inr k) ih = later (ih k)
 
--- what is in the images of a list is the image of one of its numbers
+-- a member of the images of a list is the image of one of its numbers
 module _ (f : ℕ → Option ℕ) where
   -- a number among the images comes from a number of the list
   pub image-sound : (ts : List ℕ) (a : ℕ) → is_in a (filter_map f ts) ≡ true → (t : ℕ) × (is_in t ts ≡ true) × (f t ≡ Some a)
@@ -101,7 +101,7 @@ module _ (p q : ℕ → Bool) (more : (t : ℕ) → p t ≡ true → q t ≡ tru
       go false true e f ih = omega (arith, ih)
       go false false e f ih = ih
 
-  -- and one of the list besides
+  -- one more number of the list passes
   pub passing-one_more : (ts : List ℕ) (t : ℕ) → is_in t ts ≡ true → p t ≡ false → q t ≡ true
       → suc (length (filter p ts)) ≤ length (filter q ts)
   passing-one_more [] t i before now = absurd (no_is_not_yes false refl i)

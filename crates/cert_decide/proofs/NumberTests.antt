@@ -1,4 +1,4 @@
--- What the tests of numbers decide.
+-- The tests of numbers decide their properties.
 use Rattle.std.proofs.Common.{◌≡◌, ℕ, ◌<◌, ◌≤◌, Bool, true, false, not, List, [], ◌∷◌, length, refl, sym, ◌∙◌, ◌⊎◌, inl}
 use Rattle.std.proofs.Common.{inr, arith, nat_le, nat_lt, All}
 use Rattle.std.specs.Prelude.{ℤ, pos, negsuc, ◌≤ℤ◌, ◌+ℤ◌, ◌*ℤ◌, nat_abs, int_le}
@@ -51,12 +51,12 @@ pub decides-not : (v : Bool) → Decides (not v) (v ≡ false)
 decides-not true = decides-no true≢false
 decides-not false = decides-yes refl
 
--- what holds of each element of a list
+-- a test decides a property of each element of a list
 pub decides-all : {X : Type 0} (p : X → Bool) (P : X → Type 0) → ((x : X) → Decides (p x) (P x)) → (xs : List X)
     → Decides (list_all p xs) (All P xs)
 decides-all p P each xs = Decides-by_and p P (list_all p) each refl (λ x ys. refl) xs
 
--- and of each number that is in a list
+-- a test decides a property of each number that is in a list
 pub decides-each : (p : ℕ → Bool) (P : ℕ → Type 0) → ((x : ℕ) → Decides (p x) (P x)) → (xs : List ℕ)
     → Decides (list_all p xs) ((x : ℕ) → is_in x xs ≡ true → P x)
 decides-each p P each xs =

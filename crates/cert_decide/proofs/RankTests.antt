@@ -1,4 +1,4 @@
--- What the tests of ranking nodes decide.
+-- The tests of ranking nodes decide acceptance.
 use Rattle.std.proofs.Common.{◌≡◌, ℕ, ◌==◌, ◌&&◌, List, [], ◌∷◌, length, map, Option, Some, None, refl, is_some}
 use Rattle.std.specs.Bool.{Decides}
 use Rattle.std.proofs.lemmas.Bool.Decides.{Decides-eqb, Decides-and, Decides-like}
@@ -26,7 +26,6 @@ use Rattle.cert_decide.proofs.NumberTests.{decides-each, decides-limit, decides-
 use Rattle.cert_decide.proofs.NumberTests.{decides-ascending, decides-implies}
 use Rattle.cert_decide.proofs.PlainTests.{decides-rule}
 
--- what is known
 -- whether a bound is known is decided
 pub decides-known : (o : Option Bound) → Decides (is_some o) (IsKnown o)
 decides-known (Some b) = decides-yes (b, refl)

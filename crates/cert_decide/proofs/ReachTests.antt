@@ -65,7 +65,7 @@ module _ (p : Program) (is_allowed : ℕ → Bool) where
       (subst (λ (o : Option ℕ). is_among o symbols ≡ true) (sym (source_of-rule p t r e)) h)))
       (target_of-rule p t r e))
 
-  -- what the rounds reach is reached
+  -- the symbols of the rounds are reached
   rounds-reach : (n a : ℕ) → is_in a (seen n) ≡ true → IsReached p is_allowed a
   rounds-reach zero a h = go (is_in-cases a p.start [] h)
     where
@@ -94,7 +94,7 @@ module _ (p : Program) (is_allowed : ℕ → Bool) where
   IsClosed symbols = (t : ℕ) (r : Rule) → rule_at p t ≡ Some r → is_allowed t ≡ true → is_in r.source symbols ≡ true
       → is_in r.target symbols ≡ true
 
-  -- then what is reached is among them, if the start symbol is
+  -- the reached symbols are among closed ones that contain the start symbol
   closed-reached : (symbols : List ℕ) → IsClosed symbols → is_in p.start symbols ≡ true → (a : ℕ)
       → IsReached p is_allowed a → is_in a symbols ≡ true
   closed-reached symbols closed start a (Here e) = subst (λ (b : ℕ). is_in b symbols ≡ true) e start
@@ -103,7 +103,7 @@ module _ (p : Program) (is_allowed : ℕ → Bool) where
       (closed edge.number edge.rule edge.numbered edge.allowed
       (subst (λ (c : ℕ). is_in c symbols ≡ true) (sym edge.source) (closed-reached symbols closed start b before)))
 
-  -- and a round adds nothing
+  -- a round adds no symbol to closed ones
   closed-round : (symbols : List ℕ) → IsClosed symbols → IsClosed (one_round p is_allowed symbols)
   closed-round symbols closed t r e allowed h =
       in-left symbols _ r.target (closed t r e allowed (old (round-told symbols r.source h)))
@@ -205,7 +205,7 @@ module _ (p : Program) (is_allowed : ℕ → Bool) where
       go (inr k) (inl closed) = inl (closed-round (seen n) closed)
       go (inr k) (inr l) = inr (omega (arith, k, l))
 
-  -- after as many as there are rules they are closed
+  -- after as many rounds as there are rules the symbols are closed
   rounds-close : IsClosed (seen (length p.rules))
   rounds-close = go (rounds-gain (length p.rules))
     where
@@ -218,7 +218,7 @@ module _ (p : Program) (is_allowed : ℕ → Bool) where
           (all-passing (leads_to (seen (length p.rules))) (entry_and_rules p)
           (omega (arith, k, length-range_with_len 0 (suc (length p.rules)))) t (rule_is_numbered p t r e))
 
-  -- so the rounds decide what isn't reached
+  -- the rounds decide whether a rule isn't reached
   pub decides-unreached : (t : ℕ) → Decides (is_unreached p is_allowed t) (IsUnreached p is_allowed t)
   decides-unreached t = (
     (λ e r f reached. no_is_not_yes (not (is_among (source_of p t) (seen (length p.rules))))

@@ -1,4 +1,4 @@
--- What the tests of spreads and loops decide.
+-- The tests of spreads and loops decide acceptance.
 use Rattle.std.proofs.Common.{◌≡◌, ℕ, ◌≤◌, ◌==◌, ◌&&◌, ◌||◌, not, Bool, true, false, List, [], ◌∷◌, length, Option}
 use Rattle.std.proofs.Common.{Some, None, refl, sym, subst, nat_le, nat_lt}
 use Rattle.std.specs.Bool.{Decides}
@@ -58,7 +58,7 @@ decides-result_variable p result_variable = go (rule_at p result_variable.rule) 
             back : Some r ≡ Some q → r ≡ q
             back l = cc
 
--- whether an arm has its shape is decided
+-- whether a side bound has its shape is decided
 pub decides-side_bound_shape : (s : Setting) (t left : ℕ) (side_bound : SideBound) → Decides (has_side_bound_shape s t left side_bound) (HasSideBoundShape s t left side_bound)
 decides-side_bound_shape s t left Poly = decides-yes tt
 decides-side_bound_shape s t left (Linear den form ms) =
@@ -103,7 +103,7 @@ decides-polynomial s result_variable = go (poly_at s result_variable) refl
             back : Some q ≡ Some x → q ≡ x
             back l = cc
 
--- whether an arm is accepted is decided
+-- whether a side bound is accepted is decided
 pub decides-side_bound : (s : Setting) (result_variable : ResultVariable) (side : Side) (side_bound : SideBound)
     → Decides (accepts_side_bound s result_variable side side_bound) (AcceptsSideBound s result_variable side side_bound)
 decides-side_bound s result_variable side (Linear den form ms) = decides-implies _ ms _
@@ -170,7 +170,7 @@ decides-straight : (s : Setting) (members : List Member) (m : Member) (e : ℕ) 
 decides-straight s members m e (Linear den form ms) = decides-yes tt
 decides-straight s members m e Poly = decides-avoids members e (poly_at s m.result_variable)
 
--- all arms of these members are straight
+-- whether all side bounds of these members are straight is decided
 module _ (s : Setting) (members : List Member) where
   after-decide : (m : Member) (es : List ℕ) (cs : List Check) (ts : List Test) → AllDecide cs ts
       → AllDecide (straight_from s members m es cs) (straight_after s members m es ts)
@@ -212,7 +212,7 @@ spread-decides s table m = (
   ),
 )
 
--- and so do those of a loop
+-- the tests of a loop decide its checks
 pub cycle-decides : (s : Setting) (table : Table) (ms : List Member) → AllDecide (cycle_checks s table ms) (cycle_tests s table ms)
 cycle-decides s table ms = (
   refl,

@@ -62,7 +62,7 @@ none-passes (c ∷ cs) (t ∷ ts) h e = go t.passes refl (none-passes cs ts h.1.
         some_none : Some t.reason ≡ None → ⊥
         some_none l = cc
 
--- and where all pass no test fails
+-- if all checks pass, no test fails
 pub passes-none : {R : Type 0} (cs : List (CheckOf R)) (ts : List (TestOf R)) → AllDecide cs ts → AllPass cs
     → first_failing ts ≡ None
 passes-none [] [] h k = refl

@@ -24,14 +24,15 @@ is_costly (Some r) = is_some r.cost
 abbrev pub has_cost : Program → ℕ → Bool
 has_cost p t = is_costly (rule_at p t)
 
--- there is a multiplier for each cost row, or the numbers of an arm over them are right
+-- whether there is a multiplier for each cost row, or the numbers of a side bound over them are right
 abbrev pub has_cost_numbers : Setting → ℕ → CostBy → Bool
 has_cost_numbers s t (EmptyCost multipliers) = are_multipliers (costs_of s) t multipliers
 has_cost_numbers s t NeverCost = true
 has_cost_numbers s t (SideBoundCost side_bound) = has_side_bound_shape (costs_of s) t (left_of s.program t) side_bound
 
--- that the cost rows add up to -1; that the rule has a time, and that it is 0; or the arm, the time of the rule, a size
--- for each place that the arm reads after what can come before, and that the composed bound is small
+-- the tests: that the cost rows add up to -1; that the rule has a time, and that it is 0; or that the side bound is
+-- accepted, the rule has a time, each place that the side bound reads has a size after the rules that can come before,
+-- and the composed bound is small
 abbrev pub cost_tests_by : Setting → Table → ℕ → CostBy → List Test
 cost_tests_by s table t (EmptyCost multipliers) =
     test NotEmpty (implies (s.cost_rows t) multipliers minus_one) ∷ []

@@ -36,7 +36,7 @@ first_reason s past proof = first_failing (tests_of s past proof)
 abbrev pub accepts_node : Setting → List (List Fact) → Proof → Bool
 accepts_node s past proof = is_none (first_reason s past proof)
 
--- nor why any node of a proof isn't, nor any of these proofs
+-- whether no node of a proof has a reason, and no node of these proofs
 abbrev mutual
   pub accepts : Setting → List (List Fact) → Proof → Bool
   accepts s past (Cite n) = accepts_node s past (Cite n)
@@ -54,7 +54,7 @@ abbrev mutual
   accepts_all s past NoProof = true
   accepts_all s past (AndProof proof uses) = accepts s past proof && accepts_all s past uses
 
--- nor why any of these lemmas isn't, each after those before it
+-- whether none of these lemmas has a reason, each after those before it
 abbrev pub accepts_from : Setting → List (List Fact) → List Proof → Bool
 accepts_from s past [] = true
 accepts_from s past (proof ∷ proofs) =

@@ -9,13 +9,13 @@ use Rattle.cert_program.specs.cert_rules.Checks.{IsFirstReason}
 use Rattle.cert_decide.specs.Deciding.{first_reason, accepts_lemmas}
 
 -- of every node, over every setting and after all earlier facts: the reason that is computed is its first reason, and
--- none is computed exactly where it is accepted
+-- none is computed exactly if it is accepted
 pub record FirstReasonsAreDecided : Type 0 where
   pub some : (s : Setting) (past : List (List Fact)) (proof : Proof) (r : Reason)
       → (first_reason s past proof ≡ Some r) ↔ IsFirstReason s past proof r
   pub none : (s : Setting) (past : List (List Fact)) (proof : Proof)
       → (first_reason s past proof ≡ None) ↔ AcceptsNode s past proof
 
--- and of every list of lemmas it is computed whether all are accepted
+-- whether all lemmas of a list are accepted is computed
 pub record LemmasAreDecided : Type 0 where
   pub each : (s : Setting) (proofs : List Proof) → (accepts_lemmas s proofs ≡ true) ↔ AcceptsLemmas s proofs

@@ -16,7 +16,7 @@ is_in_limit n = nat_le n certificate_limit
 abbrev pub are_in_limit : List ℕ → Bool
 are_in_limit ns = list_all is_in_limit ns
 
--- and each number of a form, in absolute value
+-- whether each number of a form is within the limit, in absolute value
 abbrev pub is_form_in_limit : Form → Bool
 is_form_in_limit f = list_all (λ c. is_in_limit (nat_abs c)) f.coefs && is_in_limit (nat_abs f.constant)
 

@@ -64,12 +64,12 @@ abbrev mutual
   each_node_of_all passes NoParts = true
   each_node_of_all passes (Part b bs) = each_node passes b && each_node_of_all passes bs
 
--- where it is an input, it is one of the first n
+-- whether a bound that is an input is one of the first n
 abbrev pub is_input_below : ℕ → Bound → Bool
 is_input_below n (Input i) = nat_lt i n
 is_input_below n b = true
 
--- where it is a constant it is below 2^127, and where it is a power its base is at least 2
+-- whether a bound that is a constant is below 2^127, and one that is a power has a base of at least 2
 abbrev pub is_tidy_number : Bound → Bool
 is_tidy_number (Constant c) = nat_le c constant_limit
 is_tidy_number (PowerOf c e) = nat_le 2 c

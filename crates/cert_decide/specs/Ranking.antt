@@ -1,4 +1,4 @@
--- Tests of ranking nodes, and of what is known of times, sizes and composed bounds.
+-- Tests of ranking nodes, and of known times, sizes and composed bounds.
 use Rattle.std.specs.Prelude.{ℕ, ◌==◌, ◌&&◌, not, nat_le, Bool, true, false, List, [], ◌∷◌, length, map, is_some, pos}
 use Rattle.std.specs.List.{list_all}
 use Rattle.cert_program.specs.model.Programs.{Program, arity_of}
@@ -26,7 +26,7 @@ test_time table t = test (MissingTime t) (is_some (table.time t))
 abbrev pub test_size : Table → ResultVariable → Test
 test_size table result_variable = test (MissingSize result_variable.rule result_variable.place) (is_some (table.size result_variable.rule result_variable.place))
 
--- a composed bound isn't large, neither before nor after it is rewritten
+-- whether a composed bound isn't large, neither before nor after it is rewritten
 abbrev pub is_small : (Bound → Bound) → Bound → Bool
 is_small rewrite b = not (is_large b) && not (is_large (rewrite b))
 

@@ -20,7 +20,7 @@ abbrev pub one_round : Program → (ℕ → Bool) → List ℕ → List ℕ
 one_round p is_allowed symbols =
     symbols ++ filter_map (target_of p) (filter (leaves p is_allowed symbols) (entry_and_rules p))
 
--- what is reached from the start symbol in this many rounds
+-- the symbols that are reached from the start symbol in this many rounds
 abbrev pub reached_in : Program → (ℕ → Bool) → ℕ → List ℕ
 reached_in p is_allowed zero = p.start ∷ []
 reached_in p is_allowed (suc n) = one_round p is_allowed (reached_in p is_allowed n)

@@ -50,7 +50,7 @@ paying_two cost = program (2 ∷ 1 ∷ []) (with_cost cost (rule 0 1 2 0 (first 
 abbrev pub charge : ℕ → CostBy → Proofs → Proof
 charge t by uses = Charge (record { rule = t; by = by }) uses
 
--- by the arm a * A + c, with these multipliers for the cost rows
+-- the cost by the side bound a * A + c, with these multipliers for the cost rows
 abbrev pub up_to : ℤ → ℤ → List ℕ → CostBy
 up_to a c multipliers = SideBoundCost (side_bound (one a) c multipliers)
 
@@ -85,7 +85,7 @@ rounds_known rest =
     (Time 1 (Constant 1) ∷ []) ∷
     (Time 2 (Input 0) ∷ []) ∷ (Size 1 1 (Input 0) ∷ []) ∷ (Size 2 1 (Input 0) ∷ []) ∷ rest
 
--- what each round costs
+-- the lemmas with the cost of each round
 abbrev pub rounds_paid : List Proof
 rounds_paid = rounds_before (charge 2 (up_to (pos 1) (pos 0) (0 ∷ 0 ∷ [])) (cited (2 ∷ 3 ∷ 4 ∷ [])) ∷ [])
 
@@ -127,13 +127,14 @@ pub record CostsAreJudged : Type 0 where
 abbrev pub entering_reason : Term → CostBy → Option Reason
 entering_reason cost by = first_reason_in (paying cost) [] (charge 1 by NoProof)
 
--- and of one on the cost of a round, which is A, where the rule runs A times and the place is A after both rules
+-- the reason of a node on the cost of a round, which is A, where the rule runs A times and the place is A after both
+-- rules
 abbrev pub round_reason : CostBy → List ℕ → Option Reason
 round_reason by uses = first_reason_in (paying_rounds first) (rounds_known []) (charge 2 by (cited uses))
 
--- an arm that isn't certified is reported before a missing time, and that before missing sizes, which come in the order
--- of what can come before; a rule without a cost, a number of no rule, wrong lengths and numbers over their limits come
--- before all
+-- a side bound that isn't certified is reported before a missing time, and that before missing sizes, which come in
+-- the order of the rules that can come before; a rule without a cost, a number of no rule, wrong lengths and numbers
+-- over their limits come before all
 pub record CostReasonsAreInOrder : Type 0 where
   pub no_cost : first_reason_in counting_down [] (charge 1 NeverCost NoProof) ≡ Some Shape
   pub no_rule : first_reason_in (paying first) [] (charge 2 NeverCost NoProof) ≡ Some Shape
@@ -159,7 +160,8 @@ pub record CostReasonsAreInOrder : Type 0 where
   pub not_zero : round_reason NeverCost (2 ∷ []) ≡ Some NotZero
   pub not_weaker :
       first_reason_in (paying first) (only (Cost 1 (Input 0))) (Weaken (Cite 1) (Constant 7)) ≡ Some NotWeaker
-  -- a place that the arm doesn't read needs no size; of two that it reads the first one without a size is reported
+  -- a place that the side bound doesn't read needs no size; of two that it reads the first one without a size is
+  -- reported
   pub none_read : first_reason_in (paying (number 5)) (only (Time 1 (Constant 1)))
       (charge 1 (up_to (pos 0) (pos 5) []) (cited (1 ∷ []))) ≡ None
   pub one_read : first_reason_in (paying_two second) ((Time 1 (Constant 1) ∷ []) ∷ (Size 0 2 (Input 1) ∷ []) ∷ [])

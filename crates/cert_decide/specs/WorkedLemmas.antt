@@ -23,7 +23,7 @@ abbrev pub falling_by : ℕ → ℤ → ℤ → Proof
 falling_by den a c = rank 2 (1 ∷ 2 ∷ []) den (at_symbol 0 (one a) c ∷ at_symbol 1 (one a) c ∷ [])
     ([] ∷ (0 ∷ []) ∷ []) (1 ∷ []) entered
 
--- it falls from A
+-- the function A falls by the second rule
 abbrev pub down : Proof
 down = falling_by 1 (pos 1) (pos 0)
 
@@ -105,7 +105,7 @@ pub record DeadRulesAreJudged : Type 0 where
   pub unreached : AcceptsLemmas (setting_of apart) (dead_lemmas (Unreached 2 NoProof))
   pub unreached_stated : facts_of_lemmas (setting_of apart) (dead_lemmas (Unreached 2 NoProof)) ≡ dead_facts
 
--- what a place is squared to, once
+-- the lemmas on a place that is squared once
 abbrev pub squared_lemmas : List Proof
 squared_lemmas = once [] ∷ Spread (nonlinear 1 1) entered ∷ []
 

@@ -83,7 +83,7 @@ twice = product (Constant 2 ∷ Input 0 ∷ [])
 abbrev pub twice_squared : Bound
 twice_squared = product (Constant 2 ∷ Input 0 ∷ Input 0 ∷ [])
 
--- what they state
+-- the facts of these lemmas
 abbrev pub nested_facts : List (List Fact)
 nested_facts =
     (Time 1 (Constant 1) ∷ []) ∷
@@ -98,8 +98,8 @@ nested_facts =
 abbrev pub taken : ℕ → Bound → Bound
 taken n b = sum (Constant 0 ∷ product (Constant n ∷ b ∷ []) ∷ [])
 
--- the size of the members: the maximum of what comes in, and as often as the last rule occurs what it adds from each of
--- the two rules before it, nothing on the up side and 1 on the low side
+-- the size of the members: the maximum of the sizes that enter, plus the last rule's time times the sum of the
+-- additions from each of the two rules before it, 0 on the up side and 1 on the low side
 abbrev pub round_size : Bound
 round_size =
     product
@@ -111,7 +111,7 @@ round_size =
     (sum (Constant 0 ∷ []) ∷ sum (Constant 1 ∷ []) ∷ sum (Constant 0 ∷ []) ∷ sum (Constant 1 ∷ []) ∷ []) ∷ []) ∷ [])
     ∷ [])
 
--- what is known where the members are judged
+-- the known bounds where the members are judged
 abbrev pub round_table : Table
 round_table = table_of (Size 1 1 (Input 0) ∷ Time 4 (Input 0) ∷ [])
 
@@ -127,7 +127,7 @@ rounds = rank 2 (1 ∷ 2 ∷ []) 1
     (at_symbol 0 (two (pos 1) (pos 0)) (pos 0) ∷ at_symbol 1 (two (pos 1) (pos 0)) (pos 0) ∷ [])
     ([] ∷ (0 ∷ []) ∷ []) (1 ∷ []) entered
 
--- it is left once
+-- the loop is left once
 abbrev pub leaving : Proof
 leaving = rank 3 (1 ∷ 2 ∷ 3 ∷ []) 1
     (at_symbol 0 (two (pos 0) (pos 0)) (pos 1)
@@ -147,7 +147,7 @@ abbrev pub last_rounds : Proof
 last_rounds =
     rank 4 (4 ∷ []) 1 (at_symbol 2 (two (pos 1) (pos 0)) (pos 0) ∷ []) ((0 ∷ []) ∷ []) (1 ∷ []) (cited (3 ∷ 8 ∷ []))
 
--- all lemmas on the doubling loop and the one behind it
+-- all lemmas on the doubling loop and the one after it
 abbrev pub doubling_lemmas : List Proof
 doubling_lemmas =
     once ∷
@@ -166,7 +166,7 @@ doubling_lemmas =
 abbrev pub doubled_size : Bound
 doubled_size = product (Constant 2 ∷ PowerOf 2 (Input 0) ∷ Input 1 ∷ [])
 
--- what they state
+-- the facts of these lemmas
 abbrev pub doubling_facts : List (List Fact)
 doubling_facts =
     (Time 1 (Constant 1) ∷ []) ∷
@@ -180,13 +180,13 @@ doubling_facts =
     (Size 3 2 doubled_size ∷ []) ∷
     (Size 4 1 doubled_size ∷ []) ∷ (Size 4 2 doubled_size ∷ []) ∷ (Time 4 doubled_size ∷ []) ∷ []
 
--- the size of the place that doubles is composed of what comes in, times 2 as often as the rule occurs
+-- the size of the place that doubles: the size that enters, times 2 to the power of the rule's time
 abbrev pub power_size : Bound
 power_size =
     product
     (PowerOf 2 (Input 0) ∷ sum (maximum (taken 2 (Input 1) ∷ taken 2 (Input 1) ∷ []) ∷ []) ∷ [])
 
--- what is known where it is judged
+-- the known bounds where it is judged
 abbrev pub power_table : Table
 power_table = table_of (Size 1 2 (Input 1) ∷ Time 2 (Input 0) ∷ [])
 

@@ -34,18 +34,18 @@ abbrev pub rank : ℕ → List ℕ → ℕ → List SymbolForm → List (List �
 rank rule set den forms moves floor uses =
     Rank (record { rule = rule; set = set; den = den; forms = forms; moves = moves; floor = floor }) uses
 
--- an arm over the denominator 1
+-- a side bound over the denominator 1
 abbrev pub side_bound : List ℤ → ℤ → List ℕ → SideBound
 side_bound coefs constant multipliers = Linear 1 (form coefs constant) multipliers
 
--- a place after a rule with both arms
+-- a member: a place after a rule with both side bounds
 abbrev pub member : ℕ → ℕ → SideBound → SideBound → Member
 member rule place up low = record {
   result_variable = record { rule = rule; place = place };
   local = record { up = up; low = low };
 }
 
--- a place whose new value is a form without a constant: the form is one arm, its opposite the other
+-- a place whose new value is a form without a constant: the form is one side bound, its opposite the other
 abbrev pub equal_to : ℕ → ℕ → List ℤ → List ℕ → Member
 equal_to rule place coefs multipliers =
     member rule place (side_bound coefs (pos 0) multipliers) (side_bound (map neg_ℤ coefs) (pos 0) multipliers)

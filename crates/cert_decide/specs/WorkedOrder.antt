@@ -46,7 +46,8 @@ pub record RankReasonsAreInOrder : Type 0 where
   pub times_before_sizes :
       first_reason_in two_ways_in (only once_fact) (alone 3 (1 ∷ []) (cited (1 ∷ []))) ≡ Some (MissingTime 2)
 
--- members of two rules that multiply: as they are, and the first with a wrong low arm, the second with a wrong up arm
+-- members of two rules that multiply: as they are, and the first with a wrong low side bound, the second with a wrong
+-- up one
 abbrev pub twice_member : Member
 twice_member = equal_to 2 1 (one (pos 2)) []
 
@@ -59,14 +60,15 @@ wrong_low = member 2 1 (side_bound (one (pos 2)) (pos 0) []) (side_bound (one (p
 abbrev pub wrong_up : Member
 wrong_up = member 3 1 (side_bound (one (pos 2)) (pos 0) []) (side_bound (one (minus 3)) (pos 0) [])
 
--- the members of the nested loops, with a wrong low arm at the first and a wrong up arm at the second
+-- the members of the nested loops, with a wrong low side bound at the first and a wrong up one at the second
 abbrev pub wrong_round : Member
 wrong_round = member 2 1 (side_bound (two (pos 1) (pos 0)) (pos 0) (0 ∷ [])) (side_bound (two (pos 0) (pos 0)) (pos 0) (0 ∷ []))
 
 abbrev pub wrong_kept : Member
 wrong_kept = member 3 1 (side_bound (two (pos 0) (pos 0)) (pos 0) (0 ∷ [])) (side_bound (two (minus 1) (pos 0)) (pos 0) (0 ∷ []))
 
--- all up arms come before all low arms; then come the sizes; then bent arms; and then the times, ascending
+-- all up side bounds come before all low ones; then the sizes; then nonlinear side bounds; and then the times,
+-- ascending
 pub record LoopReasonsAreInOrder : Type 0 where
   pub up_before_low :
       first_reason_in nested_loops [] (Cycle (wrong_round ∷ wrong_kept ∷ back_member ∷ []) NoProof) ≡ Some (SideBoundUp 3 1)
@@ -123,9 +125,9 @@ doubling_towers = record {
   below = settings.zero_below;
 }
 
--- a size that the up arm reads comes before one that the low arm reads, whatever their places; one is needed after each
--- rule that can come before, in their order; what is missing comes before what is too large; and a bound is measured
--- before it is rewritten, and after that
+-- a size that the up side bound reads comes before one that the low one reads, whatever their places; one is needed
+-- after each rule that can come before, in their order; a missing size comes before a bound that is too large; and a
+-- bound is measured before it is rewritten, and after that
 pub record SizeReasonsAreInOrder : Type 0 where
   pub up_before_low : first_reason_in chosen_between [] (Spread chosen NoProof) ≡ Some (MissingSize 0 2)
   pub first_before : first_reason_in nested_loops [] (Spread handed_over NoProof) ≡ Some (MissingSize 1 1)
@@ -141,8 +143,8 @@ pub record SizeReasonsAreInOrder : Type 0 where
       first_reason doubling_towers ((place_fact ∷ Time 2 (Constant 3) ∷ []) ∷ []) (Cycle doubled (cited (1 ∷ [])))
       ≡ Some (Large 201)
 
--- that there is one time of a rule comes before that it is 0, that a bound may be written before that it is weaker, and
--- that there is a multiplier for each row before that they add up
+-- the check for one time of a rule comes before the check that it is 0; that a bound may be written before that it is
+-- weaker; and that there is a multiplier for each row before that they add up
 pub record PlainReasonsAreInOrder : Type 0 where
   pub never_of_a_size : first_reason_in counting_down (only place_fact) (Never (Cite 1)) ≡ Some Shape
   pub never_of_the_entry : first_reason_in counting_down [] (Never Start) ≡ Some Shape

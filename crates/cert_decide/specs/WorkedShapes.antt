@@ -115,7 +115,7 @@ large_side_bounds den a c multiplier = Spread (record {
 abbrev pub two_places : List (List Fact)
 two_places = (Size 1 1 (Input 0) ∷ Size 2 1 (Input 0) ∷ []) ∷ []
 
--- the numbers of arms go up to their limits, too
+-- the numbers of side bounds go up to their limits, too
 pub record SideBoundLimitsAreMet : Type 0 where
   pub most_den : first_reason_in counting_down two_places (large_side_bounds most most 0 most) ≡ None
   pub most_stated :

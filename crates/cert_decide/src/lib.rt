@@ -1,6 +1,6 @@
 //! Decides by computation whether a node of a derivation is accepted: the first reason why it isn't, or none.
 //!
-//! Builds on `cert_program`. Definitions are in `specs/`. Main guarantee: the computed reason is none exactly where
+//! Builds on `cert_program`. Definitions are in `specs/`. Main guarantee: the computed reason is none exactly if
 //! the definitions of acceptance accept the node. The functions here have no code: the contract of each is a law or a
 //! set of values worked out by hand.
 #![tactic(auto)]
@@ -14,7 +14,7 @@ ghost use Rattle.cert_decide.specs.WorkedShapes.{ShapesAreRefused, RankLimitsAre
 ghost use Rattle.cert_decide.specs.WorkedShapes.{WeakerLimitsAreMet, FirstFactsCount};
 ghost use Rattle.cert_decide.specs.WorkedCosts.{CostsAreJudged, CostReasonsAreInOrder};
 
-/// The computed reason is the first reason of the node, and none is computed exactly where the node is accepted.
+/// The computed reason is the first reason of the node, and none is computed exactly if the node is accepted.
 pub fn first_reasons_are_decided()
     ensures { FirstReasonsAreDecided }
 {}

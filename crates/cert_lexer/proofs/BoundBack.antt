@@ -47,7 +47,7 @@ closes_call : (bytes : List ℕ) → Closes bytes → begins_with 40 bytes ≡ f
 closes_call [] h = refl
 closes_call (b ∷ bytes) h = h.2
 
--- what any byte but a letter is
+-- the lexeme of any byte but a letter
 abbrev other_lexeme : ℕ → List ℕ → Lexeme Piece
 other_lexeme c bytes =
     cond (is_ascii_digit c) (number_at (c ∷ prefix is_ascii_digit bytes)) (record { piece = mark_at c; len = 1 })
@@ -127,7 +127,7 @@ piece_found names Blank rest are kept closed = record { first = 32; others = [];
 piece_found names Comma rest are kept closed = record { first = 44; others = []; split = refl; lexeme = refl }
 piece_found names Wrong rest are kept closed = absurd kept
 
--- what can follow a name or a number closes it, also where bytes come that do
+-- a piece that can follow a name or a number closes it, and so do bytes that can
 pub marked_close : (names : List Name) (qs : List Piece) (rest : List ℕ) → PartLevels qs → Closes rest
     → Closes (bytes_of names qs ++ rest)
 marked_close names [] rest m c = c
@@ -209,7 +209,7 @@ first_no_end names depth Blank first others are kept opened e = let same : 32 �
 first_no_end names depth Comma first others are kept opened e = let same : 44 ≡ first = cc in subst (λ (k : ℕ). ends_bound depth k ≡ false) same refl
 first_no_end names depth Wrong first others are kept opened e = absurd kept
 
--- the piece of the code, and how many brackets are open behind it
+-- the piece of the code, and the number of open brackets after it
 pub piece_same : (n : ℕ) (q : Piece) → n < 2 ^ 32 → KeptPiece n q → piece_of (bound_piece n 0 q) ≡ q
 piece_same n (Variable i) small kept =
     let listed : nat_lt i n ≡ true = grind (arith, nat_tests) in
@@ -226,7 +226,7 @@ piece_same n Blank small kept = refl
 piece_same n Comma small kept = refl
 piece_same n Wrong small kept = refl
 
--- which doesn't depend on how many pieces come before it
+-- it doesn't depend on the number of pieces before it
 before_free : (n before : ℕ) (q : Piece) → KeptPiece n q → bound_piece n before q ≡ bound_piece n 0 q
 before_free n before (Variable i) kept =
     let listed : nat_lt i n ≡ true = grind (arith, nat_tests) in
@@ -264,7 +264,7 @@ inner_of names q = record { piece = bound_piece (length names) 0 q; len = length
 abbrev pub inners : List Name → List Piece → List Inner
 inners names qs = map (inner_of names) qs
 
--- they are those pieces
+-- the inner pieces are those pieces
 pub inners_are : (names : List Name) (depth : ℕ) (qs : List Piece) → length names < 2 ^ 32 → Goes (length names) depth qs
     → pieces_in (inners names qs) ≡ qs
 inners_are names depth [] small goes = refl
@@ -272,7 +272,7 @@ inners_are names depth (q ∷ qs) small goes =
     ap (λ (r : Piece). r ∷ pieces_in (inners names qs)) (piece_same (length names) q small goes.0)
     ∙ ap (λ (rs : List Piece). q ∷ rs) (inners_are names (behind_bracket depth q) qs small goes.4)
 
--- whether a bound ends before pieces, with bytes behind them with which it does
+-- whether a bound ends before pieces, with bytes after them at which it does
 abbrev pub is_last : List Piece → Bool
 is_last [] = true
 is_last (q ∷ qs) = false

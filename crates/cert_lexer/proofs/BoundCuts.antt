@@ -24,7 +24,7 @@ use Rattle.bound_text.proofs.TextLexing.{IsLong}
 use Rattle.text_grammar.specs.text_core.Readers.{next, reached}
 use Rattle.text_core.proofs.Walks.{walk-none}
 
--- how many brackets are open behind a piece
+-- the number of open brackets after a piece
 abbrev pub behind_bracket : ℕ → Piece → ℕ
 behind_bracket depth Maximum = suc depth
 behind_bracket depth Open = suc depth
@@ -36,7 +36,7 @@ abbrev pub IsOpened : ℕ → Piece → Type 0
 IsOpened depth Close = 1 ≤ depth
 IsOpened depth piece = ⊤
 
--- what can follow a name or a number: nothing, or one of these marks
+-- the pieces that can follow a name or a number: none, or one of these marks
 abbrev pub PartLevels : List Piece → Type 0
 PartLevels [] = ⊤
 PartLevels (Times ∷ ps) = ⊤
@@ -51,7 +51,7 @@ PartLevels (Maximum ∷ ps) = ⊥
 PartLevels (Open ∷ ps) = ⊥
 PartLevels (Wrong ∷ ps) = ⊥
 
--- pieces over n start arguments go on behind this many open brackets, and close all of them
+-- pieces over n start arguments follow this many open brackets, and close all of them
 abbrev pub Goes : ℕ → ℕ → List Piece → Type 0
 Goes n depth [] = depth ≡ 0
 Goes n depth (q ∷ qs) =
@@ -66,7 +66,7 @@ few_brackets : (outer : Outer) → brackets outer ≤ levels_above outer
 few_brackets Whole = omega arith
 few_brackets (Inside bracket ts fs outer) = omega (arith, few_brackets outer)
 
--- behind a piece
+-- the number of open brackets after a piece
 bracket_leads : (f g : Front) (q : Piece) → Leads f q g → brackets g.outer ≡ behind_bracket (brackets f.outer) q
 bracket_leads f g q (of_variable o ts fs i) = refl
 bracket_leads f g q (of_number o ts fs c) = refl
@@ -106,7 +106,7 @@ opened f g q (of_plus o ts fs) = tt
 opened f g q (of_term o ts fs e) = tt
 opened f g q (of_argument o bs ts' fs' ts fs e) = tt
 
--- a name or a number leads behind an item
+-- after a name or a number the position is that of an item
 behind_long : (f g : Front) (q : Piece) → Leads f q g → IsLong q → g.position ≡ ItemRead
 behind_long f g q (of_variable o ts fs i) long = refl
 behind_long f g q (of_number o ts fs c) long = refl
@@ -126,7 +126,7 @@ behind_long f g q (of_plus o ts fs) long = absurd long
 behind_long f g q (of_term o ts fs e) long = absurd long
 behind_long f g q (of_argument o bs ts' fs' ts fs e) long = absurd long
 
--- what can follow an item is one of the marks
+-- a piece that can follow an item is one of the marks
 item_marked : (f h : Front) (q : Piece) (qs : List Piece) → f.position ≡ ItemRead → step f q ≡ Some h → PartLevels (q ∷ qs)
 item_marked f h q qs e on = go q (ap (λ (position : Position). step_at position f.outer f.terms f.factors q) (sym e) ∙ on)
   where
@@ -157,7 +157,7 @@ none_open f b = go f.position f.outer
     go PlusRead outer e = cc
     go CommaRead outer e = cc
 
--- pieces behind a front go on, and mark what it ends with
+-- the pieces after a state continue, and mark its end
 record GoOn (n : ℕ) (f : Front) (qs : List Piece) : Type 0 where
   pub small : IsSmall n f qs
   pub goes : Goes n (brackets f.outer) qs
@@ -197,7 +197,7 @@ module _ (n : ℕ) (b : Bound) (within : IsKeptWithin n b) where
             marked = λ k. item_marked f h q qs k s;
           }
 
--- those of a tidy bound within the limits do
+-- the pieces of a tidy bound within the limits continue so
 pub pieces_go : (n : ℕ) (b : Bound) → IsTidy b → ReadsBelow n b → IsWithin b → Goes n 0 (pieces_of b)
 pieces_go n b tidy listed within =
     let k = tidy_kept n b tidy listed within.bases in

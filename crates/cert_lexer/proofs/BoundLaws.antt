@@ -1,4 +1,4 @@
--- Reading a bound piece by piece comes to the answer to all of it.
+-- Reading a bound piece by piece gives the answer to all of it.
 use Rattle.std.proofs.Common.{◌≡◌, ℕ, zero, suc, ◌+◌, ◌-◌, ◌<◌, ◌≤◌, Bool, true, false, cond, List, [], ◌∷◌, ◌++◌, length}
 use Rattle.std.proofs.Common.{map, Option, Some, None, refl, ap, sym, subst, ◌∙◌, arith, length-append, inl, inr}
 use Rattle.std.specs.Prelude.{IfSome, ◌==◌, ◌&&◌, ◌||◌, nat_lt, slice_get, ◌⊎◌}
@@ -89,7 +89,7 @@ is_before_plain : (at : ℕ) (best : Option (code_fault.Fault ProofKind)) → Is
 is_before_plain at None h = tt
 is_before_plain at (Some x) h = h
 
--- pieces that are counted, and others behind them
+-- counted pieces of appended lists
 counted_both : (i : ℕ) (xs ys : List Inner) → counted_from i (xs ++ ys) ≡ counted_from i xs ++ counted_from (i + length xs) ys
 counted_both i [] ys = ap (λ (k : ℕ). counted_from k ys) (let e : i ≡ i + 0 = omega arith in e)
 counted_both i (x ∷ xs) ys =
@@ -115,7 +115,7 @@ counted_at i j [] h = absurd (omega (arith, h))
 counted_at i zero (x ∷ xs) h = (record { piece = piece_of x.piece; at = i; upto = suc i }, refl, omega arith)
 counted_at i (suc j) (x ∷ xs) h = let w = counted_at (suc i) j xs (omega (arith, h)) in let e = w.2 in (w.0, w.1, omega (arith, e))
 
--- what is too deep in tokens is so in those with others behind them
+-- the parts of tokens that are too deep are so in tokens followed by others
 deep_front : (most : ℕ) (marks : Marks) (ts us : List (Token Piece))
     → (deep_among most marks ts ≡ []) ⊎ (deep_among most marks (ts ++ us) ≡ deep_among most marks ts)
 deep_front most [] ts us = inl refl
@@ -149,7 +149,7 @@ abbrev at_first : List (Fault Kind) → ℕ
 at_first [] = 0
 at_first (x ∷ xs) = x.at
 
--- what is found too deep behind all tokens is none of them
+-- a part that is found too deep after all tokens is none of them
 past_deep : (most : ℕ) (f : Front) (j : ℕ) (ts : List (Token Piece)) → FindsDeep most f (Some j) → length ts ≤ j → deep_among most (front_marks f) ts ≡ []
 past_deep most f j ts found h = go (deep_front most (front_marks f) ts (copies (suc j) one)) (deep_front most (front_marks f) ts (copies (suc j) other))
   where
@@ -181,7 +181,7 @@ tells_none f best count found is h =
     let e : FindsDeep bound_levels f None = subst (FindsDeep bound_levels f) is h in
     record { each = λ n xs l. sym (ap (λ (ys : List (Fault Kind)). first_among (bounds_in n) (fault_of best) (map as_cert_refusal ys)) (e (counted_from 0 xs))) }
 
--- one is, behind all pieces
+-- there are as many counted pieces as pieces
 counted_length : (i : ℕ) (xs : List Inner) → length (counted_from i xs) ≡ length xs
 counted_length i [] = refl
 counted_length i (x ∷ xs) = ap suc (counted_length (suc i) xs)
@@ -247,7 +247,7 @@ reads_begun n all = record {
 abbrev pub refusal_against : ℕ → Front → Inner → List Inner → Option ProofKind
 refusal_against n f x behind = option_map kind_of (first_kind (stands n f (piece_of x.piece) (pieces_in behind)) other_kinds)
 
--- it is before the next piece
+-- the refusal is before the next piece
 refusal_within : (best : Option (Fault ProofKind)) (first_refusal : Option ProofKind) (at k : ℕ) → at < k → IfSome best (λ x. x.at < at) → IfSome (or_refusal best first_refusal at) (λ x. x.at < k)
 refusal_within None None at k h l = tt
 refusal_within None (Some kind) at k h l = h
@@ -294,13 +294,13 @@ ended_as n None (Some b) at h = refl
 ended_as n (Some x) None at h = ap (λ (y : Fault ProofKind). Refused y) (stays_first n x Syntax at h)
 ended_as n (Some x) (Some b) at h = refl
 
--- nothing behind some
+-- appending the empty list changes nothing
 behind_all : {X : Type 0} (xs : List X) → xs ++ [] ≡ xs
 behind_all [] = refl
 behind_all (x ∷ xs) = ap (λ (ys : List _). x ∷ ys) (behind_all xs)
 
--- the refusals so far of the code are as good as those of the definition, behind this many pieces, where those of parts
--- that are too deep come besides
+-- after this many pieces the refusals so far of the code agree with those of the definition, where those of parts that
+-- are too deep are added
 abbrev pub SameFirst : Front → Option (Fault ProofKind) → Option (code_fault.Fault ProofKind) → ℕ → Type 0
 SameFirst f first_refusal best count =
     (n : ℕ) (xs : List Inner) → length xs ≡ count
@@ -353,6 +353,6 @@ reads_ended n all left f first_refusal best result d is ends same = go left is d
         ∙ ap (first_among (bounds_in n) first_refusal) (sym (behind_all (too_deep f (onto d.done [])))))
         ∙ d.decides
 
--- and as many pieces are left as there are, at most
+-- at most as many pieces are left as there are
 pub reads_left : (n : ℕ) (all left : List Inner) (f : Front) (first_refusal : Option (Fault ProofKind)) → Reads n all left f first_refusal → length left ≤ length all
 reads_left n all left f first_refusal d = let e = d.count in omega (arith, e)

@@ -100,7 +100,7 @@ exponent_most : (v : Bool) (n : ℕ) (marks : Marks → Marks) (rest : Marks)
 exponent_most true n marks rest f h = f rest h
 exponent_most false n marks rest f h = f (None ∷ rest) h
 
--- a variable goes on a run or begins one
+-- a variable continues a run or begins one
 variable_most : (n level : ℕ) (before : Before) (i : ℕ) (bs : Parts) (rest : Marks) (v : Bool) → level ≤ n
     → RunAtMost n level before → AtMost n (factors_marks level (run_with before i) bs rest)
     → AtMost n (factors_marks level (Run i 1) bs rest)
@@ -111,7 +111,7 @@ variable_most n level before i bs rest false l r on begun =
     ended_most n level before (times_marks before (factors_marks level (Run i 1) bs rest)) r
     (times_most n before (factors_marks level (Run i 1) bs rest) begun)
 
--- and any other factor is a part of its own
+-- any other factor is a part of its own
 other_most : (n level : ℕ) (before : Before) (b : Bound) (bs : Parts) (rest : Marks)
     → level + maximum_depth (Part b bs) ≤ suc n → RunAtMost n level before → AtMost n rest
     → AtMost n (factors_marks level Other bs rest) → ((ms : Marks) → AtMost n ms → AtMost n (bound_marks level b ms))
@@ -185,7 +185,7 @@ mutual
       (factors_most n level Other bs rest (omega (arith, l)) tt h)
       (λ ms k. bound_most n level (PowerOf c e) ms (omega (arith, l)) k)
 
--- terms with a separator behind each
+-- terms with a separator after each
 each_most : (n level : ℕ) (separator : List Piece) (bs : Parts) (rest : Marks) → level + maximum_depth bs ≤ suc n
     → AtMost n rest → AtMost n (each_marks separator level bs rest)
 each_most n level separator NoParts rest l h = h
@@ -277,7 +277,7 @@ module _ (n len : ℕ) (b : Bound) (within : IsKeptWithin n b) where
       (refusals (option_map kind_of k) t.at)) done t (Some h) (record { kind = Syntax; at = t.at })) ts) against
       ∙ on
 
-  -- the same along all pieces
+  -- the law above along all pieces
   goes_on_well : (ts done : List (Token Piece)) (before : List Piece) (f g : Front) → reached (bounds n) before ≡ Some f
       → walk (Some f) (pieces ts) ≡ Some g → finish g ≡ Some b → IsSmall n f (pieces ts) × Comes done ts f
   goes_on_well [] done before f g e w fin =

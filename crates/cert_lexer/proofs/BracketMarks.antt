@@ -45,7 +45,7 @@ joined-with_part : (s : List Piece) (level : ℕ) (bs : Parts) (b : Bound) (rest
 joined-with_part s level NoParts b rest = refl
 joined-with_part s level (Part c cs) b rest = ap (bound_marks level c) (more-with_part s level cs b rest)
 
--- and one with the separator behind it
+-- the marks of parts with one more and its separator
 pub each-with_part : (s : List Piece) (level : ℕ) (bs : Parts) (b : Bound) (rest : Marks)
     → each_marks s level (with_part bs b) rest ≡ each_marks s level bs (bound_marks level b (unmarked s rest))
 each-with_part s level NoParts b rest = refl
@@ -70,13 +70,13 @@ term_marks above sum (Part (PowerOf c e) NoParts) rest h = refl
 term_marks above sum (Part b (Part c cs)) rest h =
     ap (λ (k : ℕ). factors_marks k Nothing (Part b (Part c cs)) rest) (sym (level_more above sum))
 
--- the marks of terms and factors inside so many levels, with a sum's node and without
+-- the marks of terms and factors inside this many levels, with a sum's node and without
 abbrev pub inside_marks : ℕ → ℕ → Parts → Parts → Marks → Marks
 inside_marks above sum ts fs rest =
     each_marks plus_between (level_behind above sum 0) ts
     (factors_marks (level_behind above sum (product_node fs)) Nothing fs rest)
 
--- those of the bound that they make
+-- the marks of the bound that terms and factors make
 pub bound_made_marks : (above : ℕ) (ts fs : Parts) (rest : Marks) → can_end fs ≡ true
     → bound_marks (suc above) (bound_of_parts ts fs) rest ≡ inside_marks above (node_of_any ts) ts fs rest
 bound_made_marks above NoParts fs rest h =
@@ -100,7 +100,7 @@ no_sum (Part (MaximumOf bs) NoParts) h e = cc
 no_sum (Part (PowerOf c d) NoParts) h e = cc
 no_sum (Part b (Part c cs)) h e = cc
 
--- those of a sum, which a bracket counts already
+-- the marks of a sum that a bracket counts already
 pub sum_made_marks : (above : ℕ) (ts fs : Parts) (rest : Marks) → can_end fs ≡ true
     → is_sum (bound_of_parts ts fs) ≡ true
     → bound_marks above (bound_of_parts ts fs) rest ≡ inside_marks above 0 ts fs rest
@@ -151,7 +151,7 @@ item_other Factor (ProductOf bs) h = cc
 item_other Factor (MaximumOf bs) h = cc
 item_other Factor (PowerOf c e) h = cc
 
--- the product's node counts behind an item where it did before its bracket
+-- the product's node counts after an item if it did before its bracket
 pub item_node : (bracket : Bracket) (fs : Parts) (b : Bound) → can_close bracket b ≡ true
     → product_node (with_part fs (item_of bracket b)) ≡ product_node_round bracket fs
 item_node (Arguments bs) fs b h = product_node-with_part fs (MaximumOf (with_part bs b)) refl

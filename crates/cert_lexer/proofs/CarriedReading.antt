@@ -1,4 +1,4 @@
--- Reading a bound with what is carried comes to the answer to all of it.
+-- Reading a bound with the carried state gives the answer to all of it.
 use Rattle.std.proofs.Common.{◌≡◌, ℕ, ◌-◌, ◌≤◌, Bool, true, false, cond, List, [], ◌∷◌, length, map, Option, Some, None, refl, ap}
 use Rattle.std.proofs.Common.{sym, subst, ◌∙◌, arith, inl, inr}
 use Rattle.std.specs.Prelude.{◌||◌, is_some, IfOk, Result, Ok, Err}
@@ -149,7 +149,7 @@ ends_without f best first_refusal count result some first before is =
     go None h = cc
     go (Some x) h = refl
 
--- the same of what may want memory
+-- the refusal of a step that may fail to allocate
 pub knows_refusal : (n : ℕ) (all left : List Inner) (best : Option (code_fault.Fault ProofKind)) (s : Reading) (result : Result BoundRead AllocError) → Knows n all left best s
     → length left ≡ 0 → ((f : Front) → Carries f s → IsToldWithout f best (length all) s → IfOk result (λ read. Ends f best (length all) read))
     → IfOk result (λ read. answer_of read ≡ bound_answer n all)

@@ -1,4 +1,4 @@
--- What is carried, piece by piece.
+-- The carried state, piece by piece.
 use Rattle.std.proofs.Common.{◌≡◌, ℕ, ◌<◌, ◌≤◌, ◌+◌, Bool, true, false, cond, List, [], ◌∷◌, length, map, Option, Some, None, refl, ap}
 use Rattle.std.proofs.Common.{sym, subst, ◌∙◌, arith, inl, inr}
 use Rattle.std.specs.Prelude.{IfSome, ◌||◌, is_some, slice_get}
@@ -53,7 +53,7 @@ same_first n f first_refusal best false (inr h) xs l =
         let first : is_before (bounds_in n) (record { kind = TooDeep; at = t.at }) x ≡ true = grind (arith, nat_tests) in
         sym (ap (λ (v : Bool). Some (cond v (record { kind = TooDeep; at = t.at }) x)) first)
 
--- behind a part that is too deep a refusal more is behind it
+-- after a part that is too deep, one more refusal is after it
 refusal_behind : (m : ℕ) (first_refusal : Option (Fault ProofKind)) (kind : Option ProofKind) (at : ℕ) → m < at → IfSome first_refusal (λ x. m < x.at)
     → IfSome (or_refusal first_refusal kind at) (λ x. m < x.at)
 refusal_behind m None None at h k = tt

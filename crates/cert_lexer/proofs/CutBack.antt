@@ -79,7 +79,7 @@ sign_found b =
         inr (sign.Minus, refl, same 45 z)
     go false false false false false false false false false false false p q r s t u v w x y z = inl refl
 
--- what bytes begin with where nothing is open
+-- the lexeme of bytes where no list or bound is open
 pub data Begins (symbols : List NameBytes) (b : ℕ) (bytes : List ℕ) : Type 0 where
   AName : begins_name b ≡ true
       → plain_lexeme symbols b bytes ≡ name_lexeme symbols (b ∷ prefix continues_name bytes) → Begins symbols b bytes
@@ -107,14 +107,14 @@ begins_so symbols b bytes = go (begins_name b) refl (is_ascii_digit b) refl (sig
     go false e false f (inl s) = ABreak (whole false false e f ∙ ap (λ (q : Piece). lexeme q 1) s)
     go false e false f (inr (k, s, same)) = AByte k same (whole false false e f ∙ ap (λ (q : Piece). lexeme q 1) s)
 
--- the piece and the length of what was found
+-- the piece and the length of a found lexeme
 found_piece : {l m : Lexeme (Option Piece)} → l ≡ m → l.piece ≡ m.piece
 found_piece e = ap (λ (k : Lexeme (Option Piece)). k.piece) e
 
 found_len : {l m : Lexeme (Option Piece)} → l ≡ m → l.len ≡ m.len
 found_len e = ap (λ (k : Lexeme (Option Piece)). k.len) e
 
--- this many bytes behind the first one are those of a piece
+-- this many bytes after the first one belong to a piece
 abbrev pub Found : List NameBytes → ℕ → List ℕ → Piece → ℕ → Type 0
 Found symbols b bytes q some = plain_lexeme symbols b bytes ≡ record { piece = Some q; len = suc some }
 
@@ -275,7 +275,7 @@ bytes_of_word word.Shut = codes "shut"
 bytes_of_word word.Kept = codes "kept"
 bytes_of_word word.Other = []
 
--- so they are listed
+-- these words are listed
 AllSpelled : List Spelled → Type 0
 AllSpelled [] = ⊤
 AllSpelled (w ∷ ws) = (bytes_of_word w.word ≡ w.bytes) × AllSpelled ws

@@ -16,7 +16,7 @@ use Rattle.cert_lexer.specs.Following.{IsStanding, begun_in, Follows, FollowsWhe
 use Rattle.cert_lexer.proofs.LeadLaws.{outlines_lead}
 use Rattle.cert_lexer.proofs.ShallowLaws.{shallow_deep, has_both, from_shallow, from_has, or_true}
 
--- with none too deep none is refused
+-- if no part is too deep, none is refused
 pub none_found : (ms : Marks) (ts : List (Token Piece)) → has_deep ms ≡ false → deep_among bound_levels ms ts ≡ []
 none_found [] ts e = refl
 none_found (m ∷ ms) [] e = refl
@@ -28,7 +28,7 @@ none_found (Some level ∷ ms) (t ∷ ts) e = go (nat_lt bound_levels level) e (
     go true e ih = cc
     go false e ih = ih e
 
--- else the first one is, where the marks before it end
+-- if a part is too deep, the first one is refused where the marks before it end
 pub one_found : (ms : Marks) (ts : List (Token Piece)) (t : Token Piece) → has_deep ms ≡ true
     → slice_get ts (length (shallow ms)) ≡ Some t → deep_among bound_levels ms ts ≡ record { kind = kinds.TooDeep; at = t.at } ∷ []
 one_found [] ts t e k = cc
@@ -44,7 +44,7 @@ one_found (Some level ∷ ms) (u ∷ ts) t e k = go (nat_lt bound_levels level) 
         ap (λ (x : Token Piece). record { kind = kinds.TooDeep; at = x.at } ∷ []) same
     go false e k ih = ih e k
 
--- as many marks as there are, at most, are before it, and fewer where there is one
+-- at most as many marks as there are come before it, and fewer if there is one
 pub shallow_within : (ms : Marks) → length (shallow ms) ≤ length ms
 shallow_within [] = omega arith
 shallow_within (m ∷ ms) = go (is_deep m) (shallow_within ms)
@@ -77,7 +77,7 @@ pub either_length : (v : Bool) (n : ℕ) (ms : Marks) → length (cond v (raised
 either_length true n ms = from_length n ms
 either_length false n ms = refl
 
--- what is too deep stays so, and the first such part comes no later
+-- a part that is too deep stays so, and the first such part comes no later
 either_deep : (v : Bool) (n : ℕ) (ms : Marks) → has_deep ms ≡ true → has_deep (cond v (raised_from n ms) ms) ≡ true
 either_deep true n ms e = from_has n ms ∙ ap (λ (w : Bool). has_deep (raised_from n (shallow ms)) || w) e ∙ or_true (has_deep (raised_from n (shallow ms)))
 either_deep false n ms e = e
@@ -89,7 +89,7 @@ either_shallow true n ms =
     omega (arith, e, w, from_length n (shallow ms))
 either_shallow false n ms = omega arith
 
--- where a piece leads on, outline and levels follow
+-- the state after a piece on, outline and levels follow
 leads_on : (f g : Front) (piece : Piece) (reached : Option Front) (l : Option Lead) → reached ≡ Some g → FollowsWhere f piece reached l
     → (k : Lead) × (l ≡ Some k) × Follows f piece g k
 leads_on f g piece None l e h = cc
@@ -100,7 +100,7 @@ pub led_on : (f g : Front) (piece : Piece) → IsStanding f → limited_step f p
     → (k : Lead) × (lead (innermost_frame (frames_of f.outer)) (innermost_of f) piece ≡ Some k) × Follows f piece g k
 led_on f g piece s e = leads_on f g piece (limited_step f piece) (lead (innermost_frame (frames_of f.outer)) (innermost_of f) piece) e (outlines_lead.each f piece s)
 
--- so a piece adds a mark
+-- a piece adds one mark
 pub one_more : (f g : Front) (piece : Piece) → IsStanding f → limited_step f piece ≡ Some g
     → length (front_marks g) ≡ suc (length (front_marks f))
 one_more f g piece s e =
@@ -113,7 +113,7 @@ one_more f g piece s e =
     let b = either_length (raises round i piece) (begun_in f).start (front_marks f) in
     omega (arith, m, a, b)
 
--- and what is too deep stays so, no later
+-- after a piece, a part that is too deep stays so, and the first comes no later
 pub stays_deep : (f g : Front) (piece : Piece) → IsStanding f → limited_step f piece ≡ Some g → has_deep (front_marks f) ≡ true
     → (has_deep (front_marks g) ≡ true) × (length (shallow (front_marks g)) ≤ length (shallow (front_marks f)))
 stays_deep f g piece s e deep =

@@ -42,7 +42,7 @@ when_follows f p true false g l e h = cc
 when_follows f p false true g l e h = cc
 when_follows f p false false g l e h = tt
 
--- what comes behind factors, and behind a `*` that they need
+-- the marks after factors, and after a `*` between them
 pub factors_add : (o : Outer) (high low : ℕ) (ts fs : Parts) (rest ys : Marks)
     → outer_marks o (each_marks plus_between high ts (factors_marks low Nothing fs (rest ++ ys)))
     ≡ outer_marks o (each_marks plus_between high ts (factors_marks low Nothing fs rest)) ++ ys
@@ -214,7 +214,7 @@ copies_follow o ts fs i n (suc (suc m)) h more = record {
   standing = is_empty-with_part (with_copies (suc m) i fs) (Input i);
 }
 
--- behind the `^` of a run
+-- the step after the `^` of a run
 pub run_follows : (o : Outer) (ts fs : Parts) (i nodes : ℕ) (piece : Piece) → is_input i (last fs) ≡ false
     → FollowsWhere (front_at o ts fs (RunCaret i)) piece (step_at (RunCaret i) o ts fs (kept_at (RunCaret i) nodes piece))
     (lead_at (stage.Run i) (innermost_frame (frames_of o)) (innermost_of (front_at o ts fs (RunCaret i))) piece)

@@ -84,7 +84,7 @@ shadows_on f piece s outline levels round k h r e frames inner taken =
         (begun_behind k.change (length ms) (innermost_frame (frames_of f.outer)) (innermost_of f) (begun_of f))) (sym l.marks) c in
         subst (ShowsLevels levels (front_marks g)) (sym l.begun) d
 
--- and one that doesn't
+-- a rejected piece leaves the code's state as it is
 pub shadows_off : (f : Front) (piece : Piece) (s : Follower) (round : Option Frame) → Shadows f s
     → round ≡ innermost_frame (frames_in s.outline) → None ≡ lead round s.outline.innermost piece → limited_step f piece ≡ None
 shadows_off f piece s round h r e =
@@ -97,14 +97,14 @@ pub tree_settled : (f : Front) (o : Option Reader) → IsTree f o → IsSettledT
 tree_settled f None h = tt
 tree_settled f (Some r) h = h.1
 
--- one front is reached
+-- the state reached is unique
 same_front : (x y : Front) → Some x ≡ Some y → x ≡ y
 same_front x y e = cc
 
 no_front : (x : Front) → Some x ≡ None → ⊥
 no_front x e = cc
 
--- and where it is led on, so is what is known without it
+-- where the state accepts a piece, so does the code without the tree
 pub steps_with : (n : ℕ) (f : Front) (piece : Piece) (behind : List Piece) (before : Option Reader) (r after : Reader) (follower : Follower) (step : StepResult)
     → before ≡ Some r → IsTree f before → Led f piece follower true → Steps n (front_of r) piece behind after step
     → StepsOn n f piece behind before (record { reader = Some after; follower = follower }) step

@@ -36,13 +36,13 @@ begins_split c [] h = cc
 begins_split c (b ∷ bytes) h =
     (bytes, (let e : b ≡ c = grind (arith, nat_tests) in ap (λ (x : ℕ). x ∷ bytes) e))
 
--- which piece a name is, by whether a bracket follows it and whether it is `max`
+-- the piece of a name, by whether a bracket follows it and whether it is `max`
 abbrev name_piece : List Name → Name → Bool → Bool → Lexeme Piece
 name_piece names w v u =
     cond {A = Lexeme Piece} v (cond u (record { piece = Maximum; len = length w + 1 })
     (record { piece = Wrong; len = length w })) (record { piece = Variable (position_of w names); len = length w })
 
--- what a kept name is written as
+-- the bytes of an accepted name
 word_spelled : (names : List Name) (w rest : List ℕ) → KeptPiece (length names) (word_at names w rest).piece
     → Spelled names (w ++ rest) (word_at names w rest)
 word_spelled names w rest kept = go (begins_with 40 rest) (is_same w (codes "max")) refl refl kept
@@ -61,7 +61,7 @@ word_spelled names w rest kept = go (begins_with 40 rest) (is_same w (codes "max
         let p = at_position names w kept in
         record { rest = rest; split = ap (λ (xs : List ℕ). xs ++ rest) (sym p); len = ap length p }
 
--- what a kept number is written as
+-- the bytes of an accepted number
 number_spelled : (names : List Name) (c : ℕ) (ds rest : List ℕ) → is_ascii_digit c ≡ true
     → list_all is_ascii_digit ds ≡ true → KeptPiece (length names) (number_at (c ∷ ds)).piece
     → Spelled names ((c ∷ ds) ++ rest) (number_at (c ∷ ds))
@@ -79,12 +79,12 @@ number_spelled names c ds rest d all kept = go (has_leading_zero (c ∷ ds)) ref
         ap decimal same ∙ numeral_of c ds d all e (omega (arith, small)) in
         record { rest = rest; split = ap (λ (xs : List ℕ). xs ++ rest) (sym n); len = ap length n }
 
--- which piece any other byte is
+-- the piece of any other byte
 abbrev mark_piece : Bool → Bool → Bool → Bool → Bool → Bool → Bool → Piece
 mark_piece a c d e f g h =
     cond a Open (cond c Close (cond d Times (cond e Caret (cond f Plus (cond g Blank (cond h Comma Wrong))))))
 
--- what any other kept byte is written as
+-- the bytes of any other accepted piece
 mark_spelled : (names : List Name) (b : ℕ) (rest : List ℕ) → KeptPiece (length names) (mark_at b)
     → Spelled names (b ∷ rest) (record { piece = mark_at b; len = 1 })
 mark_spelled names b rest kept =
@@ -106,7 +106,7 @@ mark_spelled names b rest kept =
     go false false false false false false true p q r s t u v kept = record { rest = rest; split = same 44 v; len = refl }
     go false false false false false false false p q r s t u v kept = absurd kept
 
--- which piece bytes begin with
+-- the first piece of bytes
 abbrev first_piece : List Name → ℕ → List ℕ → Bool → Bool → Lexeme Piece
 first_piece names b bytes v w =
     cond {A = Lexeme Piece} v (word_at names (b ∷ prefix continues_name bytes) (the_rest continues_name bytes))
@@ -155,13 +155,13 @@ kept_back n before Blank small kept = (tt, refl)
 kept_back n before Comma small kept = (tt, refl)
 kept_back n before Wrong small kept = (kept, refl)
 
--- what is behind the bytes of a piece
+-- the bytes after those of a piece
 behind_first : (b : ℕ) (bytes xs rest : List ℕ) (some : ℕ) → b ∷ bytes ≡ xs ++ rest → length xs ≡ suc some
     → drop some bytes ≡ rest
 behind_first b bytes xs rest some e h =
     ap (drop (suc some)) e ∙ ap (λ (j : ℕ). drop j (xs ++ rest)) (sym h) ∙ drop-append_seam xs rest
 
--- what is known of a piece of a bound that was found
+-- the properties of a piece of a bound that was found
 pub record IsInner (names : List Name) (depth b : ℕ) (bytes : List ℕ) (q : BoundPiece) (last : Bool) (some : ℕ) : Type 0
   where
     pub ends : last ≡ ends_before (depth_behind depth q) (drop some bytes)
@@ -201,7 +201,7 @@ inner_back symbols names depth before b bytes q len last some small h = go (ends
               ∙ ap (λ (x : Piece). spelled names x ++ drop some bytes) (sym here);
         }
 
--- where a bound goes on, no other piece is found
+-- while a bound continues, no other piece is found
 pub inner_only : (symbols names : List Name) (depth before b : ℕ) (bytes : List ℕ) → ends_bound depth b ≡ false
     → (q : BoundPiece) × (len : ℕ) × (last : Bool)
     × ((lexeme_in symbols names (mode.InBound depth before) b bytes).piece ≡ Some (InBound q len last))

@@ -1,4 +1,4 @@
--- Outlines and levels follow what is carried behind an item.
+-- Outlines and levels follow the carried state after an item.
 use Rattle.std.proofs.Common.{◌≡◌, ℕ, suc, ◌^◌, ◌-◌, Bool, true, false, cond, not, nat_lt, nat_le, [], ◌∷◌}
 use Rattle.std.proofs.Common.{◌++◌, length, Option, Some, None, refl, ap, sym, subst, ◌∙◌, arith}
 use Rattle.std.specs.Prelude.{◌&&◌, is_some}
@@ -40,7 +40,7 @@ use Rattle.cert_lexer.proofs.BracketMarks.{sum_in, item_marks, item_other, item_
 use Rattle.cert_lexer.specs.Levels.{begun_round}
 use Rattle.cert_lexer.proofs.FollowLaws.{when_follows, factors_add, star_add}
 
--- a factor is a level deeper behind its first `*`
+-- a factor is one level deeper after its first `*`
 times_marks : (o : Outer) (ts fs : Parts) → is_empty fs ≡ false
     → front_marks (front_at o ts fs Begins)
     ≡ cond (not (is_product (before_last (last_of fs) (last_of (init fs))) (last_of fs)))
@@ -77,7 +77,7 @@ times_marks o ts fs some =
         ∙ ap (λ (p : ℕ). raised_from (length (before_term o (sum_node o ts) ts)) (outer_marks o (each_marks plus_between high ts
         (factors_marks (level_behind (levels_above o) (sum_node o ts) p) Nothing fs []))) ++ None ∷ []) (sym e)
 
--- a term is a level deeper behind the first ` + `
+-- a term is one level deeper after the first ` + `
 blank_marks : (o : Outer) (ts fs : Parts)
     → front_marks (front_at o ts fs BlankRead)
     ≡ cond (not (is_factor_frame (innermost_frame (frames_of o))) && not (not (is_empty ts)))
@@ -85,7 +85,7 @@ blank_marks : (o : Outer) (ts fs : Parts)
     (front_marks (front_at o ts fs ItemRead)) ++ None ∷ []
 blank_marks o ts fs = go (in_factor o) (is_factor_frame (innermost_frame (frames_of o))) ts (factor_shown o)
   where
-    -- terms and factors, where so many nodes of a sum count
+    -- terms and factors, where this many nodes of a sum count
     whole : ℕ → Parts → Marks → Marks
     whole sum ts rest =
         outer_marks o (each_marks plus_between (level_behind (levels_above o) sum 0) ts
@@ -119,7 +119,7 @@ same_start : (o : Outer) (ts : Parts) → length (before_term o (sum_at BlankRea
 same_start o NoParts = refl
 same_start o (Part b bs) = refl
 
--- what an item that was taken back was
+-- the item that a `^` takes back
 caret_follows : (o : Outer) (ts gs : Parts) (b : Bound)
     → FollowsWhere (front_at o ts (with_part gs b) ItemRead) Caret
     (cond (is_large_number (Some b)) (Some (front_at o ts gs (PowerCaret (2 ^ 64 - 1)))) (caret_behind o ts gs (Some b)))
@@ -269,14 +269,14 @@ closed_shape (Arguments bs) b e = refl
 closed_shape (Exponent c) b e = refl
 closed_shape Factor b e = sum_behind b e
 
--- behind it only whether something comes before it is known
+-- after it only whether there is a factor before is known
 coarse_item : (bracket : Bracket) (before : Option Shape)
     → before_last (Some (item_shape (opening_of bracket))) before ≡ any_factor (is_some before)
 coarse_item (Arguments bs) before = refl
 coarse_item (Exponent c) before = refl
 coarse_item Factor before = refl
 
--- the innermost bound behind a bracket that closes
+-- the innermost bound after a bracket that closes
 closed_item : (bracket : Bracket) (o : Outer) (ts fs : Parts) (b : Bound) → can_close bracket b ≡ true
     → innermost_of (behind_factor o ts fs (item_of bracket b))
     ≡ behind_bracket (record { opening = opening_of bracket; terms = not (is_empty ts); factors = is_some (last_of fs) })
@@ -312,7 +312,7 @@ close_follows (Inside bracket ts' fs' o) ts fs =
       standing = is_empty-with_part fs' (item_of bracket b);
     })
 
--- what follows an item
+-- the step from after an item
 pub item_follows : (o : Outer) (ts fs : Parts) (nodes : ℕ) (piece : Piece) → is_empty fs ≡ false
     → FollowsWhere (front_at o ts fs ItemRead) piece
     (cond (has_large_base_at ItemRead fs piece) (Some (front_at o ts (init fs) (PowerCaret (2 ^ 64 - 1)))) (step_at ItemRead o ts fs piece))

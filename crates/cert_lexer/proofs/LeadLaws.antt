@@ -28,7 +28,7 @@ use Rattle.cert_lexer.proofs.BracketMarks.{each-with_part, term_marks, inside_ma
 use Rattle.cert_lexer.proofs.FollowLaws.{factors_add, star_add, begin_follows, run_follows, power_follows}
 use Rattle.cert_lexer.proofs.ItemLaws.{item_follows}
 
--- behind the blank of ` + `, and behind its `+`
+-- the steps after the blank of ` + `, and after its `+`
 blank_follows : (o : Outer) (ts fs : Parts) (piece : Piece) → can_end fs ≡ true
     → FollowsWhere (front_at o ts fs BlankRead) piece (step_at BlankRead o ts fs piece)
     (lead_at stage.Blank (innermost_frame (frames_of o)) (innermost_of (front_at o ts fs BlankRead)) piece)
@@ -42,7 +42,7 @@ blank_follows o ts fs Plus h = record {
 }
 blank_follows o ts fs piece h = tt
 
--- a sum's node counts behind a term as it did behind its `+`
+-- a sum's node counts after a term as it did after its `+`
 sum_more : (o : Outer) (ts : Parts) (b : Bound) → sum_node o (with_part ts b) ≡ sum_at PlusRead o ts
 sum_more o NoParts b = refl
 sum_more o (Part c cs) b = refl
@@ -124,6 +124,6 @@ follows_at BlankRead o ts fs nodes piece h = blank_follows o ts fs piece h
 follows_at PlusRead o ts fs nodes piece h = plus_follows o ts fs piece h
 follows_at CommaRead o ts fs nodes piece h = comma_follows o ts fs piece h
 
--- what is carried is led on where its outline is, and outline and levels follow it
+-- the carried state accepts the pieces that its outline accepts, and outline and levels follow it
 pub outlines_lead : OutlinesLead
 outlines_lead = record { each = λ f piece h. follows_at f.position f.outer f.terms f.factors (nodes_of f) piece h }

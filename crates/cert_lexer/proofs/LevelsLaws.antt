@@ -1,4 +1,4 @@
--- What a piece does to what is kept of levels.
+-- The effect of a piece on the stored levels.
 use Rattle.std.proofs.Common.{◌≡◌, ℕ, zero, suc, ◌+◌, ◌^◌, ◌-◌, ◌<◌, ◌≤◌, min, Bool, true, false, cond, List, [], ◌∷◌, ◌++◌}
 use Rattle.std.proofs.Common.{length, map, Option, refl, ap, sym, subst, ◌∙◌, arith, length-append}
 use Rattle.std.specs.Prelude.{◌||◌, ◌&&◌}
@@ -34,7 +34,7 @@ taken_length bs round i piece marks =
     let b = either_length (raises round i piece) (first_begun bs).start marks in
     omega (arith, a, b)
 
--- so the count goes on
+-- the count after one more piece
 pub taken_count : (count next : ℕ) (bs : List OpenPart) (round : Option Frame) (i : Innermost) (piece : Piece) (marks : Marks)
     → count ≡ capped (length marks) → next ≡ min (count + 1) (2 ^ 64 - 1) → next ≡ capped (length (marks_taken bs round i piece marks))
 taken_count count next bs round i piece marks c n = omega (arith, c, n, taken_length bs round i piece marks)
@@ -48,7 +48,7 @@ shallow_short (m ∷ ms) = go (is_deep m) (shallow_short ms)
     go true ih = omega arith
     go false ih = omega (arith, ih)
 
--- and before it none is too deep
+-- the marks before the first part that is too deep have none that is
 shallow_again : (ms : Marks) → shallow (shallow ms) ≡ shallow ms
 shallow_again [] = refl
 shallow_again (m ∷ ms) = go (is_deep m) refl (shallow_again ms)
@@ -58,14 +58,14 @@ shallow_again (m ∷ ms) = go (is_deep m) refl (shallow_again ms)
     go true e ih = refl
     go false e ih = ap (λ (w : Bool). cond w [] (m ∷ shallow (shallow ms))) e ∙ ap (λ (xs : Marks). m ∷ xs) ih
 
--- from behind the last mark on there is nothing to raise
+-- after the last mark there is none to raise
 raised_past : (n : ℕ) (ms : Marks) → length ms ≤ n → raised_from n ms ≡ ms
 raised_past zero [] l = refl
 raised_past zero (m ∷ ms) l = absurd (omega (arith, l))
 raised_past (suc n) [] l = refl
 raised_past (suc n) (m ∷ ms) l = ap (λ (xs : Marks). m ∷ xs) (raised_past n ms (omega (arith, l)))
 
--- so what a piece raises behind the first part that is too deep changes nothing that is kept, nor does its own mark
+-- raising marks after the first part that is too deep changes no stored mark, and so does adding one
 held_behind : (kept marks : Marks) (m : Option ℕ) (deep v : Bool) (start : ℕ) → Held kept deep marks → has_deep marks ≡ true
     → length (shallow marks) ≤ start → Held kept deep (cond v (raised_from start marks) marks ++ m ∷ [])
 held_behind kept marks m deep v start h d l =
@@ -79,14 +79,14 @@ held_behind kept marks m deep v start h d l =
           ∙ or_true (has_deep (raised_from start (shallow marks))));
     }
 
--- bounds that began so far behind do so where as many marks are kept
+-- bounds that began after a part do so with any marks of which as many are stored
 same_behind : (marks next : Marks) (bs : List OpenPart) → shallow next ≡ shallow marks → has_deep next ≡ has_deep marks
     → AreBehind marks bs → AreBehind next bs
 same_behind marks next [] e d h = tt
 same_behind marks next (b ∷ bs) e d h =
     let size = ap length e in let l = h.0 in (omega (arith, size, l), d ∙ h.1, same_behind marks next bs e d h.2)
 
--- and with a change to the open brackets
+-- bounds that began after a part do so after a change to the open brackets
 behind_on : (c : Change) (round : Option Frame) (i : Innermost) (marks next : Marks) (b : OpenPart) (bs : List OpenPart)
     → shallow next ≡ shallow marks → has_deep next ≡ has_deep marks → AreBehind marks (b ∷ bs)
     → AreBehind next (begun_behind c (length next) round i (b ∷ bs))
@@ -99,7 +99,7 @@ behind_on change.Close round i marks next b bs e d h = same_behind marks next bs
 behind_on change.Argue round i marks next b bs e d h =
     (shallow_short next, d ∙ h.1, same_behind marks next bs e d h.2)
 
--- which concerns the innermost ones alone
+-- a change concerns the innermost bounds alone
 begun_more : (c : Change) (at : ℕ) (round : Option Frame) (i : Innermost) (b : OpenPart) (bs outer : List OpenPart)
     → begun_behind c at round i (b ∷ bs) ++ outer ≡ begun_behind c at round i (b ∷ (bs ++ outer))
 begun_more change.Keep at round i b bs outer = refl
@@ -117,7 +117,7 @@ length_begun : (bs : List OpenPart) → length (map capped_begun bs) ≡ length 
 length_begun [] = refl
 length_begun (b ∷ bs) = ap suc (length_begun bs)
 
--- as many bounds are kept as the code has
+-- the code stores as many bounds as there are
 kept_length : (l : Levels) (outer : List OpenPart) → begun_in l ≡ map capped_begun outer → length l.begun.items ≡ length outer
 kept_length l outer e =
     let a = length_onto l.begun.items [] in let b = ap length e in let c = length_begun outer in omega (arith, a, b, c)
@@ -165,7 +165,7 @@ pub both_hold : (a b : Bool) → a && b ≡ true → (a ≡ true) × (b ≡ true
 both_hold true b h = (refl, h)
 both_hold false b h = cc
 
--- a bracket that opens behind a part that is too deep
+-- a bracket that opens after a part that is too deep
 pub taken_open : (l : Levels) (round : Option Frame) (i : Innermost) (c : Change) (next : Marks) (bs : List OpenPart)
     → opens c ≡ true → l.marked.deep ≡ true → Holds l.marked next → l.count ≡ capped (length next)
     → begun_in l ≡ map capped_begun bs → ShowsLevels l next (begun_behind c (length next) round i bs)
@@ -183,7 +183,7 @@ taken_open l round i (change.Open frame) next bs o d held count begun = record {
 taken_open l round i change.Close next bs o d held count begun = cc
 taken_open l round i change.Argue next bs o d held count begun = cc
 
--- as many bounds aren't done as brackets are open, and one
+-- there is one unfinished bound more than open brackets
 round_length : (outer : Outer) → length (begun_round outer) ≡ length (frames_of outer)
 round_length Whole = refl
 round_length (Inside bracket ts fs outer) = ap suc (round_length outer)

@@ -9,7 +9,7 @@ use Rattle.cert_lexer.specs.declared.levels.OpenPart.{OpenPart}
 use Rattle.cert_lexer.specs.Outlines.{innermost_frame}
 use Rattle.cert_lexer.specs.Levels.{first_begun}
 
--- with one more at the end it comes first
+-- `onto` of a list with one more element
 pub onto_push : {X : Type 0} (xs ys : List X) (x : X) → onto (xs ++ x ∷ []) ys ≡ x ∷ onto xs ys
 onto_push [] ys x = refl
 onto_push (z ∷ xs) ys x = onto_push xs (z ∷ ys) x

@@ -1,4 +1,4 @@
--- The marks of a bound reach as deep as its levels do, and are as many as its pieces.
+-- The marks of a bound reach as deep as its levels, and there are as many as pieces.
 use Rattle.std.proofs.Common.{◌≡◌, ℕ, zero, suc, ◌+◌, ◌≤◌, max, Bool, true, false, cond, List, [], ◌∷◌, ◌++◌, length, Option}
 use Rattle.std.proofs.Common.{Some, None, refl, ap, sym, ◌∙◌, arith}
 use Rattle.std.specs.Prelude.{⊤, nat_lt, not}
@@ -22,7 +22,7 @@ use Rattle.text_grammar.specs.text_core.Tokens.{Token, pieces}
 use Rattle.text_grammar.specs.text_core.Readers.{Fault}
 use Rattle.cert_lexer.proofs.BoundTexts.{AtMost}
 
--- marks and pieces are as many, where those behind them are
+-- there are as many marks as pieces, if this holds of those after them
 abbrev AsMany : Marks → List Piece → Type 0
 AsMany marks ps = length marks ≡ length ps
 
@@ -66,7 +66,7 @@ exponent_long true marks text ms ps own h = own ms ps h
 exponent_long false marks text ms ps own h =
     ap (λ (k : ℕ). suc k) (own (None ∷ ms) (Close ∷ ps) (ap (λ (k : ℕ). suc k) h))
 
--- a variable goes on a run or begins one
+-- a variable continues a run or begins one
 variable_long : (v : Bool) (level : ℕ) (before : Before) (ms ns : Marks) (ps qs : List Piece) → AsMany ms ps
     → AsMany ns qs
     → AsMany (cond v ms (ended_marks level before (times_marks before ns))) (cond v ps (ended_then before (times_then before qs)))
@@ -84,7 +84,7 @@ other_long level before v marks text ms ps own h =
     (times_long before (factor_marks v level marks ms) (bracketed_then v text ps) (factor_long v level marks text ms ps own h))
 
 mutual
-  -- the marks of a bound are as many as its pieces
+  -- a bound has as many marks as pieces
   bound_long : (level : ℕ) (b : Bound) (ms : Marks) (ps : List Piece) → AsMany ms ps
       → AsMany (bound_marks level b ms) (text_then b ps)
   bound_long level (Constant c) ms ps h = ap (λ (k : ℕ). suc k) h
@@ -138,7 +138,7 @@ mutual
       (factors_marks level Other bs ms) (factors_then Other bs ps)
       (λ ns qs k. bound_long level (PowerOf c e) ns qs k) (factors_long level Other bs ms ps h)
 
--- terms with a separator behind each
+-- terms with a separator after each
 each_long : (separator : List Piece) (level : ℕ) (bs : Parts) (ms : Marks) (ps : List Piece) → AsMany ms ps
     → AsMany (each_marks separator level bs ms) (each_then separator bs ps)
 each_long separator level NoParts ms ps h = h
@@ -146,7 +146,7 @@ each_long separator level (Part b bs) ms ps h =
     bound_long level b (unmarked separator (each_marks separator level bs ms)) (separator ++ each_then separator bs ps)
     (separator_long separator (each_marks separator level bs ms) (each_then separator bs ps) (each_long separator level bs ms ps h))
 
--- what is at most so deep behind marks, where these are
+-- a limit on marks is one on the marks after others
 unmarked_back : (n : ℕ) (ps : List Piece) (rest : Marks) → AtMost n (unmarked ps rest) → AtMost n rest
 unmarked_back n [] rest h = h
 unmarked_back n (p ∷ ps) rest h = unmarked_back n ps rest h
@@ -177,7 +177,7 @@ ended_stands n level Nothing rest h = tt
 ended_stands n level (Run i k) rest h = h.0
 ended_stands n level Other rest h = tt
 
--- the same for one that goes on
+-- the limit for a run that continues
 run_stands : (n level : ℕ) (before : Before) (i : ℕ) → goes_on before i ≡ true → RunStands n level (run_with before i)
     → level ≤ n
 run_stands n level Nothing i e h = cc
@@ -197,7 +197,7 @@ fits_both : (n level a b : ℕ) → level + a ≤ suc n → Fits n level b → l
 fits_both n level a zero h f = omega (arith, h)
 fits_both n level a (suc b) h f = let k = f (omega arith) in omega (arith, h, k)
 
--- what holds of factors behind others
+-- the limits for factors after others
 abbrev Reaches : ℕ → ℕ → Before → ℕ → Marks → Type 0
 Reaches n level before depth rest = Fits n level depth × RunStands n level before × AtMost n rest
 
@@ -333,7 +333,7 @@ mutual
       (factors_marks level Other bs rest) rest (λ ms k. bound_back n level (PowerOf c e) ms s.0 k)
       (λ k. factors_back n level Other bs rest s.1 k) h
 
--- terms with a separator behind each
+-- terms with a separator after each
 each_back : (n level : ℕ) (separator : List Piece) (bs : Parts) (rest : Marks) → AreShaped bs
     → AtMost n (each_marks separator level bs rest) → Fits n level (maximum_depth bs) × AtMost n rest
 each_back n level separator NoParts rest s h = ((λ some. absurd (omega (arith, some))), h)

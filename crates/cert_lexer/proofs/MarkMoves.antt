@@ -1,4 +1,4 @@
--- Marks go on behind others, and with all levels raised, as the tree does.
+-- Marks followed by others, or with all levels raised, are those of the tree.
 use Rattle.std.proofs.Common.{◌≡◌, ℕ, suc, Bool, true, false, cond, nat_lt, List, [], ◌∷◌, ◌++◌, length}
 use Rattle.std.proofs.Common.{Some, None, refl, ap, sym, ◌∙◌}
 use Rattle.its_model.specs.model.Bounds.{Bound, Constant, Input, SumOf, ProductOf, MaximumOf, PowerOf, Parts, NoParts}
@@ -14,13 +14,13 @@ use Rattle.bound_text.specs.Inside.{outer_marks, level_behind}
 use Rattle.bound_text.proofs.MarkLaws.{other_factor}
 use Rattle.cert_lexer.specs.Levels.{raised, raised_from}
 
--- what is made of marks one by one, and of each level
+-- a function of marks that is computed mark by mark, and of levels
 pub record Moves (up : ℕ → ℕ) (over : Marks → Marks) : Type 0 where
   pub none : (rest : Marks) → over (None ∷ rest) ≡ None ∷ over rest
   pub some : (level : ℕ) (rest : Marks) → over (Some level ∷ rest) ≡ Some (up level) ∷ over rest
   pub next : (level : ℕ) → up (suc level) ≡ suc (up level)
 
--- the marks of factors of which the first is a variable, as the test says whether it goes on a run
+-- the marks of factors of which the first is a variable, by the test whether it continues a run
 input_factor : (level : ℕ) (w : Before) (j : ℕ) (bs : Parts) (rest : Marks) (v : Bool) → goes_on w j ≡ v
     → factors_marks level w (Part (Input j) bs) rest
     ≡ cond v (factors_marks level (run_with w j) bs rest)
@@ -59,7 +59,7 @@ moved_times up over m Nothing rest = refl
 moved_times up over m (Run i n) rest = sym (m.none rest)
 moved_times up over m Other rest = sym (m.none rest)
 
--- the same behind factors
+-- the marks of a `*` after factors
 moved_star : (up : ℕ → ℕ) (over : Marks → Marks) → Moves up over → (fs : Parts) (rest : Marks)
     → star_marks fs (over rest) ≡ over (star_marks fs rest)
 moved_star up over m NoParts rest = refl
@@ -162,7 +162,7 @@ mutual
       ∙ moved_run up over m level before (times_marks before inner)
       ∙ ap over (sym (other_factor level before c cs rest refl))
 
--- parts with the separator behind each
+-- parts with the separator after each
 pub moved_each : (up : ℕ → ℕ) (over : Marks → Marks) → Moves up over → (separator : List Piece) (level : ℕ)
     (bs : Parts) (rest : Marks)
     → each_marks separator (up level) bs (over rest) ≡ over (each_marks separator level bs rest)
@@ -172,7 +172,7 @@ moved_each up over m separator level (Part b bs) rest =
     ∙ ap (bound_marks (up level) b) (moved_separator up over m separator (each_marks separator level bs rest))
     ∙ moved_bound up over m level b (unmarked separator (each_marks separator level bs rest))
 
--- marks behind others
+-- marks followed by others
 pub behind : (ys : Marks) → Moves (λ level. level) (λ ms. ms ++ ys)
 behind ys = record { none = λ rest. refl; some = λ level rest. refl; next = λ level. refl }
 
@@ -180,7 +180,7 @@ behind ys = record { none = λ rest. refl; some = λ level rest. refl; next = λ
 pub deeper : Moves suc raised
 deeper = record { none = λ rest. refl; some = λ level rest. refl; next = λ level. refl }
 
--- an open bracket with marks behind it
+-- an open bracket with marks after it
 pub bracket_behind : (ys : Marks) (level : ℕ) (bracket : Bracket) (rest : Marks)
     → bracket_marks level bracket (rest ++ ys) ≡ bracket_marks level bracket rest ++ ys
 bracket_behind ys level (Arguments bs) rest =
@@ -188,7 +188,7 @@ bracket_behind ys level (Arguments bs) rest =
 bracket_behind ys level (Exponent c) rest = refl
 bracket_behind ys level Factor rest = refl
 
--- terms, factors and what comes behind
+-- terms, factors and the marks after them
 pub factors_behind : (ys : Marks) (level : ℕ) (fs : Parts) (rest : Marks)
     → factors_marks level Nothing fs (rest ++ ys) ≡ factors_marks level Nothing fs rest ++ ys
 factors_behind ys level fs rest = moved_factors (λ level. level) (λ ms. ms ++ ys) (behind ys) level Nothing fs rest
@@ -200,7 +200,7 @@ pub each_behind : (ys : Marks) (level : ℕ) (ts : Parts) (rest : Marks)
     → each_marks plus_between level ts (rest ++ ys) ≡ each_marks plus_between level ts rest ++ ys
 each_behind ys level ts rest = moved_each (λ level. level) (λ ms. ms ++ ys) (behind ys) plus_between level ts rest
 
--- the marks of what surrounds a bound
+-- the marks of the part around a bound
 pub outer_behind : (ys : Marks) (outer : Outer) (rest : Marks) → outer_marks outer (rest ++ ys) ≡ outer_marks outer rest ++ ys
 outer_behind ys Whole rest = refl
 outer_behind ys (Inside bracket ts fs outer) rest =
@@ -219,7 +219,7 @@ outer_behind ys (Inside bracket ts fs outer) rest =
     low : ℕ
     low = level_behind (levels_above outer) (sum_node outer ts) (product_node_round bracket fs)
 
--- the marks before the current term, with other marks behind them
+-- the marks before the current term, with other marks after them
 pub term_behind : (outer : Outer) (level : ℕ) (ts : Parts) (xs ys : Marks)
     → outer_marks outer (each_marks plus_between level ts (xs ++ ys)) ≡ outer_marks outer (each_marks plus_between level ts xs) ++ ys
 term_behind outer level ts xs ys = ap (outer_marks outer) (each_behind ys level ts xs) ∙ outer_behind ys outer (each_marks plus_between level ts xs)

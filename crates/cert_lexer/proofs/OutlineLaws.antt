@@ -48,7 +48,7 @@ pub some_last : (b : Bound) (bs : Parts) → (c : Bound) × (last (Part b bs) �
 some_last b NoParts = (b, refl)
 some_last b (Part c bs) = some_last c bs
 
--- so whether there are shows
+-- the outline shows whether there are factors
 pub any_shown : (fs : Parts) → is_some (last_of fs) ≡ not (is_empty fs)
 any_shown NoParts = refl
 any_shown (Part b bs) = let t = some_last b bs in ap (λ (o : Option Bound). is_some (option_map shape_of o)) t.1
@@ -62,11 +62,11 @@ more_before (Some shape.Sum) some e k = ap (λ (v : Bool). is_some (any_factor v
 more_before (Some shape.Maximum) some e k = ap (λ (v : Bool). is_some (any_factor v)) k
 more_before (Some shape.Other) some e k = ap (λ (v : Bool). is_some (any_factor v)) k
 
--- what comes before the last factor, in the outline
+-- the factors before the last one, in the outline
 abbrev pub before_of : Parts → Option Shape
 before_of fs = before_last (last_of fs) (last_of (init fs))
 
--- with some factor before, factors end a term wherever there is a last one, and are a product
+-- with a factor before, factors end a term wherever there is a last one, and are a product
 ends_behind : (before : Option Shape) (item : Shape) → is_some before ≡ true → ends_term before (Some item) ≡ true
 ends_behind None item e = cc
 ends_behind (Some s) (shape.Constant c) e = refl
@@ -84,7 +84,7 @@ product_behind : (before end : Option Shape) → is_some before ≡ true → is_
 product_behind None end e = cc
 product_behind (Some s) end e = refl
 
--- with more than one factor, something comes before the last
+-- with more than one factor, there is one before the last
 before_more : (b c : Bound) (bs : Parts) → is_some (before_of (Part b (Part c bs))) ≡ true
 before_more b c bs =
     more_before (last_of (Part c bs)) (last_of (Part b (init (Part c bs)))) (any_shown (Part c bs))
@@ -116,7 +116,7 @@ product_shown (Part (PowerOf c e) NoParts) = refl
 product_shown (Part b (Part c bs)) =
     sym (ap node_if (product_behind (before_of (Part b (Part c bs))) (last_of (Part c bs)) (before_more b c bs)))
 
--- and so does the shape of the term, and of the bound
+-- the outline shows the shape of the term, and of the bound
 term_shown : (fs : Parts) → shape_of (term_of fs) ≡ term_shape (before_of fs) (last_of fs)
 term_shown NoParts = refl
 term_shown (Part (Constant c) NoParts) = refl

@@ -10,7 +10,7 @@ use Rattle.cert_lexer.specs.declared.marks.Source.TheVariants as source
 use Rattle.cert_lexer.specs.Packing.{longs_at, longs_behind, longs_taken, next_at, short_inner, shorts_at, shorts_behind}
 use Rattle.cert_lexer.specs.Packing.{shorts_taken, mark_source, unpacked}
 
--- with one more mark, behind a mark whose piece is found there
+-- one more mark, after which the piece of the mark is found
 one_pushed : (ms : List Mark) (es : List Short) (el : List Inner) (m : Mark)
     → ((ss : List Short) (ls : List Inner) → shorts_taken ms ≡ length ss → longs_taken ms ≡ length ls
     → unpacked (ms ++ m ∷ []) (ss ++ es) (ls ++ el) ≡ unpacked ms ss ls ++ next_at (mark_source m) es el ∷ [])
@@ -37,7 +37,7 @@ unpacked_push [] es el m [] (l ∷ ls) e f = absurd (omega (arith, f))
 unpacked_push (x ∷ ms) es el m ss ls e f =
     one_pushed ms es el m (λ ss ls e f. unpacked_push ms es el m ss ls e f) (mark_source x) ss ls e f
 
--- what marks take, with one more
+-- the number of short and long pieces of marks, with one more
 pub shorts_more : (ms : List Mark) (m : Mark) → shorts_taken (ms ++ m ∷ []) ≡ shorts_taken ms + shorts_at (mark_source m)
 shorts_more [] m = omega arith
 shorts_more (x ∷ ms) m = let ih = shorts_more ms m in omega (arith, ih)
@@ -46,12 +46,12 @@ pub longs_more : (ms : List Mark) (m : Mark) → longs_taken (ms ++ m ∷ []) �
 longs_more [] m = omega arith
 longs_more (x ∷ ms) m = let ih = longs_more ms m in omega (arith, ih)
 
--- as many pieces as marks
+-- there are as many pieces as marks
 pub unpacked_length : (ms : List Mark) (ss : List Short) (ls : List Inner) → length (unpacked ms ss ls) ≡ length ms
 unpacked_length [] ss ls = refl
 unpacked_length (m ∷ ms) ss ls = ap suc (unpacked_length ms (shorts_behind (mark_source m) ss) (longs_behind (mark_source m) ls))
 
--- with none behind them they are the same
+-- appending the empty list changes nothing
 append_none : {X : Type 0} (xs : List X) → xs ++ [] ≡ xs
 append_none [] = refl
 append_none (x ∷ xs) = ap (λ (ys : List _). x ∷ ys) (append_none xs)
@@ -94,7 +94,7 @@ known_taken true ms new m x k e =
     let j = ap longs_at k in
     (omega (arith, a, c, i), omega (arith, b, d, j))
 
--- and the mark of a short or of a long one takes one
+-- the mark of a short piece or of a long one takes one piece
 pub short_taken : (ms : List Mark)
     → (shorts_taken (ms ++ mark.Short ∷ []) ≡ shorts_taken ms + 1) × (longs_taken (ms ++ mark.Short ∷ []) ≡ longs_taken ms)
 short_taken ms = let c = shorts_more ms mark.Short in let d = longs_more ms mark.Short in (omega (arith, c), omega (arith, d))

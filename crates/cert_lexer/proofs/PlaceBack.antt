@@ -27,7 +27,7 @@ use Rattle.cert_lexer.specs.Lexing.{behind_dot, behind_last_dot, goes_on, is_fir
 use Rattle.cert_lexer.specs.Lexing.{plain_lexeme, symbol_of}
 use Rattle.cert_lexer.proofs.CutBack.{plain_no_first, plain_no_place}
 
--- the bytes before the last dot, the dot, and the bytes behind it
+-- the bytes before the last dot, the dot, and the bytes after it
 before_dot : (o : Option (List ℕ)) (run after : List ℕ) → behind_last_dot o run ≡ Some after
     → ((front : List ℕ) × (run ≡ front ++ 46 ∷ after)) ⊎ (o ≡ Some after)
 before_dot o [] after h = inr h
@@ -50,7 +50,7 @@ pub record IsPlaceText (symbols : List NameBytes) (symbol n : ℕ) (run : List �
   pub run_is : run ≡ front ++ 46 ∷ decimal n
   pub found : symbol_of symbols front ≡ symbol
 
--- what digits are, where they are a number that isn't too large
+-- the digits of a number that isn't too large
 number_text : (after : List ℕ) (n : ℕ) → n < 2 ^ 127 → list_all is_ascii_digit after ≡ true
     → behind_dot after ≡ behind.Number n → decimal n ≡ after
 number_text [] n small all h = cc
@@ -67,7 +67,7 @@ number_text (b ∷ bytes) n small all h = go (has_leading_zero (b ∷ bytes)) re
         let low : digits_value 10 (b ∷ bytes) < 10 ^ 64 = omega (arith, same, small) in
         ap decimal (sym same) ∙ numeral_of b bytes t.0 t.1 e low
 
--- a place with a number is written so
+-- the text of a place with a number
 pub place_written : (symbols : List NameBytes) (run : List ℕ) (symbol n : ℕ) → n < 2 ^ 127
     → place_in symbols run (behind_last_dot None run) ≡ Place symbol (behind.Number n) → IsPlaceText symbols symbol n run
 place_written symbols run symbol n small h = go (behind_last_dot None run) refl h

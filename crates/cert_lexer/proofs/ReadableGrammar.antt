@@ -179,7 +179,7 @@ up_to_46 = (refl, up_to_45)
 up_to_47 : Below 47 At
 up_to_47 = (refl, up_to_46)
 
--- the end can come behind the text, the text can be completed, and the piece of each class belongs to it
+-- the end can follow the text, the text can be completed, and the sample piece of each class belongs to it
 ends : is_flagged (follows proof_grammar 46) 0 ≡ true
 ends = refl
 

@@ -1,4 +1,4 @@
--- Marks before the first part that is too deep, with others behind them or a level deeper.
+-- The marks before the first part that is too deep, with others after them or one level deeper.
 use Rattle.std.proofs.Common.{◌≡◌, ℕ, zero, suc, ◌<◌, ◌≤◌, ◌-◌, ◌^◌, min, Bool, true, false, cond, nat_lt, [], ◌∷◌, ◌++◌}
 use Rattle.std.proofs.Common.{length, take, drop, Option, Some, None, refl, ap, sym, ◌∙◌, arith}
 use Rattle.std.specs.Prelude.{◌||◌}
@@ -8,7 +8,7 @@ use Rattle.bound_text.specs.Inside.{Marks}
 use Rattle.cert_lexer.specs.Levels.{capped, has_deep, is_deep, raised, raised_from, shallow}
 use Rattle.cert_lexer.specs.Shadows.{Held}
 
--- behind a part that is too deep nothing is kept
+-- no mark after a part that is too deep is stored
 pub shallow_deep : (ms ys : Marks) → has_deep ms ≡ true → shallow (ms ++ ys) ≡ shallow ms
 shallow_deep [] ys e = cc
 shallow_deep (m ∷ ms) ys e = go (is_deep m) e (λ k. shallow_deep ms ys k)
@@ -18,7 +18,7 @@ shallow_deep (m ∷ ms) ys e = go (is_deep m) e (λ k. shallow_deep ms ys k)
     go true e ih = refl
     go false e ih = ap (λ (xs : Marks). m ∷ xs) (ih e)
 
--- and before one everything is
+-- all marks before one are stored
 shallow_all : (ms ys : Marks) → has_deep ms ≡ false → shallow (ms ++ ys) ≡ shallow ms ++ shallow ys
 shallow_all [] ys e = refl
 shallow_all (m ∷ ms) ys e = go (is_deep m) e (λ k. shallow_all ms ys k)
@@ -37,7 +37,7 @@ has_both (m ∷ ms) ys = go (is_deep m) (has_both ms ys)
     go true ih = refl
     go false ih = ih
 
--- a mark behind one that is too deep
+-- a mark after one that is too deep
 pub held_skip : (kept : Marks) (marks : Marks) (m : Option ℕ) (deep : Bool) → deep ≡ true → Held kept deep marks
     → Held kept deep (marks ++ m ∷ [])
 held_skip kept marks m deep e h = record {
@@ -59,7 +59,7 @@ held_deep kept marks m deep e d h = record {
     append_none [] = refl
     append_none (x ∷ xs) = ap (λ (ys : Marks). x ∷ ys) (append_none xs)
 
--- and one that isn't
+-- a mark that isn't too deep
 pub held_more : (kept new : Marks) (marks : Marks) (m : Option ℕ) (deep : Bool) → deep ≡ false → is_deep m ≡ false
     → new ≡ kept ++ m ∷ [] → Held kept deep marks → Held new deep (marks ++ m ∷ [])
 held_more kept new marks m deep e d n h = record {
@@ -88,7 +88,7 @@ pub capped_none : (m : Option ℕ) → None ≡ option_map capped m → (is_deep
 capped_none None e = (refl, refl)
 capped_none (Some level) e = cc
 
--- what is too deep stays so a level deeper
+-- a part that is too deep stays so one level deeper
 deeper_stays : (m : Option ℕ) → is_deep m ≡ true → is_deep (option_map suc m) ≡ true
 deeper_stays None e = cc
 deeper_stays (Some level) e = let t : nat_lt 200 (suc level) ≡ true = grind (arith, nat_tests) in t
@@ -143,7 +143,7 @@ from_has (suc n) (m ∷ ms) = go (is_deep m) refl (from_has n ms)
         ap (λ (v : Bool). v || has_deep (raised_from n ms)) e ∙ ih
         ∙ ap (λ (v : Bool). (v || has_deep (raised_from n (shallow ms))) || has_deep ms) (sym e)
 
--- what is kept has nothing too deep in it
+-- no stored mark is too deep
 kept_shallow : (k : ℕ) (ms : Marks) → shallow (take k (shallow ms)) ≡ take k (shallow ms)
 kept_shallow zero ms = refl
 kept_shallow (suc k) [] = refl
@@ -170,7 +170,7 @@ from_parts (suc n) (m ∷ ms) =
     let e : min (suc (length ms)) (suc n) ≡ suc (min (length ms) n) = omega arith in
     ap (λ (xs : Marks). m ∷ xs) (from_parts n ms) ∙ ap (λ (k : ℕ). take k (m ∷ ms) ++ raised (drop k (m ∷ ms))) (sym e)
 
--- what is kept of the marks before a piece
+-- the stored marks before a piece
 pub held_front : (old front : Marks) (deep : Bool) (marks : Marks) (k : ℕ) → Held old deep marks → front ≡ take k old → Held front false front
 held_front old front deep marks k h e =
     let same : front ≡ take k (shallow marks) = e ∙ ap (take k) h.kept in
@@ -179,7 +179,7 @@ held_front old front deep marks k h e =
       deep = sym (ap has_deep same ∙ kept_none k marks);
     }
 
--- with those behind it a level deeper they are those of all
+-- with the marks after it raised by one level they are those of all
 pub held_raised : (old front tail new : Marks) (deep now : Bool) (marks : Marks) (start at : ℕ) → length old < 2 ^ 64 → start ≡ capped at
     → Held old deep marks → front ≡ take (min (length old) start) old → tail ≡ drop (min (length old) start) old
     → Held new now (front ++ raised tail) → Held new (now || deep) (raised_from at marks)

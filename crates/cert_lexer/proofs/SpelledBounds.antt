@@ -63,7 +63,7 @@ first_none test k ks h = go (test k) refl h
     go true e h = cc
     go false e h = (e, h)
 
--- what is no piece of a text leads nowhere
+-- a piece that is in no text is rejected
 wrong_none : (f g : Front) → step f Wrong ≡ Some g → ⊥
 wrong_none f g h = go f.position h
   where
@@ -90,7 +90,7 @@ caret_piece Blank h = cc
 caret_piece Comma h = cc
 caret_piece Wrong h = cc
 
--- what reading holds fast, levels aside
+-- the conditions that reading keeps, apart from levels
 record Holds (n : ℕ) (f : Front) (ps : List Piece) : Type 0 where
   pub kept : KeptFront n f
   pub nodes : nodes_of f ≤ node_limit
@@ -202,7 +202,7 @@ module _ (n len : ℕ) (b : Bound) where
         kept,
       )
 
-  -- the same along all pieces
+  -- the law above along all pieces
   comes : (ts done : List (Token Piece)) (f : Front) → reached (bounds n) (pieces done) ≡ Some f
       → Holds n f (pieces ts) → run (bounds_in n) len (Going None done f) ts ≡ Stands b
       → AllPiecesKept n (pieces ts) × Ended n b (onto ts done)
@@ -254,7 +254,7 @@ module _ (n len : ℕ) (b : Bound) where
           let r = ih g w.0 w.1 s in
           ((w.2, r.0), r.1)
 
--- what a bound is that is answered
+-- the properties of an answered bound
 pub record IsAnswered (n : ℕ) (b : Bound) (ps : List Piece) : Type 0 where
   pub tidy : IsTidy b
   pub listed : ReadsBelow n b

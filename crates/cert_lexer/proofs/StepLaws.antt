@@ -1,4 +1,4 @@
--- What one step of reading a bound comes to.
+-- The result of one step of reading a bound.
 use Rattle.std.proofs.Common.{◌≡◌, ℕ, Bool, true, false, cond, List, Option, Some, None, refl, ap, sym, subst, ◌∙◌}
 use Rattle.std.specs.Prelude.{IsTrue, Result, Ok, Err}
 use Rattle.std.specs.Option.{option_map}
@@ -64,7 +64,7 @@ steps_led n f p behind r result u first_refusal early large is follows t e l =
           ∙ sym (first_kind_of (stands n f p behind kinds.Syntax) (stands n f p behind kinds.NumberTooLarge) (stands n f p behind kinds.UnknownName) (has_many (step f p))),
     )
 
--- or it can't follow
+-- a piece that can't follow
 pub steps_off : (n : ℕ) (f : Front) (p : Piece) (behind : List Piece) (r : Reader) (result : Result (Unit {0}) Fault) → result ≡ Err faults.Syntax
     → Follows (limited_step f p) r result → Keeps f r result → Steps n f p behind r Off
 steps_off n f p behind r result is follows keeps =

@@ -8,7 +8,7 @@ levels : LevelsAreWorkedOut
 unfolding faults_at
 levels = record { deepest = refl; one_deeper = refl; pushed_down = refl; unlisted = refl; twice = refl }
 
--- which of two comes first
+-- which of two refusals is reported
 order : OrderIsWorkedOut
 order = record {
   position = refl;

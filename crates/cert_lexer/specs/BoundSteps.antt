@@ -44,7 +44,7 @@ Steps n f piece behind r (Led first_refusal) =
     × (first_refusal ≡ option_map kind_of (first_of (stands n f piece behind) other_kinds))
 Steps n f piece behind r Off = (limited_step f piece ≡ None) × (front_of r ≡ f) × IsTrue (is_fresh r)
 
--- the first of a refusal so far and of the parts that are too deep, behind this many pieces
+-- the first of a refusal so far and of those of the parts that are too deep, after this many pieces
 pub record TellsDeep (f : Front) (best : Option (code_fault.Fault ProofKind)) (count : ℕ)
     (first_refusal : Option (code_fault.Fault ProofKind)) : Type 0 where
   pub each : (n : ℕ) (xs : List Inner) → length xs ≡ count
@@ -85,7 +85,7 @@ ended_with None (Some b) at = Stands b
 ended_with None None at = Refused (or_syntax None at)
 ended_with (Some x) b at = Refused x
 
--- the answer to a bound that breaks off behind this many pieces: the first refusal so far with those of parts that are
+-- the answer to a bound that breaks off after this many pieces: the first refusal so far with those of parts that are
 -- too deep, or else `Syntax` there
 pub record BreaksOff (f : Front) (best : Option (code_fault.Fault ProofKind)) (count : ℕ) (result : code.BoundRead)
     : Type 0 where
@@ -94,7 +94,7 @@ pub record BreaksOff (f : Front) (best : Option (code_fault.Fault ProofKind)) (c
   pub before : IsBefore count first_refusal
   pub is : answer_of result ≡ Refused (or_syntax (fault_of first_refusal) count)
 
--- and one that ends there
+-- the answer to a bound that ends there
 pub record Ends (f : Front) (best : Option (code_fault.Fault ProofKind)) (count : ℕ) (result : code.BoundRead)
     : Type 0 where
   pub first_refusal : Option (code_fault.Fault ProofKind)

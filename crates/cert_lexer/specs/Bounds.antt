@@ -67,7 +67,7 @@ against_next n f [] = []
 against_next n f (t ∷ rest) =
     refusals (option_map kind_of (first_of (stands n f t.piece (pieces rest)) other_kinds)) t.at
 
--- bounds over n start arguments inside a proof. Behind a number that is too large it is read on with a smaller one, as
+-- bounds over n start arguments inside a proof. After a number that is too large it is read on with a smaller one, as
 -- `limited_step` has it, which leads on where it does, with parts as deep
 abbrev pub bounds_in : ℕ → Reader Piece Bound Front ProofKind
 bounds_in n = record {
@@ -94,8 +94,7 @@ pub record BoundsStand : Type 0 where
   pub each : (n : ℕ) (b : Bound) (xs : List Inner) → IsTidy b → ReadsBelow n b → IsWithin b
       → map (λ x. piece_of x.piece) xs ≡ pieces_of b → bound_answer n xs ≡ Stands b
 
--- and the other way round: a bound that is the answer to pieces is tidy, within the limits, over n start arguments, and
--- spelled by them
+-- a bound that is the answer to pieces is tidy, within the limits, over n start arguments, and spelled by them
 pub record IsSpelled (n : ℕ) (b : Bound) (xs : List Inner) : Type 0 where
   pub tidy : IsTidy b
   pub listed : ReadsBelow n b

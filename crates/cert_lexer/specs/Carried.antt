@@ -31,12 +31,12 @@ abbrev pub IsTree : Front → Option Reader → Type 0
 IsTree f None = ⊤
 IsTree f (Some r) = (front_of r ≡ f) × IsTrue (is_settled r)
 
--- it is settled
+-- the state of the tree is settled, if there is a tree
 abbrev pub IsSettledTree : Option Reader → Type 0
 IsSettledTree None = ⊤
 IsSettledTree (Some r) = IsTrue (is_settled r)
 
--- what has been read is carried
+-- the code's state represents the pieces read so far
 pub record Carries (f : Front) (s : Reading) : Type 0 where
   pub shadows : Shadows f s.follower
   pub tree : IsTree f s.reader
@@ -46,26 +46,26 @@ abbrev pub refusal_with : Bool → Option ProofKind → Option ProofKind
 refusal_with false first_refusal = None
 refusal_with true first_refusal = first_refusal
 
--- what a piece leads to, and its fault, where this was the tree
+-- the state after a piece, and its fault, if this was the tree
 abbrev pub StepsOn : ℕ → Front → Piece → List Piece → Option Reader → Reading → StepResult → Type 0
 StepsOn n f piece behind before s (Led first_refusal) =
     (g : Front) × (limited_step f piece ≡ Some g) × Carries g s × (has_reader s.reader ≡ has_reader before)
     × (first_refusal ≡ refusal_with (has_reader before) (option_map kind_of (first_of (stands n f piece behind) other_kinds)))
 StepsOn n f piece behind before s Off = (limited_step f piece ≡ None) × Shadows f s.follower
 
--- where there is no tree any more, something is refused behind this many pieces
+-- where there is no tree any more, a piece is refused among this many
 abbrev pub IsToldWithout : Front → Option (code_fault.Fault ProofKind) → ℕ → Reading → Type 0
 IsToldWithout f best count s =
     has_reader s.reader ≡ false → (first_refusal : Option (code_fault.Fault ProofKind)) → TellsDeep f best count first_refusal
     → is_some first_refusal ≡ true
 
--- behind a part that is too deep every other refusal is behind it
+-- after a part that is too deep every other refusal is after it
 pub record IsBehindDeep (f : Front) (first_refusal : Option (Fault ProofKind)) : Type 0 where
   pub deep : has_deep (front_marks f) ≡ true
   pub behind : IfSome first_refusal (λ x. length (shallow (front_marks f)) < x.at)
 
--- the first refusal so far as the code has it, by whether there is a tree: none, that of the definition, or none behind
--- a part that is too deep
+-- the first refusal so far in the code, by whether there is a tree: none, that of the definition, or none after a part
+-- that is too deep
 abbrev pub Agrees : Front → Option (Fault ProofKind) → Option (code_fault.Fault ProofKind) → Bool → Type 0
 Agrees f first_refusal best true = (first_refusal ≡ None) × (best ≡ None)
 Agrees f first_refusal best false =

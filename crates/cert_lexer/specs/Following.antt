@@ -13,7 +13,7 @@ use Rattle.cert_lexer.specs.Outlines.{frames_of, innermost_of, innermost_frame, 
 use Rattle.cert_lexer.specs.Levels.{begun_of, before_term, marks_behind, begun_behind}
 use Rattle.bound_text.specs.Fronts.{sum_at}
 
--- the position can be behind these factors
+-- the position can come after these factors
 abbrev pub Stands : Position → Parts → Type 0
 Stands (RunCaret i) fs = is_input i (last fs) ≡ false
 Stands ItemRead fs = is_empty fs ≡ false
@@ -32,7 +32,7 @@ begun_in f = record {
   start = length (before_term f.outer (sum_at f.position f.outer f.terms) f.terms);
 }
 
--- with a piece a front becomes another, and its outline, its marks and its begun bounds what a lead says
+-- a piece leads from one state to another, whose outline, marks and unfinished bounds are those of a lead
 pub record Follows (f : Front) (piece : Piece) (g : Front) (l : Lead) : Type 0 where
   pub innermost : innermost_of g ≡ l.innermost
   pub frames : frames_of g.outer ≡ frames_behind l.change (frames_of f.outer)
@@ -43,14 +43,14 @@ pub record Follows (f : Front) (piece : Piece) (g : Front) (l : Lead) : Type 0 w
       (begun_of f)
   pub standing : IsStanding g
 
--- a front and an outline are led on together, or both aren't
+-- a state and an outline both accept a piece, or both reject it
 abbrev pub FollowsWhere : Front → Piece → Option Front → Option Lead → Type 0
 FollowsWhere f piece None None = ⊤
 FollowsWhere f piece (Some g) (Some l) = Follows f piece g l
 FollowsWhere f piece None (Some l) = ⊥
 FollowsWhere f piece (Some g) None = ⊥
 
--- what is carried is led on where its outline is, and outline, marks and begun bounds follow it
+-- a state accepts the pieces that its outline accepts, and outline, marks and unfinished bounds follow it
 pub record OutlinesLead : Type 0 where
   pub each : (f : Front) (piece : Piece) → IsStanding f
       → FollowsWhere f piece (limited_step f piece)

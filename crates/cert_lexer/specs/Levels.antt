@@ -25,7 +25,7 @@ use Rattle.cert_lexer.specs.declared.outline.Change.TheVariants as change
 abbrev pub raised : Marks → Marks
 raised marks = map (option_map suc) marks
 
--- the same from a piece on
+-- the marks from a piece on, one level deeper
 abbrev pub raised_from : ℕ → Marks → Marks
 raised_from zero marks = raised marks
 raised_from (suc n) [] = []
@@ -71,7 +71,7 @@ is_product (Some before) last = true
 is_product None (Some shape.Sum) = true
 is_product None last = false
 
--- the level of a factor of the current term, inside so many levels, where a product's node counts or doesn't
+-- the level of a factor of the current term, inside this many levels, where a product's node counts or doesn't
 abbrev pub factor_level : ℕ → Option Frame → Innermost → Bool → ℕ
 factor_level above round i product =
     suc (above + node_if (not (is_factor_frame round) && i.terms) + node_if product)
@@ -80,7 +80,7 @@ factor_level above round i product =
 abbrev pub item_level : ℕ → Option Frame → Innermost → ℕ
 item_level above round i = factor_level above round i (is_some i.last)
 
--- the mark of a piece, by what was read last
+-- the mark of a piece, by the part that was read last
 abbrev pub mark_at : Stage → ℕ → Option Frame → Innermost → Piece → Option ℕ
 mark_at stage.Begins above round i Open = Some (factor_level above round i true)
 mark_at stage.Begins above round i piece = Some (item_level above round i)
@@ -123,7 +123,7 @@ abbrev pub begun_inside : Opening → ℕ → Option Frame → Innermost → Lis
 begun_inside belongs next round i bs =
     record { above = above_in belongs (first_begun bs).above round i; start = next } ∷ bs
 
--- the bounds that aren't done behind a change, where the next piece has this number
+-- the unfinished bounds after a change, if the next piece has this number
 abbrev pub begun_behind : Change → ℕ → Option Frame → Innermost → List OpenPart → List OpenPart
 begun_behind change.Keep next round i bs = bs
 begun_behind change.Term next round i bs = term_begins next bs
@@ -140,7 +140,7 @@ opens (change.Open frame) = true
 opens change.Close = false
 opens change.Argue = false
 
--- the marks behind a piece, where the innermost bound is this one
+-- the marks after a piece, if the innermost bound is this one
 abbrev pub marks_behind : OpenPart → Option Frame → Innermost → Piece → Marks → Marks
 marks_behind b round i piece marks =
     (if raises round i piece then raised_from b.start marks else marks) ++ mark_of b.above round i piece ∷ []

@@ -33,7 +33,7 @@ pub record Spelled : Type 0 where
 abbrev pub spelled : NameBytes → Word → Spelled
 spelled bytes w = record { bytes = bytes; word = w }
 
--- the words of proof files: those with which lines and nodes begin, those of what nodes hold, and those of gaps
+-- the words of proof files: those that begin lines and nodes, those within nodes, and those of gaps
 abbrev pub node_words : List Spelled
 node_words =
     spelled (codes "lemma") word.Lemma ∷
@@ -68,16 +68,16 @@ other_words =
     spelled (codes "kept") word.Kept ∷
     []
 
--- which of these words a name is, if it is one, or else what it is otherwise
+-- the word among these that a name is, if it is one, or else the other
 abbrev pub word_among : List Spelled → Word → NameBytes → Word
 word_among [] other name = other
 word_among (w ∷ ws) other name = if is_same name w.bytes then w.word else word_among ws other name
 
--- which word a name is, if it is one
+-- the word that a name is, if it is one
 abbrev pub word_of : NameBytes → Word
 word_of name = word_among node_words (word_among other_words word.Other name) name
 
--- the position of a name among others, or behind the last; those from 2^32-1 on count as that
+-- the position of a name in a list, or the list's length; positions from 2^32-1 on count as that one
 abbrev pub symbol_of : List NameBytes → NameBytes → ℕ
 symbol_of names name = min (position_of name names) (2 ^ 32 - 1)
 
@@ -85,16 +85,16 @@ symbol_of names name = min (position_of name names) (2 ^ 32 - 1)
 abbrev pub lexeme : Piece → ℕ → Lexeme (Option Piece)
 lexeme piece len = record { piece = Some piece; len = len }
 
--- what a name is, among the names of symbols
+-- the lexeme of a name, among the names of symbols
 abbrev pub name_lexeme : List NameBytes → NameBytes → Lexeme (Option Piece)
 name_lexeme symbols name = lexeme (Name (word_of name) (symbol_of symbols name)) (length name)
 
--- what digits are
+-- the lexeme of digits
 abbrev pub digits_lexeme : List ℕ → Lexeme (Option Piece)
 digits_lexeme digits =
     lexeme (if has_leading_zero digits then Wrong else Number (value_up_to cap digits)) (length digits)
 
--- what any other byte is
+-- the lexeme of any other byte
 abbrev pub sign_at : ℕ → Piece
 sign_at b =
     if b == 32 then ASign sign.Blank
@@ -118,7 +118,7 @@ plain_lexeme symbols b bytes =
     else if is_ascii_digit b then digits_lexeme (b ∷ prefix is_ascii_digit bytes)
     else lexeme (sign_at b) 1
 
--- some bytes go on as a name
+-- whether bytes continue a name
 abbrev pub goes_on : List ℕ → Bool
 goes_on [] = false
 goes_on (b ∷ bytes) = continues_name b
@@ -128,19 +128,19 @@ abbrev pub is_first : List ℕ → Bool
 is_first bytes =
     nat_le 10 (length bytes) && is_same (take 10 bytes) (codes "koat-proof") && not (goes_on (drop 10 bytes))
 
--- the bytes behind the last dot, or else behind the last one before them
+-- the bytes after the last dot, or else those given
 abbrev pub behind_last_dot : Option (List ℕ) → List ℕ → Option (List ℕ)
 behind_last_dot before [] = before
 behind_last_dot before (b ∷ bytes) = behind_last_dot (if b == 46 then Some bytes else before) bytes
 
--- what digits behind a dot say
+-- the meaning of the digits after a dot
 abbrev pub behind_dot : List ℕ → Behind
 behind_dot [] = behind.Nothing
 behind_dot (b ∷ bytes) =
     if has_leading_zero (b ∷ bytes) then behind.LeadingZero else behind.Number (value_up_to cap (b ∷ bytes))
 
--- which place a run is: the symbol before its last dot and the digits behind it; a run with no dot, or with other bytes
--- behind it, is a name
+-- the place that a run denotes: the symbol before its last dot and the digits after it; a run without a dot, or with
+-- other bytes after it, is a name
 abbrev pub place_in : List NameBytes → List ℕ → Option (List ℕ) → Piece
 place_in symbols run None = Place (symbol_of symbols run) behind.NoNumber
 place_in symbols run (Some after) =
@@ -152,12 +152,12 @@ abbrev pub place_lexeme : List NameBytes → List ℕ → Lexeme (Option Piece)
 place_lexeme symbols run = lexeme (place_in symbols run (behind_last_dot None run)) (length run)
 
 -- the variable of a name at a position among n start arguments; each occurrence of a name that is none of them is a
--- variable of its own, as far behind the last of them as the number of pieces of the bound before it; variables from
+-- variable of its own, as far after the last of them as the number of pieces of the bound before it; variables from
 -- 2^32-1 on count as that one
 abbrev pub variable_at : ℕ → ℕ → ℕ → ℕ
 variable_at n before i = min (if nat_lt i n then i else i + before) (2 ^ 32 - 1)
 
--- a piece of a bound over n start arguments, behind this many others
+-- a piece of a bound over n start arguments, after this many others
 abbrev pub bound_piece : ℕ → ℕ → pieces.Piece → BoundPiece
 bound_piece n before (pieces.Variable i) = bound.Variable (variable_at n before i)
 bound_piece n before (pieces.Number value) = bound.Number value
@@ -180,14 +180,14 @@ abbrev pub ends_before : ℕ → List ℕ → Bool
 ends_before depth [] = true
 ends_before depth (b ∷ bytes) = ends_bound depth b
 
--- how many brackets are open behind a piece of a bound; 2^64 open ones count as one less
+-- the number of open brackets after a piece of a bound, at most 2^64-1
 abbrev pub depth_behind : ℕ → BoundPiece → ℕ
 depth_behind depth bound.Open = min (depth + 1) (2 ^ 64 - 1)
 depth_behind depth bound.Maximum = min (depth + 1) (2 ^ 64 - 1)
 depth_behind depth bound.Close = depth - 1
 depth_behind depth piece = depth
 
--- how many pieces of a bound come before the next one, behind one that is the last or isn't; 2^64 count as one less
+-- the number of pieces of a bound before the next one, after a piece that is the last or isn't, at most 2^64-1
 abbrev pub pieces_behind : ℕ → Bool → ℕ
 pieces_behind before true = 0
 pieces_behind before false = min (before + 1) (2 ^ 64 - 1)
@@ -196,7 +196,7 @@ pieces_behind before false = min (before + 1) (2 ^ 64 - 1)
 abbrev pub inner_lexeme : ℕ → List ℕ → BoundPiece → ℕ → Lexeme (Option Piece)
 inner_lexeme depth behind piece len = lexeme (InBound piece len (ends_before (depth_behind depth piece) behind)) len
 
--- the piece of a bound over n start arguments that bytes begin with, behind this many others
+-- the first piece of a bound over n start arguments in bytes, after this many others
 abbrev pub bound_lexeme : ℕ → ℕ → ℕ → List ℕ → Lexeme pieces.Piece → Lexeme (Option Piece)
 bound_lexeme n depth before bytes l = inner_lexeme depth (drop l.len bytes) (bound_piece n before l.piece) l.len
 
@@ -218,13 +218,13 @@ lexeme_in symbols arguments mode.Closed b bytes = plain_lexeme symbols b bytes
 lexeme_in symbols arguments mode.ClosedBlank b bytes = plain_lexeme symbols b bytes
 lexeme_in symbols arguments mode.To b bytes = plain_lexeme symbols b bytes
 
--- the mode behind a piece, where nothing was open
+-- the mode after a piece, where no list or bound is open
 abbrev pub plain_behind : Piece → Mode
 plain_behind (Name word.Shut symbol) = mode.InShut
 plain_behind (ASign sign.Close) = mode.Closed
 plain_behind piece = mode.Plain
 
--- the mode behind a piece: a list of shut places continues up to its `]`, and a bound begins behind `) to `
+-- the mode after a piece: a list of shut places continues up to its `]`, and a bound begins after `) to `
 abbrev pub mode_with : Mode → Piece → Mode
 mode_with mode.InShut (ASign sign.CloseSquare) = mode.Plain
 mode_with mode.InShut piece = mode.InShut

@@ -44,20 +44,20 @@ abbrev pub any_factor : Bool → Option Shape
 any_factor false = None
 any_factor true = Some shape.Other
 
--- what comes before the last factor: its exact shape, where a `^` can take the last factor back; else only whether
--- there is something
+-- the factors before the last one: their exact shape, if a `^` can take the last factor back; else only whether there
+-- are some
 abbrev pub before_last : Option Shape → Option Shape → Option Shape
 before_last None before = None
 before_last (Some (shape.Constant base)) before = before
 before_last (Some (shape.Input i)) before = before
 before_last (Some item) before = any_factor (is_some before)
 
--- the same where an item was read last, and nothing elsewhere
+-- the factors before the last one, if an item was read last
 abbrev pub before_at : Position → Parts → Option Shape
 before_at ItemRead fs = before_last (last_of fs) (last_of (init fs))
 before_at position fs = None
 
--- what was read last
+-- the part that was read last
 abbrev pub stage_of : Position → Stage
 stage_of Begins = stage.Begins
 stage_of (RunCaret i) = stage.Run i
@@ -67,7 +67,7 @@ stage_of BlankRead = stage.Blank
 stage_of PlusRead = stage.Plus
 stage_of CommaRead = stage.Comma
 
--- what an open bracket belongs to
+-- the node that an open bracket belongs to
 abbrev pub opening_of : fronts.Bracket → Opening
 opening_of (Arguments bs) = opening.Maximum (not (is_empty bs))
 opening_of (Exponent c) = opening.Exponent
@@ -89,11 +89,11 @@ innermost_of f = record {
   stage = stage_of f.position;
 }
 
--- then an item is the last factor, and the one that was last comes before it
+-- the innermost bound with an item as its last factor, and the one that was last before it
 abbrev pub with_item : Shape → Innermost → Innermost
 with_item item i = record i { before = before_last (Some item) i.last; last = Some item; stage = stage.Item }
 
--- what was read last is no item then
+-- the innermost bound after a part that is no item
 abbrev pub at_stage : Stage → Innermost → Innermost
 at_stage s i = record i { before = None; stage = s }
 
@@ -171,7 +171,7 @@ abbrev pub is_sum_shape : Shape → Bool
 is_sum_shape shape.Sum = true
 is_sum_shape item = false
 
--- whether a bracket can close behind a bound
+-- whether a bracket can close after a bound
 abbrev pub closes_behind : Opening → Shape → Bool
 closes_behind (opening.Maximum some) item = some && not (is_maximum_shape item)
 closes_behind opening.Exponent item = not (is_leaf_shape item)
@@ -183,7 +183,7 @@ item_shape (opening.Maximum some) = shape.Maximum
 item_shape opening.Exponent = shape.Other
 item_shape opening.Factor = shape.Sum
 
--- the innermost bound behind a bracket that closed
+-- the innermost bound after a bracket that closed
 abbrev pub behind_bracket : Frame → Innermost
 behind_bracket frame = record {
   terms = frame.terms;
@@ -213,7 +213,7 @@ abbrev pub ends_argument : Option Frame → Innermost → Bool
 ends_argument round i =
     in_maximum round && (ends_term i.before i.last && not (is_maximum_shape (bound_shape i)))
 
--- what follows an item
+-- the lead of a piece that follows an item
 abbrev pub follows_item : Option Frame → Innermost → Piece → Option Lead
 follows_item round i Times = Some (stays (at_stage stage.Begins i))
 follows_item round i Caret = takes_back i.last i
@@ -231,7 +231,7 @@ abbrev pub ends_comma : Option Frame → Piece → Option Lead
 ends_comma round Blank = when (in_maximum round) (record { innermost = begun; change = change.Argue })
 ends_comma round piece = None
 
--- where a piece leads, inside the innermost open bracket, if one is open
+-- the state after a piece, inside the innermost open bracket, if one is open
 abbrev pub lead_at : Stage → Option Frame → Innermost → Piece → Option Lead
 lead_at stage.Begins round i piece = begins_item i piece
 lead_at (stage.Run v) round i piece = ends_run v i piece
@@ -250,7 +250,7 @@ abbrev pub innermost_frame : List Frame → Option Frame
 innermost_frame [] = None
 innermost_frame (frame ∷ frames) = Some frame
 
--- the open brackets behind a change
+-- the open brackets after a change
 abbrev pub frames_behind : Change → List Frame → List Frame
 frames_behind change.Keep frames = frames
 frames_behind change.Term frames = frames

@@ -38,7 +38,7 @@ short_piece short.Wrong value = bound.Wrong
 abbrev pub short_inner : Short → Inner
 short_inner s = inner_with (short_piece s.kind s.value) s.len
 
--- the next short one and the next long one; where there is none, a piece of no bytes stands for it
+-- the next short piece and the next long one; if there is none, a piece of no bytes takes its place
 abbrev pub missing : Inner
 missing = inner_with bound.Wrong 0
 
@@ -55,7 +55,7 @@ next_at (source.Known inner) ss ls = inner
 next_at source.Shorts ss ls = next_short ss
 next_at source.Longs ss ls = next_long ls
 
--- those behind the next one
+-- the pieces after the next one
 abbrev pub tail_of : {X : Type 0} → List X → List X
 tail_of [] = []
 tail_of (x ∷ xs) = xs

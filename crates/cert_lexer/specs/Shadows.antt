@@ -37,13 +37,13 @@ begun_in l = onto l.begun.items []
 abbrev pub capped_begun : OpenPart → OpenPart
 capped_begun b = record { above = capped b.above; start = capped b.start }
 
--- the current terms of bounds begin behind the first part that is too deep, so that what is raised there isn't kept
+-- the current terms of bounds begin after the first part that is too deep, so that marks raised there aren't stored
 abbrev pub AreBehind : Marks → List OpenPart → Type 0
 AreBehind marks [] = ⊤
 AreBehind marks (b ∷ bs) =
     (length (shallow marks) ≤ b.start) × (has_deep marks ≡ true) × AreBehind marks bs
 
--- the code represents these marks, and of these unfinished bounds the outermost; the others begin behind the first part
+-- the code represents these marks, and of these unfinished bounds the outermost; the others begin after the first part
 -- that is too deep
 pub record ShowsLevels (l : Levels) (marks : Marks) (bs : List OpenPart) : Type 0 where
   pub held : Holds l.marked marks
@@ -54,20 +54,20 @@ pub record ShowsLevels (l : Levels) (marks : Marks) (bs : List OpenPart) : Type 
   pub begun : begun_in l ≡ map capped_begun outer
   pub behind : AreBehind marks inner
 
--- and what a piece with a change to the open brackets does to both
+-- the effect on both of a piece that changes the open brackets
 abbrev pub ShowsTaken : Levels → Option Frame → Innermost → Piece → Change → Marks → List OpenPart → Type 0
 ShowsTaken l round i piece change marks bs =
     ShowsLevels l (marks_taken bs round i piece marks)
     (begun_behind change (length (marks_taken bs round i piece marks)) round i bs)
 
--- the code shows the outline and the levels of what has been read
+-- the code represents the outline and the levels of the pieces read so far
 pub record Shadows (f : Front) (s : Follower) : Type 0 where
   pub frames : frames_in s.outline ≡ frames_of f.outer
   pub innermost : s.outline.innermost ≡ innermost_of f
   pub levels : ShowsLevels s.levels (front_marks f) (begun_of f)
   pub standing : IsStanding f
 
--- a piece leads on exactly where the code says so, and it shows where
+-- a piece leads on exactly if the code says so, and it shows where
 abbrev pub Led : Front → Piece → Follower → Bool → Type 0
 Led f piece s true = (g : Front) × (limited_step f piece ≡ Some g) × Shadows g s
 Led f piece s false = (limited_step f piece ≡ None) × Shadows f s

@@ -16,11 +16,11 @@ use Rattle.cert_lexer.specs.declared.piece.Mode.TheVariants as mode
 use Rattle.cert_lexer.specs.declared.piece.Piece.TheVariants.{First}
 use Rattle.cert_lexer.specs.Lexing.{lexeme, plain_lexeme, goes_on, is_first, ends_bound, lexeme_in}
 
--- a lexeme has a byte at least, and no more than so many
+-- a lexeme has a byte at least, and no more than this many
 abbrev Fits : ℕ → Lexeme (Option Piece) → Type 0
 Fits most l = (0 < l.len) × (l.len ≤ most)
 
--- the same for one of two that do
+-- one of two lexemes that fit, chosen by a test, fits
 either_fits : (most : ℕ) (v : Bool) (a b : Lexeme (Option Piece)) → Fits most a → Fits most b → Fits most (cond v a b)
 either_fits most true a b h k = h
 either_fits most false a b h k = k

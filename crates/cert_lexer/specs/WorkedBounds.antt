@@ -57,11 +57,11 @@ refusal kind at = record { kind = kind; at = at }
 pub record LevelsAreWorkedOut : Type 0 where
   pub deepest : too_deep (alone (tower 199)) (counted 0 1000) ≡ []
   pub one_deeper : too_deep (alone (tower 200)) (counted 0 1000) ≡ refusal TooDeep 599 ∷ []
-  -- a part is refused where it begins, as the pieces behind it show
+  -- a part is refused at its beginning, as the pieces after it show
   pub pushed_down : bound_answer 2 (in_exponents 198 (pushed 0 1)) ≡ Refused (refusal TooDeep 595)
   -- two names that aren't listed are two variables
   pub unlisted : bound_answer 2 (in_exponents 198 (pushed 600 602)) ≡ Refused (refusal TooDeep 595)
-  -- and behind a variable it can't follow itself, so that nothing is seen behind it
+  -- a part after a variable can't follow, so the pieces after it aren't examined
   pub twice : bound_answer 2 (in_exponents 198 (pushed 1 1)) ≡ Refused (refusal TooDeep 598)
 
 -- of two refusals, the one at the lesser position comes first, and of two at one position the one that is listed first
@@ -76,7 +76,7 @@ pub record OrderIsWorkedOut : Type 0 where
   pub limit : is_before (bounds_in 1) (refusal Limit 5) (refusal BadReference 5) ≡ false
   pub same : is_before (bounds_in 1) (refusal Limit 5) (refusal Limit 5) ≡ false
 
--- what the refusals of a bound are called in a proof file
+-- the names of a bound's refusals in a proof file
 pub record KindsAreWorkedOut : Type 0 where
   pub name : kind_of kinds.UnknownName ≡ BadReference
   pub size : kind_of kinds.TooLarge ≡ Limit

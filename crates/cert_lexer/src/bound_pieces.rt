@@ -28,7 +28,7 @@ fn sum_of(position: usize, before: u64) -> u32
     sum.min(u64::from(u32::MAX)) as u32
 }
 
-// The variable of a name behind this many pieces: each occurrence of a name that isn't listed is a variable of its own.
+// The variable of a name after this many pieces: each occurrence of a name that isn't listed is a variable of its own.
 fn variable(names: &NameIndex<'_>, before: u64, name: &[u8]) -> u32
     ensures { result ≡ variable_at (length (names_in names.now)) before (position_of name.now (names_in names.now)) }
 {
@@ -38,7 +38,7 @@ fn variable(names: &NameIndex<'_>, before: u64, name: &[u8]) -> u32
     }
 }
 
-// The piece of a name that `behind` follows, behind this many pieces.
+// The piece of a name with the bytes `behind` after it, after this many pieces.
 fn word(names: &NameIndex<'_>, before: u64, name: &[u8], behind: &[u8]) -> BoundLexeme
     ensures piece { result.piece
         ≡ bound_piece (length (names_in names.now)) before (word_at (names_in names.now) name.now behind.now).piece }
@@ -98,8 +98,8 @@ fn mark(byte: u8) -> BoundPiece
     }
 }
 
-/// The piece of a bound that bytes begin with (the first byte is passed separately, too), over arguments with these
-/// names, and behind this many pieces.
+/// The first piece of a bound in bytes (the first byte is passed separately, too), over arguments with these names,
+/// and after this many pieces.
 pub fn bound_lexeme(
     names: &NameIndex<'_>,
     before: u64,

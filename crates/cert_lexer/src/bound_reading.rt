@@ -74,7 +74,7 @@ pub fn read_bound(
     ended(reading, best, pieces.len())
 }
 
-// The refusal of a bound that breaks off behind this many pieces.
+// The refusal of a bound that breaks off after this many pieces.
 fn off(follower: &Follower, best: Option<Fault<ProofKind>>, count: usize) -> BoundRead
     requires before { IsBefore count best }
     ensures { (f : Front) → Shadows f follower.now → BreaksOff f best count result }
@@ -83,7 +83,7 @@ fn off(follower: &Follower, best: Option<Fault<ProofKind>>, count: usize) -> Bou
     BoundRead::Refused(or_syntax(first_refusal, count as u64))
 }
 
-// The result of a bound that ends behind this many pieces.
+// The result of a bound that ends after this many pieces.
 fn ended(
     reading: Reading,
     best: Option<Fault<ProofKind>>,
@@ -140,7 +140,7 @@ fn or_syntax(first_refusal: Option<Fault<ProofKind>>, at: u64) -> Fault<ProofKin
     }
 }
 
-// The first of a refusal so far and of the parts that are too deep, behind this many pieces.
+// The first of a refusal so far and of those of the parts that are too deep, after this many pieces.
 fn refusals_at_end(
     follower: &Follower,
     best: Option<Fault<ProofKind>>,
@@ -171,7 +171,7 @@ fn first_with_deep(best: Option<Fault<ProofKind>>, at: u64) -> Fault<ProofKind>
     }
 }
 
-// Whether a refusal comes behind that of a part that is too deep.
+// Whether a refusal comes after that of a part that is too deep.
 fn comes_behind(fault: Fault<ProofKind>, at: u64) -> bool
     ensures { (n : ℕ) → result ≡ is_before (bounds_in n) (record { kind = TooDeep; at = at }) (refusal_of fault) }
 {

@@ -187,7 +187,7 @@ pub const PROOF_GRAMMAR: [Item; 436] = [
     AMark(mark::INTEGER_COMES), AMade(NUMBER), AMark(mark::INTEGER_READ), AMade(BEHIND_NUMBER), Or,
     AMark(mark::INTEGER_COMES), APiece(MINUS), AMade(POSITIVE), AMark(mark::INTEGER_READ), APiece(BLANK),
     AMade(PARTS), End,
-    // behind number
+    // after number
     APiece(CLOSE_SQUARE), Or, APiece(BLANK), AMade(PARTS), End,
     // bound
     APiece(IN_BOUND), AMade(BOUND), Or, End,

@@ -17,6 +17,6 @@ pub struct Inner {
 pub enum BoundRead {
     /// The bound that its pieces spell.
     Stands(Bound),
-    /// The first refusal, at the number of a piece, counted from 0, or behind the last one.
+    /// The first refusal, at the number of a piece, counted from 0, or after the last one.
     Refused(Fault<ProofKind>),
 }

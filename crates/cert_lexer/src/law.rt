@@ -3,8 +3,8 @@
 ghost use Rattle.cert_lexer.specs.Bounds.{BoundsAreSpelled, BoundsStand};
 ghost use Rattle.cert_lexer.specs.WorkedBounds.{BoundsAreWorkedOut};
 
-/// A tidy bound within the limits is the answer to the pieces that spell it: what is carried on behind numbers that are
-/// too large makes no difference to it. The function has no code: its contract is the law.
+/// A tidy bound within the limits is the answer to the pieces that spell it: the state carried on after numbers that
+/// are too large doesn't affect it. The function has no code: its contract is the law.
 pub fn bounds_stand()
     ensures { BoundsStand }
 {}

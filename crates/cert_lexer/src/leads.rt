@@ -27,7 +27,7 @@ fn any_factor(some: bool) -> Option<Shape>
     if some { Some(Shape::Other) } else { None }
 }
 
-// What comes before the last factor.
+// The factors before the last one.
 fn before_last(last: Option<Shape>, before: Option<Shape>) -> Option<Shape>
     ensures { result ≡ plain.before_last last before }
 {
@@ -58,7 +58,7 @@ fn term_shape(before: Option<Shape>, last: Option<Shape>) -> Shape
     }
 }
 
-// Whether a bracket can close behind a bound of a shape.
+// Whether a bracket can close after a bound of a shape.
 fn closes_behind(opening: Opening, shape: Shape) -> bool
     ensures { result ≡ plain.closes_behind opening shape }
 {
@@ -270,7 +270,7 @@ impl Innermost {
         in_maximum(round) && self.ends_term() && !matches!(self.bound_shape(), Shape::Maximum)
     }
 
-    // The state behind a piece that follows an item.
+    // The state after a piece that follows an item.
     fn follows_item(self, round: Option<Frame>, piece: BoundPiece) -> Option<Lead>
         ensures { result ≡ plain.follows_item round self (piece_of piece) }
     {
@@ -284,7 +284,7 @@ impl Innermost {
         }
     }
 
-    // Behind the `+` of ` + `.
+    // After the `+` of ` + `.
     fn ends_plus(self, piece: BoundPiece) -> Option<Lead>
         ensures { result ≡ plain.ends_plus (piece_of piece) }
     {
@@ -305,7 +305,7 @@ impl Innermost {
         }
     }
 
-    // Behind the `,` of `, `.
+    // After the `,` of `, `.
     fn ends_comma(self, round: Option<Frame>, piece: BoundPiece) -> Option<Lead>
         ensures { result ≡ plain.ends_comma round (piece_of piece) }
     {
@@ -338,7 +338,7 @@ impl Innermost {
 }
 
 impl Frame {
-    // The innermost bound behind the bracket.
+    // The innermost bound after the bracket.
     fn behind(self) -> Innermost
         ensures { result ≡ plain.behind_bracket self }
     {

@@ -31,9 +31,8 @@ pub(crate) struct PartLevels {
     pub deep: bool,
 }
 
-/// The levels of what has been read; the number of its pieces, up to 2^64-1; and of the bounds that aren't finished
-/// those that began before the first part that is too deep, or with it, the outermost first. Those inside them change
-/// no level that is kept.
+/// The levels of the pieces read so far; their number, up to 2^64-1; and of the unfinished bounds those that began
+/// before the first part that is too deep, or with it, the outermost first. Those inside them change no stored level.
 #[derive(Drop)]
 pub(crate) struct Levels {
     pub marked: PartLevels,
@@ -153,7 +152,7 @@ fn either(first: bool, second: bool) -> bool
 }
 
 impl PartLevels {
-    /// Puts a mark behind the others.
+    /// Appends a mark.
     ///
     /// # Errors
     ///

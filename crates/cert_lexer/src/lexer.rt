@@ -76,7 +76,7 @@ impl<'a> ProofLexer<'a> {
         }
     }
 
-    // The place of a symbol that a run of bytes represents, given the bytes behind its last dot.
+    // The place of a symbol that a run of bytes represents, given the bytes after its last dot.
     fn place_behind(&self, run: &[u8], after: &[u8]) -> Piece
         requires { length after.now < length run.now }
         ensures { result ≡ lexing.place_in (symbols_in self.now.symbols) run.now (Some after.now) }
@@ -116,7 +116,7 @@ impl<'a> ProofLexer<'a> {
         }
     }
 
-    // The lexeme in a bound with this many open brackets, behind this many of its pieces.
+    // The lexeme in a bound with this many open brackets, after this many of its pieces.
     fn in_bound(
         &self,
         depth: u64,
@@ -213,7 +213,7 @@ fn all_digits(bytes: &[u8]) -> bool
     true
 }
 
-// The meaning of digits behind a dot.
+// The meaning of digits after a dot.
 fn behind_dot(digits: &[u8]) -> Behind
     requires { IsTrue (list_all is_ascii_digit digits.now) }
     ensures { result ≡ lexing.behind_dot digits.now }
@@ -227,7 +227,7 @@ fn behind_dot(digits: &[u8]) -> Behind
     }
 }
 
-// The bytes behind the last dot.
+// The bytes after the last dot.
 fn behind_last_dot<'b>(run: &'b [u8]) -> Option<&'b [u8]>
     ensures { MatchOption result (lexing.behind_last_dot None run.now ≡ None)
         (λ after. (lexing.behind_last_dot None run.now ≡ Some after.now) × (length after.now < length run.now)) }

@@ -24,7 +24,7 @@ pub(crate) enum Mark {
     Long,
 }
 
-/// What a short piece is.
+/// The kind of a short piece.
 #[derive(Clone, Copy)]
 pub(crate) enum ShortKind {
     Variable,

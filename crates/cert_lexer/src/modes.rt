@@ -15,7 +15,7 @@ pub fn ends_bound(depth: u64, byte: u8) -> bool
     byte == b';' || byte == b'}' || byte == b'\n' || (byte == b')' && depth == 0)
 }
 
-// The mode behind a piece where nothing was open.
+// The mode after a piece, where no list or bound was open.
 fn plain_behind(piece: Piece) -> Mode
     ensures { result ≡ plain_behind_piece piece }
 {
@@ -36,7 +36,7 @@ pub fn ends_before(depth: u64, bytes: &[u8]) -> bool
     }
 }
 
-/// How many brackets are open behind a piece of a bound.
+/// The number of open brackets after a piece of a bound.
 pub fn depth_behind(depth: u64, piece: BoundPiece) -> u64
     ensures { result ≡ depth_behind_piece depth piece }
 {
@@ -54,7 +54,7 @@ fn pieces_behind(before: u64, last: bool) -> u64
     if last { 0 } else { before.saturating_add(1) }
 }
 
-/// The mode behind a piece.
+/// The mode after a piece.
 pub fn mode_with(mode: Mode, piece: Piece) -> Mode
     ensures { result ≡ mode_with_piece mode piece }
 {

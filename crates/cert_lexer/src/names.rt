@@ -56,7 +56,7 @@ pub fn number_of(position: usize) -> u32
     position.min(u32::MAX as usize) as u32
 }
 
-/// Whether bytes go on as a name.
+/// Whether bytes continue a name.
 pub fn goes_on(bytes: &[u8]) -> bool
     ensures { result ≡ goes_on_at bytes.now }
 {
@@ -66,7 +66,7 @@ pub fn goes_on(bytes: &[u8]) -> bool
     }
 }
 
-/// The name that bytes begin with, and what is behind it.
+/// The name that bytes begin with, and the bytes after it.
 pub fn front_name<'b>(bytes: &'b [u8], first: u8, others: &[u8]) -> (&'b [u8], &'b [u8])
     requires { bytes.now ≡ first ∷ others.now }
     ensures name { result.0.now ≡ first ∷ prefix continues_name others.now }

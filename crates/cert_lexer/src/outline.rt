@@ -16,7 +16,8 @@ pub(crate) enum Shape {
     Other,
 }
 
-/// What an open bracket belongs to: a maximum, with arguments or without any yet, an exponent, or a sum as a factor.
+/// The node that an open bracket belongs to: a maximum, with or without arguments yet, an exponent, or a sum as a
+/// factor.
 #[derive(Clone, Copy)]
 pub(crate) enum Opening {
     Maximum(bool),
@@ -32,8 +33,8 @@ pub(crate) struct Frame {
     pub factors: bool,
 }
 
-/// What was read last in the innermost bound: what an item can follow; the `^` of a run of a variable or of a power; an
-/// item; or a part of ` + ` or of `, `.
+/// The part read last in the innermost bound: none, so that an item can follow; the `^` of a run of a variable or of a
+/// power; an item; or a part of ` + ` or of `, `.
 #[derive(Clone, Copy)]
 pub(crate) enum Stage {
     Begins,
@@ -55,8 +56,8 @@ pub(crate) struct Innermost {
     pub stage: Stage,
 }
 
-/// What a piece does to the open brackets: nothing, also where a term ends; it opens one, closes the innermost, or ends
-/// an argument in it.
+/// The effect of a piece on the open brackets: none, also where a term ends; it opens one, closes the innermost, or
+/// ends an argument in it.
 #[derive(Clone, Copy)]
 pub(crate) enum Change {
     Keep,
@@ -73,7 +74,7 @@ pub(crate) struct Lead {
     pub change: Change,
 }
 
-/// What has been read, without its tree: the open brackets, the outermost first, and the innermost bound.
+/// The pieces read so far, without their tree: the open brackets, the outermost first, and the innermost bound.
 #[derive(Drop)]
 pub(crate) struct Outline {
     pub frames: Vec<Frame>,

@@ -121,7 +121,7 @@ impl<'a> PackedRest<'a> {
         self.marks.len()
     }
 
-    /// The next piece and those behind it, where one is left.
+    /// The next piece and those after it, if there is one.
     pub fn split_first(&self) -> Option<(Inner, PackedRest<'a>)>
         ensures { MatchOption result (length (inners_in self.now) ≡ 0)
             (λ split. inners_in self.now ≡ split.0 ∷ inners_in split.1) }
@@ -169,7 +169,7 @@ const MISSING: Inner = Inner {
     len: 0,
 };
 
-// The next short piece and those behind it.
+// The next short piece and those after it.
 fn split_short(shorts: &[Short]) -> (Inner, &[Short])
     ensures first { result.0 ≡ next_short shorts.now }
     ensures rest { result.1.now ≡ tail_of shorts.now }
@@ -180,7 +180,7 @@ fn split_short(shorts: &[Short]) -> (Inner, &[Short])
     }
 }
 
-// The next long piece and those behind it.
+// The next long piece and those after it.
 fn split_long(longs: &[Inner]) -> (Inner, &[Inner])
     ensures first { result.0 ≡ next_long longs.now }
     ensures rest { result.1.now ≡ tail_of longs.now }

@@ -62,7 +62,7 @@ pub enum Sign {
     Minus,
 }
 
-/// The part behind the last dot of a place of a symbol.
+/// The part after the last dot of a place of a symbol.
 #[derive(Clone, Copy, Debug, PartialEq, Eq)]
 pub enum Behind {
     /// There is no dot that is followed by digits alone: the whole is a name.
@@ -75,8 +75,8 @@ pub enum Behind {
     Number(u128),
 }
 
-/// A piece of a proof file. A name that no symbol has stands for the symbol behind the last one, and symbols from
-/// 2^32-1 on count as that one.
+/// A piece of a proof file. A name that no symbol has counts as the symbol after the last one, and symbols from 2^32-1
+/// on count as that one.
 #[derive(Clone, Copy, Debug, PartialEq, Eq)]
 pub enum Piece {
     /// `koat-proof`, with which a file begins.
@@ -87,9 +87,9 @@ pub enum Piece {
     Number(u128),
     /// A sign: a piece of one byte.
     Sign(Sign),
-    /// A place in the list of shut ones: a symbol, and the part behind the dot.
+    /// A place in the list of shut ones: a symbol, and the part after the dot.
     Place(u32, Behind),
-    /// A piece of a bound, how many bytes it has, and whether the bound ends behind it.
+    /// A piece of a bound, its number of bytes, and whether the bound ends after it.
     InBound(BoundPiece, u64, bool),
     /// Bytes that are no piece of any proof file.
     Wrong,

@@ -40,7 +40,7 @@ impl Reading {
         })
     }
 
-    /// Takes a piece, over this many start arguments, with these pieces behind it. Where there is a tree, returns the
+    /// Takes a piece, over this many start arguments, with these pieces after it. If there is a tree, returns the
     /// piece's first fault.
     ///
     /// # Errors

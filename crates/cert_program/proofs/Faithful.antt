@@ -32,7 +32,7 @@ value-form_at [] z i = refl
 value-form_at (f ∷ fs) z zero = refl
 value-form_at (f ∷ fs) z (suc i) = value-form_at fs z i
 
--- the polynomial of a bent update has the update's value
+-- the polynomial of a nonlinear update has the update's value
 value-nonlinear_at : (us : List Term) (env : List ℤ) (i : ℕ) (q : Polynomial) → nonlinear_at (map expanded us) i ≡ Some q
     → polynomial_value q env ≡ at (map (λ u. value u env) us) i
 value-nonlinear_at [] env i q e = absurd (none_some e)
@@ -78,7 +78,7 @@ only-new r e = go (is_nonlinear (expanded e)) refl
     go true h = rw h refl
     go false h = rw h refl
 
--- the polynomial of a bent cost has the cost's value
+-- the polynomial of a nonlinear cost has the cost's value
 value-only : (env : List ℤ) (e : Term) (j : ℕ) (q : Polynomial) → only_place (nonlinear_at (expanded e ∷ []) 0) j ≡ Some q
     → polynomial_value q env ≡ at (value e env ∷ []) j
 value-only env e zero q h = value-nonlinear_at (e ∷ []) env 0 q h
@@ -107,7 +107,7 @@ cost-point p v c s d i =
           (λ j x e. value-only (c.values ++ s.free) i.cost j x e ∙ ap (λ (xs : List ℤ). at xs j) (sym i.leads.values));
     }
 
--- so it says what is true
+-- the setting of a program is faithful
 pub settings-faithful : SettingsAreFaithful
 settings-faithful = record {
   each = λ p v. record {
@@ -120,7 +120,7 @@ settings-faithful = record {
   };
 }
 
--- and accepted facts hold
+-- accepted facts hold
 pub accepted-hold : AcceptedFactsHold
 accepted-hold = record {
   each = λ p v proofs h. accepted_facts_hold.each (setting_of p) (settings-faithful.each p v) proofs h;
@@ -165,7 +165,7 @@ is-nonlinear_at (p ∷ qs) zero q e l = go (is_nonlinear p) refl
         low m = grind (arith, nat_tests)
 is-nonlinear_at (p ∷ qs) (suc i) q e l = is-nonlinear_at qs i q e l
 
--- a place has a polynomial exactly where its expanded update has degree 2 or more
+-- a place has a polynomial exactly if its expanded update has degree 2 or more
 pub polynomials-nonlinear : PolynomialsAreNonlinear
 polynomials-nonlinear = record { each = both }
   where

@@ -1,4 +1,4 @@
--- What a file that is accepted for a valid program says is so, and over which rows.
+-- The claims of a file that is accepted for a valid program are true, and over which rows.
 use Rattle.std.proofs.Common.{◌≡◌, refl, Option, Some, None}
 use Rattle.guard_prep.specs.model.Programs.{Rule, rule_at}
 use Rattle.std.proofs.lemmas.List.Elements.{All-weaker}

@@ -67,7 +67,7 @@ standing x (y ∷ ys) h = go (x == y) refl h (λ g. standing x ys g)
     go true e g later = (0, omega arith, sym (eqb-true x y e))
     go false e g later = let r = later g in (suc r.0, omega (arith, r.1), r.2)
 
--- what holds of each number of a list holds of one that is in it
+-- a property of each number of a list is one of a member
 pub in-all : (P : ℕ → Type 0) (x : ℕ) (xs : List ℕ) → All P xs → is_in x xs ≡ true → P x
 in-all P x xs h i = let r = standing x xs i in subst P r.2 (h r.0 0 r.1)
 
@@ -95,7 +95,7 @@ module _ (p : Program) (set : List ℕ) (strict : ℕ) (shut : List SymbolPlace)
       subst (λ (o : Option Rule). IsRuleOf (ranked_set p set strict shut) (forms_in o)) (sym i.numbered)
       (rule-of t i.rule v i.numbered)
 
-  -- so the set is one
+  -- the ranked set of rules has a set's properties
   pub set-is : IsValid p → All (IsRule p) set → is_in strict set ≡ true → IsSetOf (ranked_set p set strict shut)
   set-is v rules inside =
       let at = standing strict set inside in record {

@@ -1,4 +1,4 @@
--- What a composed bound is rewritten to within the limits is in line with acceptance.
+-- The rewriting of a composed bound within the limits agrees with acceptance.
 use Rattle.std.proofs.Common.{◌≡◌, ◌↔◌, ℕ, Bool, true, false, if◌then◌else◌, refl, sym, ap, ◌∙◌}
 use Rattle.std.proofs.lemmas.Bool.{true≢false}
 use Rattle.guard_prep.specs.model.Bounds.{Bound}
@@ -8,7 +8,7 @@ use Rattle.bound_table.specs.RewriteResult.{Answer, Fits, TooLarge, rewritten_wi
 use Rattle.cert_rules.specs.Limits.{IsSmallComposed}
 use Rattle.cert_program.specs.Laws.{SmallBoundsAreRewritten}
 
--- the same answers
+-- equal answers have equal bounds
 fits-same : (b c : Bound) → Fits b ≡ Fits c → c ≡ b
 fits-same b c e = sym (back e)
   where

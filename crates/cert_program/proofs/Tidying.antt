@@ -29,7 +29,7 @@ bounded-small (m ∷ q) h = (omega (arith, h.0), bounded-small q h.1)
 no_nonlinear : (q : Polynomial) → None ≡ Some q → ⊥
 no_nonlinear q e = cc
 
--- the polynomial of a bent term among valid ones has small coefficients
+-- the polynomial of a nonlinear term among valid ones has small coefficients
 nonlinear-small : (n : ℕ) (us : List Term) → AllByRecursion (IsValidTerm n) us → (i : ℕ) (q : Polynomial)
     → nonlinear_at (map expanded us) i ≡ Some q → HasSmallCoefficients q
 nonlinear-small n [] h i q e = absurd (no_nonlinear q e)
@@ -42,7 +42,7 @@ nonlinear-small n (u ∷ us) h zero q e = go (is_nonlinear (expanded u)) e
         subst HasSmallCoefficients same (bounded-small (expanded u) (expanded-small u h.0.expands).coefficients)
     go false k = absurd (no_nonlinear q k)
 
--- so has that of a bent update of a valid program
+-- the polynomial of a nonlinear update of a valid program has small coefficients
 updates-small : (p : Program) → IsValid p → (t i : ℕ) (q : Polynomial) → (setting_of p).poly t i ≡ Some q
     → HasSmallCoefficients q
 updates-small p valid t i q e = go (rule_at p t) refl e
@@ -51,7 +51,7 @@ updates-small p valid t i q e = go (rule_at p t) refl e
     go None k h = absurd (no_nonlinear q h)
     go (Some r) k h = nonlinear-small (r.left + r.free) r.updates (valid-at p t r valid k).updates i q h
 
--- and that of a bent cost
+-- the polynomial of a nonlinear cost has small coefficients
 cost-small : (r : Rule) (q : Polynomial) → IsValidCost (r.left + r.free) r.cost
     → nonlinear_at (polys_in (cost_rule_in (Some r))) 0 ≡ Some q → HasSmallCoefficients q
 cost-small r q valid e = go r.cost valid e
@@ -69,7 +69,7 @@ costs-small p valid t q e = go (rule_at p t) refl e
     go None k h = absurd (no_nonlinear q h)
     go (Some r) k h = cost-small r q (valid-at p t r valid k).cost h
 
--- what is rewritten by the table in force becomes tidy, and reads no more
+-- a bound that the table in force rewrites becomes tidy, and reads no more inputs
 pub settings-tidying : SettingsAreTidying
 settings-tidying = record {
   each = λ p valid. record {

@@ -142,7 +142,7 @@ valid_looping = record {
   start_distinct = (refl, tt);
 }
 
--- and its gap
+-- the gap of this program
 looping_gap : GapHolds looping (forms_at looping) (gap_alone 1 one nowhere one)
 unfolding divisor_of
 looping_gap =

@@ -35,12 +35,12 @@ pub record AcceptedFactsHold : Type 0 where
 abbrev pub AcceptsFileFor : Program → ProofFile → Type 0
 AcceptsFileFor p f = AcceptsFile (setting_of p) (forms_at p) f
 
--- what questions see of a rule are the rows and new values over which nodes are judged
+-- the rows and new values of a rule in questions are those over which nodes are judged
 pub record FormsAreThoseOfSettings : Type 0 where
   pub rows : (p : Program) (t : ℕ) → (forms_at p t).rows ≡ (setting_of p).rows t
   pub new_values : (p : Program) (t : ℕ) → (forms_at p t).new_values ≡ (setting_of p).new_values t
 
--- what a file claims of a program is true: every fact of every lemma holds on all runs, and no affine function with
+-- the claims of a file on a program are true: every fact of every lemma holds on all runs, and no affine function with
 -- coefficient 0 at a gap's shut places ranks the gap's strict rule over its set
 pub record FileHolds (p : Program) (f : ProofFile) : Type 0 where
   pub facts : All (All (Holds p)) (facts_of_lemmas (setting_of p) f.lemmas)
@@ -68,14 +68,14 @@ pub record IsNonlinearUpdate (r : Rule) (i : ℕ) (q : Polynomial) : Type 0 wher
   pub update : slice_get (polys_of r) i ≡ Some q
   pub degree : 2 ≤ degree_of q
 
--- a rule has a polynomial at a place exactly where the expanded update there has degree 2 or more, and it is that
+-- a rule has a polynomial at a place exactly if the expanded update there has degree 2 or more, and it is that
 -- update
 pub record PolynomialsAreNonlinear : Type 0 where
   pub each : (p : Program) (t : ℕ) (r : Rule) → rule_at p t ≡ Some r → (i : ℕ) (q : Polynomial)
       → ((setting_of p).poly t i ≡ Some q) ↔ IsNonlinearUpdate r i q
 
--- what a bound is rewritten to within the limits is in line with acceptance: the rewritten bound exactly where the
--- bound is small, and exactly where it isn't the number of nodes that the reason names
+-- the rewriting of a bound within the limits agrees with acceptance: it is the rewritten bound exactly if the bound is
+-- small, and else the number of nodes that the reason names
 pub record SmallBoundsAreRewritten : Type 0 where
   pub fits : (b r : Bound) → (rewritten_within b ≡ Fits r) ↔ (IsSmallComposed rewritten b × (r ≡ rewritten b))
   pub large : (b : Bound) (n : ℕ)

@@ -20,12 +20,12 @@ forms_of source target m = record {
   new_values = m.new_values;
 }
 
--- and of a rule, where there is one
+-- the forms of a rule, if there is one
 abbrev pub forms_in : Option Rule → RuleForms
 forms_in None = record { source = 0; target = 0; left = 0; unknowns = 0; rows = []; new_values = [] }
 forms_in (Some r) = forms_of r.source r.target (prepared r)
 
--- and of the rule with a number
+-- the forms of the rule with a number
 abbrev pub forms_at : Program → ℕ → RuleForms
 forms_at p t = forms_in (rule_at p t)
 

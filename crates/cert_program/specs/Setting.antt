@@ -15,12 +15,12 @@ abbrev pub rows_in : Option Rule → List Form
 rows_in None = []
 rows_in (Some r) = rows_of r
 
--- its new values
+-- the new values of a rule, where there is one
 abbrev pub new_values_in : Option Rule → List Form
 new_values_in None = []
 new_values_in (Some r) = new_values_of r
 
--- its expanded updates
+-- the expanded updates of a rule, where there is one
 abbrev pub polys_in : Option Rule → List Polynomial
 polys_in None = []
 polys_in (Some r) = polys_of r

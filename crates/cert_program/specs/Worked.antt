@@ -54,9 +54,9 @@ abbrev pub form : List ℤ → ℤ → Form
 form coefs constant = record { coefs = coefs; constant = constant }
 
 -- 2 * A > 3 is tightened to A - 2 >= 0; the new value of the first rule is A - 2, that of the second an unknown of its
--- own, with the square as its polynomial; and there is no rule 0 and no rule 4. Of the first rule's cost, 2 * A - 5 >=
--- 0 is tightened to A - 3 >= 0, behind the row of its guard, and its value is 2 * A - 5; the cost of the second one is
--- an unknown of its own, with the square as its polynomial, and gives no row; the third rule has no cost
+-- own, with the square as its polynomial; and there is no rule 0 and no rule 4. For the first rule's cost, 2 * A - 5
+-- >= 0 is tightened to A - 3 >= 0, after the row of its guard, and its value is 2 * A - 5; the cost of the second one
+-- is an unknown of its own, with the square as its polynomial, and gives no row; the third rule has no cost
 pub record SettingsAreAsWorkedOut : Type 0 where
   pub rows : (setting_of three_rules).rows 1 ≡ form (pos 1 ∷ []) (negsuc 1) ∷ []
   pub new_values : (setting_of three_rules).new_values 1 ≡ form (pos 1 ∷ []) (negsuc 1) ∷ []

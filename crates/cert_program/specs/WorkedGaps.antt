@@ -30,8 +30,8 @@ no_forms = record { source = 0; target = 0; left = 0; unknowns = 0; rows = []; n
 abbrev pub first_place : SymbolPlace
 first_place = record { symbol = 0; place = 1 }
 
--- the square has an unknown of its own; there is no rule 0. The rules behind the first one and the virtual entry enter
--- the symbol of the first one; nothing enters a set without rules. A place is shut where it is listed, and nowhere else
+-- the square has an unknown of its own; there is no rule 0. The rules after the first one and the virtual entry enter
+-- the symbol of the first one; no rule enters an empty set. A place is shut exactly if it is listed
 pub record RankedSetsAreAsWorkedOut : Type 0 where
   pub forms : forms_at three_rules 2 ≡ squaring_forms
   pub forms_of_none : forms_at three_rules 0 ≡ no_forms

@@ -40,12 +40,12 @@ pub fn accepted_facts_are_printable()
     ensures printable { AcceptedFactsArePrintable }
 {}
 
-/// A place has a polynomial exactly where the expanded update there has degree 2 or more.
+/// A place has a polynomial exactly if the expanded update there has degree 2 or more.
 pub fn polynomials_are_nonlinear()
     ensures { PolynomialsAreNonlinear }
 {}
 
-/// Rewriting a composed bound within the limits agrees with acceptance: it gives the rewritten bound exactly where the
+/// Rewriting a composed bound within the limits agrees with acceptance: it gives the rewritten bound exactly if the
 /// bound is small, and else the number of nodes that the reason of its refusal names.
 pub fn small_bounds_are_rewritten()
     ensures { SmallBoundsAreRewritten }

@@ -25,7 +25,7 @@ pub abs-down : (x : ℤ) → neg_ℤ x ≤ℤ pos (nat_abs x)
 abs-down (pos n) = omega (arith, ints)
 abs-down (negsuc n) = omega (arith, ints)
 
--- what bounds a number and its negation bounds the absolute value
+-- a bound on a number and on its negation is one on the absolute value
 pub abs-within : (x : ℤ) (n : ℕ) → x ≤ℤ pos n → neg_ℤ x ≤ℤ pos n → nat_abs x ≤ n
 abs-within (pos x) n h k = omega (arith, ints, h)
 abs-within (negsuc x) n h k = omega (arith, ints, k)

@@ -45,13 +45,13 @@ polynomial_bound-based : (o : Option Polynomial) (sizes : ℕ → Bound) → ((j
 polynomial_bound-based None sizes h = tt
 polynomial_bound-based (Some q) sizes h = (tt, monomial_parts-based q sizes h)
 
--- what an arm adds
+-- the offset of a side bound
 pub offset_of-based : (o : Option Polynomial) (side_bound : SideBound) (inside : ℕ → Bool) (sizes : ℕ → Bound)
     → ((j : ℕ) → IsBased (sizes j)) → IsBased (offset_of o side_bound inside sizes)
 offset_of-based o (Linear den form multipliers) inside sizes h = rest_bound-based form den inside sizes h
 offset_of-based o Poly inside sizes h = polynomial_bound-based o sizes h
 
--- an arm as a bound
+-- a side bound as a bound
 pub composed_side_bound-based : (o : Option Polynomial) (side_bound : SideBound) (sizes : ℕ → Bound) → ((j : ℕ) → IsBased (sizes j))
     → IsBased (composed_side_bound o side_bound sizes)
 composed_side_bound-based o (Linear den form multipliers) sizes h = rest_bound-based form den no_place sizes h

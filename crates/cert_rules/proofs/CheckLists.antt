@@ -51,9 +51,9 @@ module _ {R A : Type 0} (f : A → CheckOf R) (rest : List (CheckOf R)) where
   each_stable [] h k = k
   each_stable (x ∷ xs) h k = (h x, each_stable xs h k)
 
--- what holds of each number of a list, and of each number that is in it
+-- a property of each number of a list, and of each number that is in it
 module _ (P : ℕ → Type 0) where
-  -- what holds of all numbers of a list holds of each number that the test finds in it
+  -- a property of all numbers of a list is one of each number that the test finds in it
   pub each-in : (xs : List ℕ) → AllByRecursion P xs → (x : ℕ) → is_in x xs ≡ true → P x
   each-in [] h x k = absurd (no_is_not_yes false refl k)
   each-in (y ∷ ys) h x k = go (is_in-cases x y ys k) (λ m. each-in ys h.1 x m)
@@ -62,7 +62,7 @@ module _ (P : ℕ → Type 0) where
       go (inl e) later = subst P (sym e) h.0
       go (inr m) later = later m
 
-  -- what holds of each number that the test finds in a list holds of all of them
+  -- a property of each number that the test finds in a list is one of all of them
   pub in-each : (xs : List ℕ) → ((x : ℕ) → is_in x xs ≡ true → P x) → AllByRecursion P xs
   in-each [] h = tt
   in-each (y ∷ ys) h = (
@@ -70,25 +70,25 @@ module _ (P : ℕ → Type 0) where
     in-each ys (λ x k. h x (or_right (x == y) (is_in x ys) k)),
   )
 
--- what holds of each of two lists, and of their join
+-- a property of each of two lists is one of the appended list
 pub each-append : {A : Type 0} (P : A → Type 0) (xs ys : List A) → AllByRecursion P xs → AllByRecursion P ys
     → AllByRecursion P (xs ++ ys)
 each-append P [] ys h k = k
 each-append P (x ∷ xs) ys h k = (h.0, each-append P xs ys h.1 k)
 
--- what holds of a joined list holds of each of the two
+-- a property of an appended list is one of each of the two
 pub append-each : {A : Type 0} (P : A → Type 0) (xs ys : List A) → AllByRecursion P (xs ++ ys)
     → AllByRecursion P xs × AllByRecursion P ys
 append-each P [] ys h = (tt, h)
 append-each P (x ∷ xs) ys h = let k = append-each P xs ys h.1 in ((h.0, k.0), k.1)
 
--- what holds of the images of a list
+-- a property of the images of a list is one of each element's image
 pub map-each : {A B : Type 0} (P : B → Type 0) (f : A → B) (xs : List A) → AllByRecursion P (map f xs)
     → AllByRecursion (λ x. P (f x)) xs
 map-each P f [] h = tt
 map-each P f (x ∷ xs) h = (h.0, map-each P f xs h.1)
 
--- where it holds of the image of each element, it holds of all images
+-- a property of each element's image is one of all images
 pub each-map : {A B : Type 0} (P : B → Type 0) (f : A → B) (xs : List A) → AllByRecursion (λ x. P (f x)) xs
     → AllByRecursion P (map f xs)
 each-map P f [] h = tt
@@ -96,12 +96,12 @@ each-map P f (x ∷ xs) h = (h.0, each-map P f xs h.1)
 
 -- a number among the first n that passes a test has what each that passes has
 module _ (P : ℕ → Type 0) (test : ℕ → Bool) (n : ℕ) where
-  -- what holds of all numbers below a count that pass a test holds of each such number
+  -- a property of all numbers below a count that pass a test is one of each such number
   pub below-each : AllByRecursion P (filter test (range_with_len 0 n)) → (j : ℕ) → j < n → test j ≡ true → P j
   below-each h j l k = each-in P (filter test (range_with_len 0 n)) h j
       (is_in-filter test (range_with_len 0 n) j (is_in-numbers n j l) k)
 
-  -- what holds of each number that passes a test holds of all those below a count
+  -- a property of each number that passes a test is one of all those below a count
   pub each-below : ((j : ℕ) → test j ≡ true → P j) → AllByRecursion P (filter test (range_with_len 0 n))
   each-below h = in-each P (filter test (range_with_len 0 n))
       (λ j k. let m = filter-in test (range_with_len 0 n) j k in h j m.1)

@@ -93,12 +93,12 @@ module _ (F : Bound → Type 0) (constant : (c : ℕ) → c ≤ constant_limit �
         ),
       )
 
-  -- what holds of all nodes of the places' bounds holds of those of a form as a bound
+  -- a property of all nodes of the places' bounds is one of all nodes of a form as a bound
   pub form_bound-each : (f : Form) (den : ℕ) (sizes : ℕ → Bound) → IsFormInLimit f → IsInLimit den
       → ((j : ℕ) → EachNode F (sizes j)) → EachNode F (form_bound f den sizes)
   form_bound-each f den sizes low few h = rest_bound-each f den no_place sizes low few h
 
-  -- the time that a ranking function composes of what a table knows
+  -- the time that a ranking function composes of the known bounds of a table
   pub rank_time-each : (s : Setting) (node : RankNode) (tab : Table) → HasRankShape s node
       → ((t : ℕ) (b : Bound) → tab.time t ≡ Some b → EachNode F b)
       → ((t i : ℕ) (b : Bound) → tab.size t i ≡ Some b → EachNode F b) → EachNode F (rank_time s node tab)

@@ -1,4 +1,4 @@
--- The checks of a node on a cost pass exactly where it is accepted, and none can fail without being false.
+-- The checks of a node on a cost pass exactly if it is accepted, and none can fail without being false.
 use Rattle.std.proofs.Common.{◌≡◌, ℕ, suc, List, [], ◌∷◌, Option, Some, None, refl, sym, ap, ◌∙◌}
 use Rattle.std.specs.List.{AllByRecursion}
 use Rattle.run_counting.specs.model.Terms.{Term}
@@ -21,7 +21,7 @@ use Rattle.cert_rules.proofs.CheckLists.{each-append, append-each, map-each, eac
 use Rattle.cert_rules.proofs.FirstReasons.{HasSize}
 use Rattle.cert_rules.proofs.SizeReasons.{reads-left}
 
--- that a cost is written at a rule can't fail without being false
+-- that a rule has a cost is stable
 stable-has_cost : (p : Program) (t : ℕ) → IsStable (HasCost p t)
 stable-has_cost p t h = go (rule_at p t) refl
   where
@@ -43,13 +43,13 @@ stable-has_cost p t h = go (rule_at p t) refl
         by None f = absurd (h (λ k. no k.cost
             (sym f ∙ ap (λ (q : Rule). q.cost) (same k.rule (sym e ∙ k.numbered)) ∙ k.written)))
 
--- that the numbers by which a cost is shown are right can't fail without being false
+-- that the numbers of a cost are right is stable
 stable-cost_numbers : (s : Setting) (t : ℕ) (by : CostBy) → IsStable (HasCostNumbers s t by)
 stable-cost_numbers s t (EmptyCost ms) h = stable-multipliers (costs_of s) t ms h
 stable-cost_numbers s t NeverCost h = tt
 stable-cost_numbers s t (SideBoundCost side_bound) h = stable-side_bound_shape (costs_of s) t (left_of s.program t) side_bound h
 
--- nor can the shape of a node on a cost
+-- the shape of a node on a cost is stable
 stable-cost_shape : (s : Setting) (node : CostNode) → IsStable (HasCostShape s node)
 stable-cost_shape s node h = record {
   cost = stable-has_cost s.program node.rule (λ n. h (λ k. n k.cost));
@@ -57,7 +57,7 @@ stable-cost_shape s node h = record {
 }
 
 module _ (s : Setting) (table : Table) where
-  -- the arm of a cost has its sizes after these rules exactly where those that it needs are known
+  -- the side bound of a cost has its sizes after these rules exactly if those that it needs are known
   side_bound-known : (t : ℕ) (side_bound : SideBound) → HasSideBoundShape (costs_of s) t (left_of s.program t) side_bound → AcceptsCostSideBound s t side_bound
       → (es : List ℕ) → AllByRecursion (HasSize table) (needed_at_cost s t side_bound es)
       → AllByRecursion (CostSideBoundHasSizes s table t side_bound) es
@@ -131,6 +131,6 @@ module _ (s : Setting) (table : Table) where
     ),
   )
 
-  -- nor can any check of a node on a cost
+  -- every check of a node on a cost is stable
   pub cost-stable : (node : CostNode) → AreStable (cost_checks s table node)
   cost-stable node = (stable-cost_shape s node, by-stable node.rule node.by)

@@ -1,5 +1,5 @@
 -- Why the cost of an accepted node holds: each step by the rule is charged its cost at the values before it, which is
--- nothing where it is negative and else a step by the cost rule, and so at most the arm.
+-- 0 if it is negative and else the value after a step by the cost rule, and so at most the side bound.
 use Rattle.std.proofs.Common.{◌≡◌, ◌≢◌, ◌⊎◌, inl, inr, ℕ, suc, ◌+◌, ◌*◌, ◌≤◌, ◌==◌, true, false, List, [], ◌∷◌, ◌++◌}
 use Rattle.std.proofs.Common.{Option, Some, refl, sym, ap, ◌∙◌, subst, arith, le_trans, mul-le-mul, mul-le-mul_right}
 use Rattle.std.specs.Prelude.{ℤ, pos, negsuc, ◌≤ℤ◌, nat_abs}
@@ -38,7 +38,7 @@ use Rattle.cert_rules.proofs.UnusedRules.{zero_val}
 use Rattle.cert_rules.proofs.SideBounds.{side_bound-covered}
 use Rattle.cert_rules.proofs.SpreadSoundness.{listed_below, left_values, stays_out, whole_side_bound}
 
--- what a step by a rule with a cost is charged, at the values before it
+-- the charge of a step by a rule with a cost, at the values before it
 charged : (p : Program) (t : ℕ) (h : HasCost p t) (start : List ℤ) (earlier : List Step) (b : Config) (st : Step)
     → IsRun p start earlier b → st.rule ≡ t
     → step_cost p start st earlier ≡ or_zero (value h.cost (b.values ++ st.free))
@@ -113,7 +113,7 @@ module _ (s : Setting) (true_to : IsFaithful s) (t : ℕ) (h : HasCost s.program
       at_least : Atom
       at_least = Compare h.cost AtLeast (Literal (pos 0))
 
-  -- so it is a point of the rows of the cost
+  -- the step is a point of the rows of the cost
   cost-point : (b : Config) (st : Step) (c : Config) → IsStep s.program b st c → st.rule ≡ t
       → pos 0 ≤ℤ value h.cost (b.values ++ st.free)
       → StepPoint (costs_of s) t b st.free (paid_at (b.values ++ st.free))
@@ -121,7 +121,7 @@ module _ (s : Setting) (true_to : IsFaithful s) (t : ℕ) (h : HasCost s.program
       subst (λ (u : ℕ). StepPoint (costs_of s) u b st.free (paid_at (b.values ++ st.free))) same
       (true_to.costs b st (paid_at (b.values ++ st.free)) (cost-step b st c x same low))
 
-  -- what bounds the cost of each step that isn't negative bounds what each step is charged
+  -- a bound on each nonnegative cost of a step is one on the charge of each step
   charged-within : (limit : ℕ) (start : List ℤ) (earlier : List Step) (b : Config) (st : Step)
       → IsRun s.program start earlier b → st.rule ≡ t
       → (pos 0 ≤ℤ value h.cost (b.values ++ st.free) → value h.cost (b.values ++ st.free) ≤ℤ pos limit)
@@ -168,7 +168,7 @@ module _ (s : Setting) (true_to : IsFaithful s) (t : ℕ) (h : HasCost s.program
 
     module _ (side_bound : SideBound) (shape : HasSideBoundShape (costs_of s) t (left_of s.program t) side_bound)
         (shown : AcceptsCostOfSideBound s table t side_bound) where
-      -- an accepted arm, at the sizes after the rule before, is at least the cost
+      -- an accepted side bound, at the sizes after the rule before, is at least the cost
       side_bound-above : (start : List ℤ) (earlier : List Step) (b : Config) (st : Step) (c : Config)
           → IsRun s.program start earlier b → IsStep s.program b st c → st.rule ≡ t
           → is_in (last_rule earlier) (pre s.program t) ≡ true → pos 0 ≤ℤ value h.cost (b.values ++ st.free)
@@ -189,7 +189,7 @@ module _ (s : Setting) (true_to : IsFaithful s) (t : ℕ) (h : HasCost s.program
           plain : (v : ℤ) (k n o : ℕ) → v ≤ℤ pos (k * 0 + n) → n ≡ o → v ≤ℤ pos o
           plain v k n o l e = omega (arith, ints, l, e)
 
-      -- so each step is charged at most the maximum over what can come before
+      -- each step is charged at most the maximum over the rules that can come before
       step-within : (start : List ℤ) (earlier : List Step) (b : Config) (st : Step) (c : Config)
           → IsRun s.program start earlier b → IsStep s.program b st c → st.rule ≡ t
           → step_cost s.program start st earlier ≤ val (step_cost_of s t side_bound table.size) (sizes_of_start start)
@@ -201,7 +201,7 @@ module _ (s : Setting) (true_to : IsFaithful s) (t : ℕ) (h : HasCost s.program
           (listed_below (λ e. composed_side_bound (s.cost_poly t) side_bound (sizes_after table.size e)) (pre s.program t)
           (sizes_of_start start) (last_rule earlier) before)
 
-      -- and all together at most that for each time that the rule occurs
+      -- all steps together are charged at most that for each time that the rule occurs
       side_bound-holds : HoldsCost s.program t (side_bound_cost s table t side_bound)
       side_bound-holds = record {
         each = λ start steps c run.
@@ -210,7 +210,7 @@ module _ (s : Setting) (true_to : IsFaithful s) (t : ℕ) (h : HasCost s.program
             (mul-le-mul ((known-time s.program table good t shown.time).each start steps c run) (omega arith));
       }
 
-      -- what is composed has bases of at least 1
+      -- the composed cost has bases of at least 1
       side_bound_cost-based : IsBased (side_bound_cost s table t side_bound)
       side_bound_cost-based = (
         tt,

@@ -33,7 +33,7 @@ use Rattle.cert_rules.proofs.Flows.{IsAmong, all-among, found_member, member-com
 use Rattle.cert_rules.proofs.Flows.{factor-least, flow-covered}
 use Rattle.cert_rules.proofs.LoopBounds.{loop-bounded, flows_into-based, addition-based, loop_bound-based}
 
--- an arm that isn't bent reads no member
+-- a straight side bound reads no member
 stays_straight : (s : Setting) (members : List Member) (m : Member) (e : ℕ) (side_bound : SideBound)
     → IsStraightSideBound s members m e side_bound → StaysOutside s m.result_variable (is_member members e) side_bound
 stays_straight s members m e (Linear den form multipliers) h = tt
@@ -53,7 +53,7 @@ module _ (s : Setting) (true_to : IsFaithful s) (table : Table) (good : IsGoodTa
   abbrev size_at : Config → ℕ → ℕ
   size_at c j = nat_abs (at c.values j)
 
-  -- an arm of a member is within what flows by it, where g bounds the members after the rule before
+  -- a side bound of a member is within its flow, if g bounds the members after the rule before
   cycle_side_bound : (start : List ℤ) (earlier : List Step) (b : Config) (st : Step) (c : Config)
       → IsRun s.program start earlier b → IsStep s.program b st c
       → (m : Member) → IsAmong m members → st.rule ≡ m.result_variable.rule
@@ -175,7 +175,7 @@ module _ (s : Setting) (true_to : IsFaithful s) (table : Table) (good : IsGoodTa
           (is_fed start) steps c run j
           (subst (λ (t : ℕ). is_member members t j ≡ true) (sym same) (member-complete members m j among e)))
 
-  -- what an accepted loop composes has bases of at least 1
+  -- the size that an accepted loop composes has bases of at least 1
   cycle_size-based : IsBased (cycle_size s table members)
   cycle_size-based = loop_bound-based all_flows flows-based s table.time (known_time-based s.program table good)
       (rules_of s members)

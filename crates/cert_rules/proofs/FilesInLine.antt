@@ -1,5 +1,5 @@
--- Files are accepted exactly where neither a node nor a gap is refused, one at most is, and what an accepted file is
--- worth.
+-- Files are accepted exactly if neither a node nor a gap is refused, at most one is, and the claims of an accepted
+-- file hold.
 use Rattle.std.proofs.Common.{ℕ, List, sym, subst, All}
 use Rattle.std.proofs.lemmas.List.Elements.{All-from_recursion, recursion_from_All, All-weaker}
 use Rattle.run_counting.specs.model.Programs.{Program}
@@ -65,7 +65,7 @@ excludes p rule g h = record {
   each = λ b same is about. gap-excludes p b g is about (subst (λ (r : ℕ → RuleForms). GapHolds p r g) (sym same) h);
 }
 
--- what an accepted file is worth
+-- the claims of an accepted file hold
 pub accepted-files-hold : AcceptedFilesHold
 accepted-files-hold = record {
   each = λ s true_to rule f h. record {

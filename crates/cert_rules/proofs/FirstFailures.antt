@@ -1,4 +1,4 @@
--- The first element of a list that fails: there is one at most, and none exactly where all pass.
+-- The first element of a list that fails: there is one at most, and none exactly if all pass.
 use Rattle.std.proofs.Common.{◌≡◌, ℕ, suc, ◌+◌, List, [], ◌∷◌, ◌++◌, length, refl, sym, ◌∙◌, ap, subst, arith}
 use Rattle.std.specs.List.{AllByRecursion}
 use Rattle.std.proofs.lemmas.List.{append_assoc}
@@ -12,7 +12,7 @@ same_head x y xs ys e = cc
 pub same_tail : {A : Type 0} (x y : A) (xs ys : List A) → x ∷ xs ≡ y ∷ ys → xs ≡ ys
 same_tail x y xs ys e = cc
 
--- what passes, why what doesn't pass fails, and that nothing does both
+-- elements that pass, the reasons why others fail, and that no element does both
 module _ {A R : Type 0} (Passes : A → Type 0) (Fails : A → R → Type 0)
     (apart : (x : A) → Passes x → (r : R) → ¬ (Fails x r)) where
   -- of a list that is cut twice before an element that fails, all before it passing, the two cuts are one
@@ -48,9 +48,9 @@ module _ {A R : Type 0} (Passes : A → Type 0) (Fails : A → R → Type 0)
   passed-none xs h n r k =
       apart k.element (at_cut k.before k.element k.behind (subst (λ (ys : List A). AllByRecursion Passes ys) k.whole h)) r k.fails
 
--- the first of a list that fails is the first of a longer one, whose elements in front pass
+-- the first failure of a list is that of a longer one, if the elements in front pass
 module _ {A R : Type 0} (Passes : A → Type 0) (Fails : A → R → Type 0) where
-  -- behind an element that passes
+  -- after an element that passes
   pub first-behind : (x : A) (xs : List A) (n : ℕ) (r : R) → Passes x → FailsFirst Passes Fails xs n r
       → FailsFirst Passes Fails (x ∷ xs) (suc n) r
   first-behind x xs n r h k = record {
@@ -63,7 +63,7 @@ module _ {A R : Type 0} (Passes : A → Type 0) (Fails : A → R → Type 0) whe
     fails = k.fails;
   }
 
-  -- behind elements that all pass
+  -- after elements that all pass
   pub first-after : (xs ys : List A) (n : ℕ) (r : R) → AllByRecursion Passes xs → FailsFirst Passes Fails ys n r
       → FailsFirst Passes Fails (xs ++ ys) (length xs + n) r
   first-after [] ys n r h k =
@@ -73,7 +73,7 @@ module _ {A R : Type 0} (Passes : A → Type 0) (Fails : A → R → Type 0) whe
       subst (λ (m : ℕ). FailsFirst Passes Fails (x ∷ xs ++ ys) m r) count
       (first-behind x (xs ++ ys) (length xs + n) r h.0 (first-after xs ys n r h.1 k))
 
-  -- and before any others
+  -- before any others
   pub first-before : (xs ys : List A) (n : ℕ) (r : R) → FailsFirst Passes Fails xs n r
       → FailsFirst Passes Fails (xs ++ ys) n r
   first-before xs ys n r k = record {
@@ -86,7 +86,7 @@ module _ {A R : Type 0} (Passes : A → Type 0) (Fails : A → R → Type 0) whe
     fails = k.fails;
   }
 
-  -- it is the first of all, where it fails itself
+  -- an element that fails itself is the first
   pub first-here : (x : A) (xs : List A) (r : R) → Fails x r → FailsFirst Passes Fails (x ∷ xs) 1 r
   first-here x xs r f = record {
     before = [];

@@ -1,4 +1,4 @@
--- A node has no first reason exactly where it is accepted: its checks pass exactly then, and none can fail without being
+-- A node has no first reason exactly if it is accepted: its checks pass exactly then, and none can fail without being
 -- false.
 use Rattle.std.proofs.Common.{◌≡◌, ◌≢◌, ℕ, zero, suc, ◌<◌, not, Bool, true, false, List, [], ◌∷◌, length, refl, arith}
 use Rattle.std.specs.Prelude.{ℤ, pos}
@@ -40,7 +40,7 @@ abbrev pub HasSize : Table → ResultVariable → Type 0
 HasSize table result_variable = IsKnown (table.size result_variable.rule result_variable.place)
 
 module _ (s : Setting) (table : Table) (node : RankNode) where
-  -- what a ranking function needs after an entry
+  -- the sizes that a ranking function needs after an entry are known
   abbrev Needs : ℕ → Type 0
   Needs e = (j : ℕ) → at (at_target s.program node e).coefs j ≢ pos 0 → IsKnown (table.size e (suc j))
 
@@ -69,7 +69,7 @@ module _ (s : Setting) (table : Table) (node : RankNode) where
       each-append (HasSize table) (needed_after s node e) (needed_after_each s node es) (known-needs e h.0)
       (known-each es h.1)
 
-  -- a ranking node's checks pass exactly where it is accepted
+  -- a ranking node's checks pass exactly if it is accepted
   pub rank-passes : AcceptsRank s table node → AllPass (rank_checks s table node)
   rank-passes h = (
     h.shape,

@@ -1,4 +1,4 @@
--- What flows in a loop: each flow is within the base, or within its rule's factor and addition.
+-- The flows of a loop: each value is within the base, or within its rule's factor and addition.
 use Rattle.std.proofs.Common.{◌≡◌, ◌⊎◌, inl, inr, ℕ, suc, ◌+◌, ◌*◌, ◌≤◌, ◌==◌, ◌&&◌, not, max, Bool, true, false, List}
 use Rattle.std.proofs.Common.{[], ◌∷◌, ◌++◌, Option, refl, sym, ap, ◌∙◌, subst, arith, All, mul-le-mul}
 use Rattle.std.specs.List.{list_any}
@@ -18,7 +18,7 @@ abbrev pub IsAmong : {X : Type 0} → X → List X → Type 0
 IsAmong x [] = ⊥
 IsAmong x (y ∷ ys) = (x ≡ y) ⊎ IsAmong x ys
 
--- what holds of each element holds of one
+-- a property of each element is one of a member
 pub all-among : {X : Type 0} (P : X → Type 0) (xs : List X) (x : X) → All P xs → IsAmong x xs → P x
 all-among P [] x h k = absurd k
 all-among P (y ∷ ys) x h (inl e) = subst P (sym e) (All-head P y ys h)
@@ -92,7 +92,7 @@ module _ (s : Setting) (members : List Member) (size : ℕ → ℕ → Option Bo
       )
       go (inr k) ih = let both = ih k in (inr (inr both.0), inr (inr both.1))
 
-  -- so they are among all that flows
+  -- the flows into a member are among all flows
   pub flows_into-among : (ms : List Member) (m : Member) (e : ℕ) → IsAmong m ms
       → is_in e (pre s.program m.result_variable.rule) ≡ true
       → IsAmong (flow s members size m m.local.up e) (flows_into s members size ms) × IsAmong

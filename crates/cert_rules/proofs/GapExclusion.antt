@@ -55,7 +55,7 @@ module _ (b : RankedSet) (cs : List Coefficient) (floor : ScaledPoint) where
   elements-are (t ∷ set) [] h f = absurd h
   elements-are (t ∷ set) (z ∷ moves) h f = ((omega (arith, ints), h.0), elements-are set moves h.1 f)
 
-  -- what a coefficient gives at the elements, added up, is what leaves its place less what arrives, and the floor's part
+  -- the sum over the elements at a coefficient is the sum at its place over the moves, and the floor's part
   pub total-is : (i : ℕ) (d : Coefficient) → i < length cs → (set : List ℕ) (moves : List ScaledPoint)
       → length moves ≡ length set
       → total_of i (groups_with set) (elements_with moves floor)
@@ -112,7 +112,7 @@ module _ (b : RankedSet) (cs : List Coefficient) (floor : ScaledPoint) where
           least v r d n f h = omega (arith, ints, f, h)
       go false f rest = omega (arith, ints, f, rest)
 
-  -- and to at most that of the strict rule's move beside it
+  -- the fixed total is at most that of the strict rule's move and the floor
   fixed-both : (set : List ℕ) (moves : List ScaledPoint) → length moves ≡ length set → is_in b.strict set ≡ true
       → fixed_total (groups_with set) (elements_with moves floor)
       ≤ℤ neg_ℤ (pos ((point_of set moves b.strict).den + floor.den))
@@ -148,7 +148,7 @@ module _ (b : RankedSet) (cs : List Coefficient) (floor : ScaledPoint) where
           none : (v r d : ℤ) → v ≡ pos 0 → r ≤ℤ d → (v +ℤ r) ≤ℤ d
           none v r d f h = omega (arith, ints, f, h)
 
--- what holds of each place that has a balance holds of each coefficient
+-- a property of each place that has a balance is one of each coefficient
 module _ (P : Coefficient → Type 0) (p : Program) (b : RankedSet) (g : Gap)
     (shut : (s i : ℕ) → b.shut s i ≡ is_shut g.shut s i) (places : (s : ℕ) → b.arity s ≡ arity_of p s) where
   -- the places of a symbol that aren't shut

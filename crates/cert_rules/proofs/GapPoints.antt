@@ -1,4 +1,4 @@
--- What holds of the points of the rules of a set, rule by rule and position by position.
+-- Properties of the points of the rules of a set, rule by rule and position by position.
 use Rattle.std.proofs.Common.{◌≡◌, ◌≢◌, ◌⊎◌, inl, inr, ℕ, suc, ◌<◌, ◌==◌, ◌||◌, Bool, true, false, cond, List, [], ◌∷◌}
 use Rattle.std.proofs.Common.{length, refl, sym, ◌∙◌, ap, subst, arith}
 use Rattle.std.proofs.lemmas.Bool.{ne_eqb, or_right}
@@ -16,7 +16,7 @@ AreEach P [] (z ∷ zs) = ⊥
 AreEach P (t ∷ ts) [] = ⊥
 AreEach P (t ∷ ts) (z ∷ zs) = P t z × AreEach P ts zs
 
--- what ascends behind its first number
+-- the rest of an ascending list ascends
 pub rest-ascends : (x : ℕ) (ys : List ℕ) → IsAscending (x ∷ ys) → IsAscending ys
 rest-ascends x [] h = tt
 rest-ascends x (y ∷ ys) h = h.1
@@ -38,7 +38,7 @@ each-long P (t ∷ ts) [] h = absurd h
 each-long P (t ∷ ts) (z ∷ zs) h = ap (λ (n : ℕ). suc n) (each-long P ts zs h.1)
 
 module _ (P : ℕ → ScaledPoint → Type 0) where
-  -- what holds position by position holds of each rule of the list with its point
+  -- a property of each position is one of each rule of the list with its point
   pub each-of : (ts : List ℕ) (zs : List ScaledPoint) → AreEach P ts zs → (t : ℕ) → is_in t ts ≡ true → P t (point_of ts zs t)
   each-of [] zs h t i = absurd (no_is_not_yes false refl i)
   each-of (u ∷ ts) [] h t i = absurd h
@@ -52,7 +52,7 @@ module _ (P : ℕ → ScaledPoint → Type 0) where
           subst (λ (v : Bool). P t (cond v z (point_of ts zs t))) (sym e.0)
           (later (sym (ap (λ (v : Bool). v || is_in t ts) (ne_eqb t u (λ k. e.1 (sym k)))) ∙ i))
 
-  -- what holds of each rule of an ascending list with its point holds position by position
+  -- a property of each rule of an ascending list with its point is one of each position
   pub of-each : (ts : List ℕ) (zs : List ScaledPoint) → IsAscending ts → length zs ≡ length ts
       → ((t : ℕ) → is_in t ts ≡ true → P t (point_of ts zs t)) → AreEach P ts zs
   of-each [] [] a l h = tt

@@ -40,7 +40,7 @@ time-good p (Time u c ∷ facts) good t b h =
         same = cc
     go false e here later = later (rw e at h)
 
--- the same for a size
+-- a size that is looked up in good facts is good
 pub size-good : (p : Program) (facts : List Fact) → All (IsGood p) facts → (t i : ℕ) (b : Bound)
     → size_in facts t i ≡ Some b → IsGood p (Size t i b)
 size-good p [] good t i b h = absurd (none_some h)
@@ -78,15 +78,15 @@ pub table-good : (p : Program) (facts : List Fact) → All (IsGood p) facts → 
 table-good p facts good = record { times = time-good p facts good; sizes = size-good p facts good }
 
 module _ (p : Program) (table : Table) (good : IsGoodTable p table) where
-  -- what is known of a rule's time holds
+  -- a known time of a rule holds
   pub known-time : (t : ℕ) → IsKnown (table.time t) → HoldsTime p t (known (table.time t))
   known-time t (b, e) = let g : IsGood p (Time t b) = good.times t b e in rw e (g.holds)
 
-  -- what is known of a size holds
+  -- a known size holds
   pub known-size : (t i : ℕ) → IsKnown (table.size t i) → HoldsSize p t i (known (table.size t i))
   known-size t i (b, e) = let g : IsGood p (Size t i b) = good.sizes t i b e in rw e (g.holds)
 
-  -- what is known, or 0, has bases of at least 1
+  -- a known bound, or 0, has bases of at least 1
   pub known_time-based : (t : ℕ) → IsBased (known (table.time t))
   known_time-based t = go (table.time t) refl
     where

@@ -12,7 +12,7 @@ use Rattle.run_counting.proofs.model.Membership.{same_number, is_in-contained, r
 pub source-step : (p : Program) (b : Config) (s : Step) (c : Config) → IsStep p b s c → source_of p s.rule ≡ Some b.at
 source-step p b s c h = source_of-rule p s.rule h.rule h.numbered ∙ ap Some (sym h.leads.source)
 
--- and leads to its target
+-- a step leads to its rule's target
 pub target-step : (p : Program) (b : Config) (s : Step) (c : Config) → IsStep p b s c → target_of p s.rule ≡ Some c.at
 target-step p b s c h = target_of-rule p s.rule h.rule h.numbered ∙ ap Some (sym h.leads.target)
 

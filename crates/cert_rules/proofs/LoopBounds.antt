@@ -65,7 +65,7 @@ growth-bounded fs time m steps last x l (t ∷ ts) h =
         alone : (b c : ℕ) → (1 * b) * c ≡ b * c
         alone b c = omega arith
 
--- what all steps add is at most the sum of the parts
+-- the additions of all steps are at most the sum of the parts
 additions-bounded : (s : Setting) → IsFaithful s → (fs : List Flow) → ((t : ℕ) → IsBased (addition_of fs t))
     → (time : ℕ → Option Bound) (m : List ℕ) (steps : List Step) (ts : List ℕ)
     → ((t : ℕ) → is_in t ts ≡ true → adds s fs t ≡ true → count t steps ≤ val (known (time t)) m)
@@ -113,7 +113,7 @@ offsets-based test (f ∷ fs) h = go (test f) refl (offsets-based test fs (All-t
 
 module _ (s : Setting) (members : List Member) (size : ℕ → ℕ → Option Bound)
     (known_based : (e i : ℕ) → IsBased (known (size e i))) where
-  -- the same for all flows from listed rules
+  -- all flows from listed rules have offsets with bases of at least 1
   flows_from-based : (m : Member) (es : List ℕ) → All HasBasedOffset (flows_from s members size m es)
   flows_from-based m [] = All-nil HasBasedOffset
   flows_from-based m (e ∷ es) =
@@ -125,7 +125,7 @@ module _ (s : Setting) (members : List Member) (size : ℕ → ℕ → Option Bo
       (offset_of-based (poly_at s m.result_variable) m.local.low (is_member members e) (sizes_after size e)
       (λ j. known_based e (suc j))) (flows_from-based m es))
 
-  -- and all that flows
+  -- all flows have offsets with bases of at least 1
   pub flows_into-based : (ms : List Member) → All HasBasedOffset (flows_into s members size ms)
   flows_into-based [] = All-nil HasBasedOffset
   flows_into-based (m ∷ ms) =
@@ -133,7 +133,7 @@ module _ (s : Setting) (members : List Member) (size : ℕ → ℕ → Option Bo
       (flows_into s members size ms) (flows_from-based m (pre s.program m.result_variable.rule)) (flows_into-based ms)
 
 module _ (fs : List Flow) (h : All HasBasedOffset fs) where
-  -- what a rule adds has bases of at least 1 where all offsets have
+  -- the addition of a rule has bases of at least 1 if all offsets have
   pub addition-based : (t : ℕ) → IsBased (addition_of fs t)
   addition-based t = (tt, offsets-based (is_inner t) fs h)
 

@@ -23,7 +23,7 @@ module _ (factor : ℕ → ℕ) (least : (t : ℕ) → 1 ≤ factor t) where
   growth-grows [] s steps = omega arith
   growth-grows (t ∷ ts) s steps = mul-le-mul (pow-le-pow_right (least t) (omega arith)) (growth-grows ts s steps)
 
-  -- and where its rule is listed, it multiplies by the rule's factor
+  -- a step multiplies the growth by the factor of its rule, if that is listed
   growth-step : (ts : List ℕ) (s : Step) (steps : List Step) → is_in s.rule ts ≡ true
       → factor s.rule * growth factor ts steps ≤ growth factor ts (s ∷ steps)
   growth-step [] s steps h = absurd (no_is_not_yes false refl h)
@@ -103,7 +103,7 @@ module _ {C : Type 0} (IsRunTo : List Step → C → Type 0) (size : C → ℕ �
                 base (income addition ts (s ∷ earlier)) (growth-positive factor h.least ts (s ∷ earlier)),
           )
 
--- the same for the runs of a program
+-- the growth of loops on the runs of a program
 pub loops_grow : LoopsGrow
 loops_grow = record {
   each =

@@ -1,4 +1,4 @@
--- A lemma is accepted exactly where each of its nodes is accepted by itself.
+-- A lemma is accepted exactly if each of its nodes is accepted by itself.
 use Rattle.std.proofs.Common.{List, [], ◌∷◌, ◌++◌}
 use Rattle.std.specs.List.{AllByRecursion}
 use Rattle.std.proofs.lemmas.List.Elements.{All-from_recursion, recursion_from_All}
@@ -16,11 +16,11 @@ module _ (s : Setting) (past : List (List Fact)) where
   abbrev AllPass : List Proof → Type 0
   AllPass nodes = AllByRecursion (AcceptsNode s past) nodes
 
-  -- nodes that are accepted, and one behind them
+  -- accepted nodes, and one more after them
   with_last : (nodes : List Proof) (last : Proof) → AllPass nodes → AcceptsNode s past last → AllPass (nodes ++ last ∷ [])
   with_last nodes last h k = each-append (AcceptsNode s past) nodes (last ∷ []) h (k, tt)
 
-  -- and what is accepted of them together
+  -- accepted nodes and the last one, from all of them
   both_parts : (nodes : List Proof) (last : Proof) → AllPass (nodes ++ last ∷ []) → AllPass nodes × AcceptsNode s past last
   both_parts nodes last h = let k = append-each (AcceptsNode s past) nodes (last ∷ []) h in (k.0, k.1.0)
 

@@ -1,4 +1,4 @@
--- What comes in by entries, as a bound.
+-- The levels that entries add, as a bound.
 use Rattle.std.proofs.Common.{◌≡◌, ℕ, ◌*◌, ◌≤◌, ◌==◌, true, List, [], ◌∷◌, arith, mul-le-mul}
 use Rattle.std.proofs.lemmas.Bool.{or_left, or_right}
 use Rattle.run_counting.specs.model.Runs.{Step, count}
@@ -8,7 +8,7 @@ use Rattle.cert_rules.specs.Composed.{both_parts, parts_for}
 use Rattle.run_counting.specs.Paying.{income}
 use Rattle.run_counting.proofs.model.Membership.{same_number}
 
--- what comes in by entries is at most the bound with a part for each: its time, and its weight as a bound
+-- the sum over the entries of a run is at most the bound with a part for each: its time times its weight
 pub income-bounded : (time weight : ℕ → Bound) (m : List ℕ) (es : List ℕ) (steps : List Step)
     → ((e : ℕ) → is_in e es ≡ true → count e steps ≤ val (time e) m)
     → income (λ e. val (weight e) m) es steps ≤ val_sum

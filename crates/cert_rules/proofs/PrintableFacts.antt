@@ -73,7 +73,7 @@ module _ (P : Bound → Type 0) where
       go false later k = later k
 
 module _ (s : Setting) (tidying : IsTidying s) (n : ℕ) (P : Bound → Type 0) (kept : IsKept s n P) where
-  -- what an accepted node composes of what is known has it once it is rewritten
+  -- the rewritten bound that an accepted node composes of known bounds has the property
   module _ (table : Table) (times : (t : ℕ) (b : Bound) → table.time t ≡ Some b → P b)
       (sizes : (t i : ℕ) (b : Bound) → table.size t i ≡ Some b → P b) where
     rank-kept : (node : RankNode) → HasRankShape s node → P (s.rewrite (rank_time s node table))
@@ -214,7 +214,7 @@ module _ (s : Setting) (tidying : IsTidying s) (n : ℕ) (P : Bound → Type 0) 
             each-append (λ f. P (bound_in f)) (facts_of s past proof) (joined_facts s past uses)
             (node-kept proof h.0 both.0) (uses-kept uses h.1 both.1)
 
-    -- and of what all lemmas state
+    -- the bounds that all lemmas state have the property
     lemmas-kept : (past : List (List Fact)) → AllByRecursion (EachBound P) past → (proofs : List Proof)
         → AcceptsFrom s past proofs → AllByRecursion (λ proof. AllByRecursion Writes (nodes_of proof)) proofs
         → AllByRecursion (EachBound P) (facts_from s past proofs)

@@ -77,7 +77,7 @@ value_behind s t b free c x f =
     ∙ ap (λ (v : ℤ). v +ℤ f.constant *ℤ pos 1)
     (dot-same f.coefs (λ i. form_value (form_at (s.new_values t) i) x.z (pos 1)) (values_at c) (λ i k. x.new_values i))
 
--- what a certificate says of the loss by a step
+-- a certificate of a rule bounds the function's fall by a step
 loses : (s : Setting) (t : ℕ) (b : Config) (free : List ℤ) (c : Config) (x : StepPoint s t b free c) (f g : Form)
     (k : ℤ) → length f.coefs ≤ length b.values
     → pos 0 ≤ℤ form_value (loss f g (s.new_values t) k) x.z (pos 1) → (value_at g c +ℤ k) ≤ℤ value_at f b
@@ -90,7 +90,7 @@ loses s t b free c x f g k l h =
         → (z +ℤ k) ≤ℤ value_at f b
     from w d n v y z a b' c' d' e' h' = omega (arith, ints, a, b', c', d', e', h')
 
--- what the floor's certificate says before a step
+-- the floor's certificate bounds the function before a step
 floors : (s : Setting) (t : ℕ) (b : Config) (free : List ℤ) (c : Config) (x : StepPoint s t b free c) (f : Form)
     (k : ℤ) → length f.coefs ≤ length b.values
     → pos 0 ≤ℤ form_value (less f (constant_form k)) x.z (pos 1) → k ≤ℤ value_at f b
@@ -120,7 +120,7 @@ module _ (s : Setting) (true_to : IsFaithful s) (table : Table) (good : IsGoodTa
   level c = cond (is_left_by s.program node.set (Some c.at))
       (height (value_at (rank_form node.forms (Some c.at)) c)) 0
 
-  -- it is the one level that a configuration has
+  -- the level of a configuration is unique
   abbrev HasLevel : Config → ℕ → Type 0
   HasLevel c l = l ≡ level c
 
@@ -202,7 +202,7 @@ module _ (s : Setting) (true_to : IsFaithful s) (table : Table) (good : IsGoodTa
         ap (λ (a : ℕ). arity_of s.program a) x.leads.source,
       )
 
-  -- what the function loses by a step by a rule of the set
+  -- the fall of the function by a step of a rule of the set
   loss_by : (b : Config) (step : Step) (c : Config) → IsStep s.program b step c → is_in step.rule node.set ≡ true
       → (value_at (form_here c) c +ℤ least_loss node step.rule) ≤ℤ value_at (form_here b) b
   loss_by b step c x inside =
@@ -321,7 +321,7 @@ module _ (s : Setting) (true_to : IsFaithful s) (table : Table) (good : IsGoodTa
       (income-bounded (λ e. known (table.time e)) entry_weight (sizes_of_start start) listed steps
       (λ e k. let time = known-time s.program table good e (h.times e (listed-sound s.program node.set e k)) in time.each start steps c run))
 
-  -- what an accepted ranking node composes has bases of at least 1
+  -- the time that an accepted ranking node composes has bases of at least 1
   rank_time-based : IsBased (rank_time s node table)
   rank_time-based = (
     tt,

@@ -1,4 +1,4 @@
--- Lists of lemmas are accepted exactly where no node of theirs is refused, and one node at most is.
+-- Lists of lemmas are accepted exactly if no node of theirs is refused, and one node at most is.
 use Rattle.std.proofs.Common.{◌≡◌, ℕ, suc, List, [], ◌∷◌, ◌++◌, length, refl, sym, ◌∙◌, ap, subst}
 use Rattle.run_counting.specs.model.Facts.{Fact}
 use Rattle.cert_rules.specs.Nodes.{Proof}
@@ -46,7 +46,7 @@ module _ (s : Setting) where
       first-one (AcceptsNode s past) (IsFirstReason s past) (reasonless past)
       (λ node x y. first-reasons-in-line.one s past node x y) (nodes_of proof) i j q r
 
-  -- what lemmas before another one state is stated before it
+  -- the facts of the lemmas before, and those of one more
   abbrev after : List (List Fact) → Proof → List (List Fact)
   after past proof = past ++ facts_of s past proof ∷ []
 

@@ -49,7 +49,7 @@ module _ (b : RankedSet) (cs : List Coefficient) (floor : ScaledPoint) where
       none : (v r : ℤ) → v ≡ pos 0 → r ≡ pos 0 → v +ℤ r ≡ pos 0
       none v r e g = omega (arith, ints, e, g)
 
--- what holds of each coefficient holds of each place that has a balance
+-- a property of each coefficient is one of each place that has a balance
 module _ (P : Coefficient → Type 0) (p : Program) (b : RankedSet) (g : Gap)
     (shut : (s i : ℕ) → b.shut s i ≡ is_shut g.shut s i) (places : (s : ℕ) → b.arity s ≡ arity_of p s) where
   pub balanced-have : (ss : List ℕ) → AllByRecursion P (coefficients b ss) → AllByRecursion P (balanced_at p g ss)

@@ -1,4 +1,4 @@
--- Why an accepted arm is never below the new value on its side.
+-- Why an accepted side bound is never below the new value on its side.
 use Rattle.std.proofs.Common.{◌≡◌, ℕ, zero, suc, ◌+◌, ◌-◌, ◌*◌, ◌<◌, ◌≤◌, Bool, true, false, List, ◌++◌, length, Option}
 use Rattle.std.proofs.Common.{Some, sym, ap, ◌∙◌, arith, le_of_mul-le-mul_right}
 use Rattle.std.specs.Prelude.{ℤ, pos, negsuc, ◌+ℤ◌, ◌*ℤ◌, neg_ℤ, ◌≤ℤ◌, nat_abs, ⊤}
@@ -49,7 +49,7 @@ poly_back s t (suc i) q h e = ap (λ (j : ℕ). s.poly t j) back ∙ e
     back : suc i - 1 ≡ i
     back = omega arith
 
--- what an accepted goal says: the denominator times the value on its side is at most the form
+-- an accepted goal implies that the denominator times the value on its side is at most the form
 goal_says : (side : Side) (den : ℕ) (form value : Form) (z : ℕ → ℤ) (v : ℤ) → form_value value z (pos 1) ≡ v
     → pos 0 ≤ℤ form_value (side_bound_goal side den form value) z (pos 1)
     → (pos den *ℤ on_side side v) ≤ℤ form_value form z (pos 1)
@@ -82,7 +82,7 @@ cancelled den (pos x) n h l = let k : x * den ≤ n * den = omega (arith, ints, 
     le_of_mul-le-mul_right k h in omega (arith, ints, m)
 cancelled den (negsuc x) n h l = omega (arith, ints)
 
--- a polynomial arm reads no place inside
+-- a polynomial side bound reads no place inside
 abbrev pub StaysOutside : Setting → ResultVariable → (ℕ → Bool) → SideBound → Type 0
 StaysOutside s result_variable inside (Linear den form multipliers) = ⊤
 StaysOutside s result_variable inside Poly = (j : ℕ) → reads (poly_at s result_variable) Poly j ≡ true → inside j ≡ false
@@ -96,7 +96,7 @@ module _ (s : Setting) (result_variable : ResultVariable) (b : Config) (free : L
   IsCovered side side_bound = on_side side (place_value c result_variable.place) ≤ℤ pos
       (slope_of side_bound inside * g + val (offset_of (poly_at s result_variable) side_bound inside sizes) m)
 
-  -- the places outside that an arm reads have their sizes
+  -- the places outside that a side bound reads have their sizes
   abbrev pub HasSizes : SideBound → Type 0
   HasSizes side_bound = (j : ℕ) → reads (poly_at s result_variable) side_bound j ≡ true → inside j ≡ false
       → nat_abs (at b.values j) ≤ val (sizes j) m
@@ -154,7 +154,7 @@ module _ (s : Setting) (result_variable : ResultVariable) (b : Config) (free : L
           → nat_abs (polynomial_value h.polynomial (b.values ++ free)) ≤ n → k ≡ n → v ≤ℤ pos (0 * g + k)
       chain v a n k l e f i = omega (arith, ints, l, e, f, i)
 
-  -- an accepted arm's slope times the members, plus its offset, is never below the new value on its side
+  -- an accepted side bound's slope times the members, plus its offset, is never below the new value on its side
   pub side_bound-covered : (side : Side) (side_bound : SideBound) → HasSideBoundShape s result_variable.rule (left_of s.program result_variable.rule) side_bound
       → AcceptsSideBound s result_variable side side_bound → HasSizes side_bound → StaysOutside s result_variable inside side_bound → IsCovered side side_bound
   side_bound-covered side (Linear den form multipliers) shape h outer stays =

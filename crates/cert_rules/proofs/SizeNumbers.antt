@@ -52,14 +52,14 @@ module _ (F : Bound → Type 0) (constant : (c : ℕ) → c ≤ constant_limit �
         go None low = constant 0 (omega arith)
         go (Some q) low = (sum _, monomials-each q sizes (low q refl) h)
 
-    -- an arm as a bound
+    -- a side bound as a bound
     pub side_bound-each : (s : Setting) (t left : ℕ) (side_bound : SideBound) (sizes : ℕ → Bound) → HasSideBoundShape s t left side_bound
         → ((j : ℕ) → EachNode F (sizes j)) → EachNode F (composed_side_bound o side_bound sizes)
     side_bound-each s t left (Linear den form multipliers) sizes shape h =
         form_bound-each F constant sum product form den sizes shape.limit shape.den_limit h
     side_bound-each s t left Poly sizes shape h = polynomial-each sizes h
 
-    -- what an arm adds to members
+    -- the offset of a side bound
     pub offset-each : (s : Setting) (t left : ℕ) (side_bound : SideBound) (inside : ℕ → Bool) (sizes : ℕ → Bound)
         → HasSideBoundShape s t left side_bound → ((j : ℕ) → EachNode F (sizes j)) → EachNode F (offset_of o side_bound inside sizes)
     offset-each s t left (Linear den form multipliers) inside sizes shape h =
@@ -81,13 +81,13 @@ module _ (F : Bound → Type 0) (constant : (c : ℕ) → c ≤ constant_limit �
           none x = cc
       by (suc i) k = few m.rule i q k
 
-  -- an arm of a spot
+  -- a side bound of a result variable
   at_result_variable-each : (m : ResultVariable) (side_bound : SideBound) (sizes : ℕ → Bound) → HasSideBoundShape s m.rule (left_of s.program m.rule) side_bound
       → ((j : ℕ) → EachNode F (sizes j)) → EachNode F (composed_side_bound (poly_at s m) side_bound sizes)
   at_result_variable-each m side_bound sizes shape h =
       side_bound-each F constant sum product (poly_at s m) (result_variable-few m) s m.rule (left_of s.program m.rule) side_bound sizes shape h
 
-  -- and what it adds to members
+  -- the offset of a side bound of a result variable
   adds-each : (m : ResultVariable) (side_bound : SideBound) (inside : ℕ → Bool) (sizes : ℕ → Bound)
       → HasSideBoundShape s m.rule (left_of s.program m.rule) side_bound → ((j : ℕ) → EachNode F (sizes j))
       → EachNode F (offset_of (poly_at s m) side_bound inside sizes)
@@ -118,7 +118,7 @@ module _ (F : Bound → Type 0) (constant : (c : ℕ) → c ≤ constant_limit �
           ),
         )
 
-    -- what all steps by a rule cost at most
+    -- the cost of all steps by a rule
     pub cost-each : (t : ℕ) (side_bound : SideBound) → ((q : Polynomial) → s.cost_poly t ≡ Some q → HasSmallCoefficients q)
         → HasSideBoundShape (costs_of s) t (left_of s.program t) side_bound → EachNode F (cost_of s t side_bound time size)
     cost-each t side_bound few_costs shape = (
@@ -138,7 +138,7 @@ module _ (F : Bound → Type 0) (constant : (c : ℕ) → c ≤ constant_limit �
       ),
     )
 
-    -- what flows in a loop
+    -- the flows of a loop
     abbrev HasOffset : Flow → Type 0
     HasOffset f = EachNode F f.offset
 

@@ -1,4 +1,4 @@
--- The checks of spreads and loops pass exactly where they are accepted.
+-- The checks of spreads and loops pass exactly if they are accepted.
 use Rattle.std.proofs.Common.{◌≡◌, ℕ, suc, ◌<◌, ◌&&◌, ◌||◌, not, Bool, true, false, List, [], ◌∷◌, Option, refl, subst}
 use Rattle.std.proofs.Common.{All}
 use Rattle.std.specs.List.{AllByRecursion, list_any}
@@ -41,7 +41,7 @@ polynomial-left left (m ∷ q) h j k = go (is_in j m.vars) refl k (polynomial-le
     go true e l later = variable-left left m.vars (recursion_from_All (λ v. v < left) m.vars h.0) j e
     go false e l later = later l
 
--- an accepted arm reads left places alone
+-- an accepted side bound reads left places alone
 pub reads-left : (s : Setting) (result_variable : ResultVariable) (side : Side) (side_bound : SideBound)
     → HasSideBoundShape s result_variable.rule (left_of s.program result_variable.rule) side_bound → AcceptsSideBound s result_variable side side_bound → (j : ℕ)
     → reads (poly_at s result_variable) side_bound j ≡ true → j < left_of s.program result_variable.rule
@@ -72,7 +72,7 @@ module _ (s : Setting) (table : Table) (members : List Member) where
       go true e k = absurd (no_is_not_yes false refl k)
       go false e k = refl
 
-  -- an accepted arm has its sizes exactly where those that it needs are known
+  -- an accepted side bound has its sizes exactly if those that it needs are known
   side_bound-known : (m : Member) (side : Side) (side_bound : SideBound) → HasSideBoundShape s m.result_variable.rule (left_of s.program m.result_variable.rule) side_bound
       → AcceptsSideBound s m.result_variable side side_bound → (e : ℕ) → AllByRecursion (HasSize table) (needed_by s members m side_bound e)
       → SideBoundHasSizes s table members m.result_variable side_bound e
@@ -88,7 +88,7 @@ module _ (s : Setting) (table : Table) (members : List Member) where
       (each-below (λ i. IsKnown (table.size e (suc i))) (is_needed m side_bound e) (left_of s.program m.result_variable.rule)
       (λ j k. let t = told-needed m side_bound e j k in h j t.0 t.1))
 
-  -- the same after each of these rules
+  -- both side bounds of a member have their sizes after these rules, exactly if those needed are known
   member-known : (m : Member) → HasMemberShape s m → AcceptsUp s m → AcceptsLow s m → (es : List ℕ)
       → AllByRecursion (HasSize table) (needed_from s members m es)
       → AllByRecursion (HasSizesAfter s table members m) es
@@ -111,7 +111,7 @@ module _ (s : Setting) (table : Table) (members : List Member) where
       (each-append (HasSize table) (needed_by s members m m.local.low e) _ (known-side_bound m m.local.low e h.0.low)
       (known-member m es h.1))
 
-  -- and of each of these members
+  -- the sizes that these members need are known, if their side bounds have their sizes
   pub members-known : (ms : List Member) → AllByRecursion (HasMemberShape s) ms → AllByRecursion (AcceptsUp s) ms
       → AllByRecursion (AcceptsLow s) ms → AllByRecursion (HasSize table) (needed_into s members ms)
       → AllByRecursion (HasSizesBefore s table members) ms
@@ -123,7 +123,7 @@ module _ (s : Setting) (table : Table) (members : List Member) where
         members-known ms shape.1 up.1 low.1 a.1,
       )
 
-  -- where arms have their sizes before each member, all sizes that the members need are known
+  -- if side bounds have their sizes before each member, all sizes that the members need are known
   pub known-members : (ms : List Member) → AllByRecursion (HasSizesBefore s table members) ms
       → AllByRecursion (HasSize table) (needed_into s members ms)
   known-members [] h = tt
@@ -133,7 +133,7 @@ module _ (s : Setting) (table : Table) (members : List Member) where
       (in-each (HasSizesAfter s table members m) (pre s.program m.result_variable.rule) h.0))
       (known-members ms h.1)
 
-  -- no arm of a member reads a member, after these rules
+  -- no polynomial side bound of a member reads a member, after these rules
   abbrev AreStraight : Member → ℕ → Type 0
   AreStraight m e = IsStraightSideBound s members m e m.local.up × IsStraightSideBound s members m e m.local.low
 
@@ -184,7 +184,7 @@ module _ (s : Setting) (table : Table) (members : List Member) where
   into-stable (m ∷ ms) rest h =
       from-stable m (pre s.program m.result_variable.rule) (straight_into s members ms rest) (into-stable ms rest h)
 
-  -- a loop's checks pass exactly where it is accepted
+  -- a loop's checks pass exactly if it is accepted
   abbrev needs_time : ℕ → Bool
   needs_time t = multiplies (flows s members table.size) t || adds s (flows s members table.size) t
 
@@ -234,7 +234,7 @@ module _ (s : Setting) (table : Table) (members : List Member) where
         (stable-small s.rewrite (cycle_size s table members), tt))))),
   )
 
--- a spread's checks pass exactly where it is accepted
+-- a spread's checks pass exactly if it is accepted
 module _ (s : Setting) (table : Table) (m : Member) where
   -- all checks of an accepted spread pass
   pub spread-passes : AcceptsSpread s table m → AllPass (spread_checks s table m)

@@ -26,7 +26,7 @@ use Rattle.cert_rules.proofs.CostSoundness.{cost-good}
 abbrev AreGood : Program → List Fact → Type 0
 AreGood p facts = All (IsGood p) facts
 
--- what an earlier lemma states is good
+-- the facts of an earlier lemma are good
 lemma-good : (p : Program) (past : List (List Fact)) → All (AreGood p) past → (n : ℕ)
     → AreGood p (facts_of_lemma past n)
 lemma-good p past good zero = All-nil (IsGood p)
@@ -39,7 +39,7 @@ one_good : (p : Program) (f : Fact) → IsGood p f → AreGood p (f ∷ [])
 one_good p f h = All-cons (IsGood p) f [] h (All-nil (IsGood p))
 
 module _ (s : Setting) (true_to : IsFaithful s) (past : List (List Fact)) (good : All (AreGood s.program) past) where
-  -- what an accepted node states is good, and so is what its uses state
+  -- the facts that an accepted node states are good, and so are those of its uses
   mutual
     node-good : (proof : Proof) → Accepts s past proof → AreGood s.program (facts_of s past proof)
     node-good (Cite n) h = lemma-good s.program past good n
@@ -68,7 +68,7 @@ module _ (s : Setting) (true_to : IsFaithful s) (past : List (List Fact)) (good 
         All-append (IsGood s.program) (facts_of s past proof) (joined_facts s past uses) (node-good proof h.0)
         (uses-good uses h.1)
 
--- what all lemmas state is good
+-- the facts that all lemmas state are good
 lemmas-good : (s : Setting) → IsFaithful s → (past : List (List Fact)) → All (AreGood s.program) past
     → (proofs : List Proof) → AcceptsFrom s past proofs
     → All (AreGood s.program) (facts_from s past proofs)
@@ -88,7 +88,7 @@ accepted_facts_hold = record {
       (facts_of_lemmas s proofs) (lemmas-good s true_to [] (All-nil (AreGood s.program)) proofs h);
 }
 
--- and every base in their bounds is at least 1
+-- every base in their bounds is at least 1
 pub accepted_bounds_are_based : AcceptedBoundsAreBased
 unfolding AcceptsLemmas facts_of_lemmas
 accepted_bounds_are_based = record {

@@ -1,4 +1,5 @@
--- Why the size of an accepted spread holds: what can come before has its sizes, and both arms are over the new value.
+-- Why the size of an accepted spread holds: the sizes after the rules that can come before hold, and both side bounds
+-- are over the new value.
 use Rattle.std.proofs.Common.{◌≡◌, ◌⊎◌, inl, inr, ℕ, suc, ◌+◌, ◌*◌, ◌≤◌, max, true, false, List, [], ◌∷◌, length}
 use Rattle.std.proofs.Common.{Option, Some, None, refl, sym, ap, ◌∙◌, subst, arith, le_trans}
 use Rattle.std.specs.Prelude.{ℤ, pos, neg_ℤ, ◌≤ℤ◌, nat_abs}
@@ -46,7 +47,7 @@ pub left_values : (p : Program) (b : Config) (st : Step) (c : Config) → IsStep
     → left_of p t ≡ length b.values
 left_values p b st c x t same = ap (λ (u : ℕ). left_of p u) (sym same) ∙ (ap left_in x.numbered ∙ sym x.leads.left)
 
--- a run whose last rule is a spot's has a last step
+-- a run whose last rule is a result variable's has a last step
 pub no_empty_run : (p : Program) (result_variable : ResultVariable) → IsResultVariable p result_variable → last_rule [] ≡ result_variable.rule → ⊥
 no_empty_run p result_variable h same = none_some (ap (λ (u : ℕ). rule_at p u) same ∙ h.numbered)
   where
@@ -58,7 +59,7 @@ pub stays_out : (s : Setting) (result_variable : ResultVariable) (side_bound : S
 stays_out s result_variable (Linear den form multipliers) = tt
 stays_out s result_variable Poly = λ j k. refl
 
--- with no place inside the offset is the arm as a bound
+-- with no place inside, the offset is the side bound as a bound
 pub whole_side_bound : (o : Option Polynomial) (side_bound : SideBound) (sizes : ℕ → Bound) (m : List ℕ)
     → val (offset_of o side_bound no_place sizes) m ≡ val (composed_side_bound o side_bound sizes) m
 whole_side_bound o (Linear den form multipliers) sizes m = refl
@@ -66,7 +67,7 @@ whole_side_bound o Poly sizes m = refl
 
 module _ (s : Setting) (true_to : IsFaithful s) (table : Table) (good : IsGoodTable s.program table) (m : Member)
     (h : AcceptsSpread s table m) where
-  -- an accepted arm, at the sizes after the rule before, is over the new value on its side
+  -- an accepted side bound, at the sizes after the rule before, is over the new value on its side
   spread_side_bound : (start : List ℤ) (earlier : List Step) (b : Config) (st : Step) (c : Config)
       → IsRun s.program start earlier b → IsStep s.program b st c → st.rule ≡ m.result_variable.rule
       → is_in (last_rule earlier) (pre s.program m.result_variable.rule) ≡ true
@@ -118,7 +119,7 @@ module _ (s : Setting) (true_to : IsFaithful s) (table : Table) (good : IsGoodTa
   spread_holds start [] c run same = absurd (no_empty_run s.program m.result_variable h.shape.at same)
   spread_holds start (st ∷ earlier) c (b, run, x) same = spread_step start earlier b st c run x same
 
-  -- what an accepted spread composes has bases of at least 1
+  -- the size that an accepted spread composes has bases of at least 1
   spread_size-based : IsBased (spread_size s table m)
   spread_size-based = (
     tt,

@@ -1,4 +1,5 @@
--- What can't fail holds: of each statement that acceptance is made of, since numbers can be compared.
+-- Stable statements, which hold if their negation doesn't: those that acceptance is made of, since numbers can be
+-- compared.
 use Rattle.std.proofs.Common.{◌≡◌, ◌≢◌, ◌⊎◌, inl, inr, ℕ, ◌<◌, ◌≤◌, ◌==◌, Bool, true, false, List, [], ◌∷◌, Option}
 use Rattle.std.proofs.Common.{Some, None, refl, ap, arith, All}
 use Rattle.std.specs.Prelude.{ℤ, pos, negsuc, ◌≤ℤ◌, ◌<ℤ◌}
@@ -12,16 +13,16 @@ use Rattle.rule_forms.specs.linear_forms.Forms.{Form}
 use Rattle.rule_forms.specs.linear_forms.Certificates.{Implies}
 use Rattle.cert_rules.specs.Known.{IsKnown}
 
--- what can't fail holds
+-- a statement is stable: its double negation implies it
 abbrev pub IsStable : Type 0 → Type 0
 IsStable X = ¬ (¬ X) → X
 
--- what holds or fails
+-- a decided statement is stable
 pub stable-decided : (X : Type 0) → X ⊎ (¬ X) → IsStable X
 stable-decided X (inl x) h = x
 stable-decided X (inr n) h = absurd (h n)
 
--- what never holds can fail
+-- the false statement is stable
 pub stable-never : IsStable ⊥
 stable-never h = h (λ x. x)
 
@@ -107,14 +108,14 @@ stable-list (x ∷ xs) (y ∷ ys) h =
     both : x ≡ y → xs ≡ ys → x ∷ xs ≡ y ∷ ys
     both e f = cc
 
--- what is true of each element
+-- that all elements have a stable property is stable
 pub stable-All : {X : Type 0} (P : X → Type 0) → ((x : X) → IsStable (P x)) → (xs : List X) → IsStable (All P xs)
 stable-All P each [] h = λ k d l. absurd (omega (arith, l))
 stable-All P each (x ∷ xs) h = λ k d l. each _ (λ n. h (λ all. n (all k d l)))
 
--- what is true of each node of a bound
+-- stable properties of each node of a bound
 mutual
-  -- what can't fail of a bound without being false can't fail of all its nodes without being false
+  -- if a property of a bound is stable, that all its nodes have it is stable
   pub stable-nodes : (P : Bound → Type 0) → ((b : Bound) → IsStable (P b)) → (b : Bound) → IsStable (EachNode P b)
   stable-nodes P each (Constant c) h = each (Constant c) h
   stable-nodes P each (Input i) h = each (Input i) h
@@ -140,7 +141,7 @@ stable-implies rows ms goal h = record {
   constant = stable-int_le _ _ (λ n. h (λ k. n k.constant));
 }
 
--- what is known
+-- that a bound is known is stable
 pub stable-known : (o : Option Bound) → IsStable (IsKnown o)
 stable-known (Some b) h = (b, refl)
 stable-known None h = absurd (h (λ k. no k.0 k.1))

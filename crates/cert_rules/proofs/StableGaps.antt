@@ -1,4 +1,4 @@
--- What gaps are looked at for can't fail without being false.
+-- The conditions on gaps are stable.
 use Rattle.std.proofs.Common.{ℕ, zero, suc, ◌≤◌, List, arith}
 use Rattle.std.specs.Prelude.{pos, nat_abs, ◌≤ℤ◌, ◌<ℤ◌}
 use Rattle.std.proofs.lemmas.Int.{ints}
@@ -22,19 +22,19 @@ stable-point r z h = record {
   den_limit = stable-le _ _ (λ n. h (λ k. n k.den_limit));
 }
 
--- that every row gives at least 0 at a scaled point can't fail without being false
+-- that every row gives at least 0 at a scaled point is stable
 stable-meets : (rows : List Form) (z : ScaledPoint) → IsStable (MeetsAt rows z)
 stable-meets rows z h = record {
   each = stable-All (λ r. pos 0 ≤ℤ form_value r (at z.parts) (pos z.den))
       (λ r. stable-int_le (pos 0) (form_value r (at z.parts) (pos z.den))) rows (λ n. h (λ k. n k.each));
 }
 
--- that a denominator is at least 1 can't fail without being false
+-- that a denominator is at least 1 is stable
 stable-positive : (d : ℕ) → IsStable (pos 0 <ℤ pos d)
 stable-positive zero h = absurd (h (λ l. omega (arith, ints, l)))
 stable-positive (suc d) h = omega (arith, ints)
 
--- nor can that it is a point of the rows
+-- that a scaled point is a point of the rows is stable
 stable-kept : (rows : List Form) (z : ScaledPoint) → IsStable (IsPointOf rows z)
 stable-kept rows z h = record {
   denominator = stable-positive z.den (λ n. h (λ k. n k.denominator));
@@ -42,7 +42,7 @@ stable-kept rows z h = record {
 }
 
 module _ (p : Program) (rule : ℕ → RuleForms) (g : Gap) where
-  -- nor can the shape of a gap
+  -- the shape of a gap is stable
   stable-shape : IsStable (HasGapShape p rule g)
   stable-shape h = record {
     ascending = stable-ascending g.set (λ n. h (λ k. n k.ascending));

@@ -1,4 +1,4 @@
--- What nodes are looked at for can't fail without being false.
+-- The conditions on nodes are stable.
 use Rattle.std.proofs.Common.{◌≡◌, ◌⊎◌, inl, inr, ℕ, zero, suc, ◌<◌, ◌≤◌, Bool, List, [], ◌∷◌, Option, Some, None, refl}
 use Rattle.std.proofs.Common.{sym, subst, arith, All}
 use Rattle.std.specs.Prelude.{nat_abs}
@@ -46,11 +46,11 @@ stable-rule p t h = go (rule_at p t) refl
         no : (r : Rule) → None ≡ Some r → ⊥
         no r f = cc
 
--- that the source of a rule isn't reached can't fail without being false
+-- that the source of a rule isn't reached is stable
 pub stable-unreached : (p : Program) (is_allowed : ℕ → Bool) (t : ℕ) → IsStable (IsUnreached p is_allowed t)
 stable-unreached p is_allowed t h = λ r e reached. h (λ k. k r e reached)
 
--- that there is a multiplier within the limit for each row can't fail without being false
+-- that there is a multiplier within the limit for each row is stable
 pub stable-multipliers : (s : Setting) (t : ℕ) (ms : List ℕ) → IsStable (AreMultipliers s t ms)
 stable-multipliers s t ms h = record {
   long = stable-nat _ _ (λ n. h (λ k. n k.long));
@@ -71,7 +71,7 @@ stable-empty_shape s t ms h = record {
   one_each = stable-multipliers s t ms (λ n. h (λ k. n k.one_each));
 }
 
--- that there is exactly one fact, a time of a rule, can't fail without being false
+-- that there is exactly one fact, a time of a rule, is stable
 pub stable-one_time : (facts : List Fact) → IsStable (IsOneTime facts)
 stable-one_time [] h = stable-never h
 stable-one_time (Size t i b ∷ facts) h = stable-never h
@@ -80,7 +80,7 @@ stable-one_time (Time zero b ∷ facts) h = stable-never h
 stable-one_time (Time (suc t) b ∷ []) h = tt
 stable-one_time (Time (suc t) b ∷ f ∷ facts) h = stable-never h
 
--- that the first fact is a time that is 0 can't fail without being false
+-- that the first fact is a time of 0 is stable
 pub stable-zero_time : (facts : List Fact) → IsStable (IsZeroTime facts)
 stable-zero_time [] h = stable-never h
 stable-zero_time (Size t i b ∷ facts) h = stable-never h
@@ -103,7 +103,7 @@ stable-tidy (SumOf bs) h = tt
 stable-tidy (ProductOf bs) h = tt
 stable-tidy (MaximumOf bs) h = tt
 
--- that a bound may be written as a weaker one can't fail without being false
+-- that a bound may be written as a weaker one is stable
 pub stable-weaken_shape : (p : Program) (b : Bound) → IsStable (HasWeakenShape p b)
 stable-weaken_shape p b h = record {
   inputs = stable-nodes (IsInputBelow (arity_of p p.start)) (stable-input (arity_of p p.start)) b
@@ -111,7 +111,7 @@ stable-weaken_shape p b h = record {
   numbers = stable-nodes IsTidyNumber stable-tidy b (λ n. h (λ k. n k.numbers));
 }
 
--- that the only fact of a child is below a bound can't fail without being false
+-- that the only fact of a child is below a bound is stable
 pub stable-weaker : (s : Setting) (facts : List Fact) (b : Bound) → IsStable (IsWeaker s facts b)
 stable-weaker s [] b h = stable-never h
 stable-weaker s (Time t a ∷ []) b h = stable-bool _ _ h
@@ -121,7 +121,7 @@ stable-weaker s (Time t a ∷ f ∷ facts) b h = stable-never h
 stable-weaker s (Size t i a ∷ f ∷ facts) b h = stable-never h
 stable-weaker s (Cost t a ∷ f ∷ facts) b h = stable-never h
 
--- that a composed bound is small can't fail without being false
+-- that a composed bound is small is stable
 pub stable-small : (rewrite : Bound → Bound) (b : Bound) → IsStable (IsSmallComposed rewrite b)
 stable-small rewrite b h = record {
   before = stable-bool _ _ (λ n. h (λ k. n k.before));
@@ -156,7 +156,7 @@ stable-rank_shape s node h = record {
   floor = stable-multipliers s node.rule node.floor (λ n. h (λ k. n k.floor));
 }
 
--- members and their arms
+-- members and their side bounds
 stable-result_variable : (p : Program) (result_variable : ResultVariable) → IsStable (IsResultVariable p result_variable)
 stable-result_variable p result_variable h = go (rule_at p result_variable.rule) refl
   where
@@ -179,7 +179,7 @@ stable-result_variable p result_variable h = go (rule_at p result_variable.rule)
             back : Some r ≡ Some q → r ≡ q
             back g = cc
 
--- the shape of an arm can't fail without being false
+-- the shape of a side bound is stable
 pub stable-side_bound_shape : (s : Setting) (t left : ℕ) (side_bound : SideBound) → IsStable (HasSideBoundShape s t left side_bound)
 stable-side_bound_shape s t left Poly h = tt
 stable-side_bound_shape s t left (Linear den form ms) h = record {
@@ -225,7 +225,7 @@ stable-polynomial s result_variable h = go (poly_at s result_variable) refl
             back : Some q ≡ Some x → q ≡ x
             back g = cc
 
--- that an arm is accepted can't fail without being false
+-- that a side bound is accepted is stable
 pub stable-side_bound : (s : Setting) (result_variable : ResultVariable) (side : Side) (side_bound : SideBound) → IsStable (AcceptsSideBound s result_variable side side_bound)
 stable-side_bound s result_variable side (Linear den form ms) h = stable-implies _ ms _ h
 stable-side_bound s result_variable side Poly h = stable-polynomial s result_variable h
@@ -257,7 +257,7 @@ stable-members (m ∷ []) h = tt
 stable-members (m ∷ n ∷ rest) h =
     (stable-before m.result_variable n.result_variable (λ x. h (λ k. x k.0)), stable-members (n ∷ rest) (λ x. h (λ k. x k.1)))
 
--- that there are members, which ascend and have their shapes, can't fail without being false
+-- that there are members, which ascend and have their shapes, is stable
 pub stable-cycle_shape : (s : Setting) (ms : List Member) → IsStable (HasCycleShape s ms)
 stable-cycle_shape s ms h = record {
   some = stable-le _ _ (λ n. h (λ k. n k.some));
@@ -265,7 +265,7 @@ stable-cycle_shape s ms h = record {
   each = stable-All (HasMemberShape s) (stable-member_shape s) ms (λ n. h (λ k. n k.each));
 }
 
--- that an arm, where it is polynomial, reads no member can't fail without being false
+-- that a side bound reads no member if it is polynomial is stable
 pub stable-straight : (s : Setting) (ms : List Member) (m : Member) (e : ℕ) (side_bound : SideBound) → IsStable (IsStraightSideBound s ms m e side_bound)
 stable-straight s ms m e (Linear den form multipliers) h = tt
 stable-straight s ms m e Poly h = λ j r. stable-bool _ _ (λ n. h (λ k. n (k j r)))

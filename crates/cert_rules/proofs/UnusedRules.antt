@@ -165,7 +165,7 @@ never_sizes p t b time zero_b (i ∷ is) =
           (omega (arith, used_last t steps last, time.each start steps c run, zero_val b (sizes_of_start start) zero_b));
     }
 
--- what an accepted node says of a rule that never runs is good
+-- the facts that an accepted node states of a rule that never runs are good
 pub never-good : (p : Program) (facts : List Fact) → All (IsGood p) facts → AcceptsNever facts
     → All (IsGood p) (never_facts p facts)
 never-good p [] good h = All-nil (IsGood p)

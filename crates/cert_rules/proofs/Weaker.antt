@@ -1,4 +1,4 @@
--- What holds of the virtual entry, and of weaker bounds.
+-- The facts of the virtual entry, and weaker bounds, are good.
 use Rattle.std.proofs.Common.{◌≡◌, ℕ, zero, suc, ◌-◌, ◌≤◌, List, [], ◌∷◌, Some, None, refl, sym, ap, ◌∙◌, arith, All}
 use Rattle.std.proofs.Common.{le_trans, slice_index}
 use Rattle.std.specs.Prelude.{ℤ, nat_abs}
@@ -50,7 +50,7 @@ start_sizes-good p (i ∷ is) =
     size : HoldsSize p 0 i (Input (i - 1))
     size = record { each = λ start steps c run last. entry_size p start steps c run last i }
 
--- what holds of the virtual entry is good
+-- the facts of the virtual entry are good
 pub start-good : (p : Program) → All (IsGood p) (start_facts p)
 start-good p =
     All-cons (IsGood p) (Time 0 (Constant 1)) (start_sizes (places_at p (Some p.start)))

@@ -27,7 +27,7 @@ use Rattle.cert_rules.specs.Worked.{first_and_size, down_alone, alone_node, only
 use Rattle.run_counting.proofs.model.Entries.{listed-from}
 use Rattle.run_counting.proofs.model.Membership.{is_in-cases, no_is_not_yes}
 
--- what holds of one number holds of each in its list; the same with two
+-- a property of one number is one of each in its list; and that of two numbers
 pub of_one : (P : ℕ → Type 0) (a : ℕ) → P a → (t : ℕ) → is_in t (a ∷ []) ≡ true → P t
 of_one P a h t k = go (is_in-cases t a [] k)
   where
@@ -42,7 +42,7 @@ of_two P a b h i t k = go (is_in-cases t a (b ∷ []) k)
     go (inl e) = subst P (sym e) h
     go (inr e) = of_one P b i t e
 
--- what holds of the only listed entry holds of each entry
+-- a property of the only listed entry is one of each entry
 of_entry : (p : Program) (set : List ℕ) (P : ℕ → Type 0) (a : ℕ) → entries p set ≡ a ∷ [] → P a
     → (e : ℕ) → IsEntry p set e → P e
 of_entry p set P a only h e i =
@@ -109,7 +109,7 @@ pub two_forms : (f g : SymbolForm) → HasFormShape counting.program f → HasFo
 two_forms f g h k = All-cons (HasFormShape counting.program) f (g ∷ []) h
     (All-cons (HasFormShape counting.program) g [] k (All-nil (HasFormShape counting.program)))
 
--- what the virtual entry states
+-- the facts of the virtual entry
 abbrev start_facts_here : List Fact
 start_facts_here = Time 0 (Constant 1) ∷ Size 0 1 (Input 0) ∷ []
 
@@ -176,7 +176,7 @@ down_accepted past = (
   },
 )
 
--- the shape of an arm of these members
+-- the shape of a side bound of these members
 pub side_bound_shape : (t : ℕ) (a : ℤ) (multipliers : List ℕ) → left_of counting.program t ≡ 1 → nat_abs a ≤ 1
     → AreMultipliers counting t multipliers
     → HasLinearShape counting t (left_of counting.program t) 1 (form (a ∷ []) (pos 0)) multipliers
@@ -190,13 +190,13 @@ side_bound_shape t a multipliers e h k =
       one_each = k;
     }
 
--- an arm that reads its first place alone
+-- a side bound that reads its first place alone
 pub reads_one : (side_bound : SideBound) (P : ℕ → Type 0) → P 0 → ((j : ℕ) → reads None side_bound (suc j) ≡ false) → (j : ℕ)
     → reads None side_bound j ≡ true → P j
 reads_one side_bound P h none zero k = h
 reads_one side_bound P h none (suc j) k = absurd (no_is_not_yes (reads None side_bound (suc j)) (none j) k)
 
--- a member whose arms read their first places alone, after a rule after which that place has a size
+-- a member whose side bounds read their first places alone, after a rule after which that place has a size
 pub sized : (s : Setting) (facts : List Fact) (members : List Member) (m : Member) (e : ℕ)
     → (is_member members e 0 ≡ false → IsKnown (size_in facts e 1))
     → poly_at s m.result_variable ≡ None
@@ -243,7 +243,7 @@ looped_shape = record {
   low = side_bound_shape 2 (pos 0) (1 ∷ []) refl (omega arith) (one_needed 1 (omega arith));
 }
 
--- what holds of the only member holds of all
+-- a property of the only member is one of all
 of_member : (P : Member → Type 0) → P looped_member → All P (looped_member ∷ [])
 of_member P h = All-cons P looped_member [] h (All-nil P)
 

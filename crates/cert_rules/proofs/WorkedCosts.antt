@@ -46,7 +46,7 @@ unpaid h = none_some (ap (λ (r : Rule). r.cost) same ∙ h.written)
     none_some : None ≡ Some h.cost → ⊥
     none_some e = cc
 
--- and past the rules there is none
+-- there is no cost of a rule that doesn't exist
 past_the_rules : ¬ (HasCost paying.program 2)
 past_the_rules h = none_some h.numbered
   where
@@ -82,7 +82,7 @@ source_is r e = sym (ap (λ (q : Rule). q.source) same)
     same : count_down ≡ r
     same = let found : Some count_down ≡ Some r = e in cc
 
--- the numbers of an arm over A with one small multiplier
+-- the numbers of a side bound over A with one small multiplier
 small_side_bound : (a m : ℕ) → a ≤ 1 → m ≤ 1 → HasLinearShape (costs_of paying) 1 1 1 (form (pos a ∷ []) (pos 0)) (m ∷ [])
 small_side_bound a m h k = record {
   over = omega arith;
@@ -99,11 +99,11 @@ side_bound_shape a h = record { cost = paid; numbers = small_side_bound a 0 h (o
 A_is_above : AcceptsCostSideBound paying 1 (Linear 1 (form (pos 1 ∷ []) (pos 0)) (0 ∷ []))
 A_is_above = implies_one (paying.cost_rows 1) (0 ∷ []) _ refl refl (λ u. refl) (omega (arith, ints))
 
--- what the uses state: the virtual entry's facts, and how often the rule runs
+-- the facts of the uses: those of the virtual entry, and how often the rule runs
 abbrev used : List Fact
 used = Time 0 (Constant 1) ∷ Size 0 1 (Input 0) ∷ Time 1 once_time ∷ []
 
--- an arm over A finds its size after the virtual entry
+-- the place that a side bound over A reads has a size after the virtual entry
 A_has_size : (e : ℕ) → is_in e (0 ∷ []) ≡ true
     → CostSideBoundHasSizes paying (table_of used) 1 (Linear 1 (form (pos 1 ∷ []) (pos 0)) (0 ∷ [])) e
 A_has_size = of_one (CostSideBoundHasSizes paying (table_of used) 1 (Linear 1 (form (pos 1 ∷ []) (pos 0)) (0 ∷ []))) 0
@@ -133,7 +133,7 @@ is_square = record {
       below_one (All-nil (λ (m : Monomial). All (λ (v : ℕ). v < 1) m.vars));
 }
 
--- and finds its size
+-- the place that the square reads has a size
 square_has_size : (e : ℕ) → is_in e (0 ∷ []) ≡ true → CostSideBoundHasSizes paying_squares (table_of used) 1 Poly e
 square_has_size = of_one (CostSideBoundHasSizes paying_squares (table_of used) 1 Poly) 0 by
   where
@@ -154,7 +154,7 @@ not_left h = omega (arith, All-head (λ (v : ℕ). v < 1) 1 (1 ∷ []) vars)
     vars : All (λ (v : ℕ). v < 1) (1 ∷ 1 ∷ [])
     vars = All-head (λ (m : Monomial). All (λ (v : ℕ). v < 1) m.vars) (record { coef = pos 1; vars = 1 ∷ 1 ∷ [] }) [] left
 
--- nor is a cost of degree 1
+-- a cost of degree 1 isn't nonlinear
 not_nonlinear : ¬ (IsPolynomialUpdate (costs_of paying) (cost_result_variable 1))
 not_nonlinear h = none_some h.nonlinear
   where

@@ -19,7 +19,7 @@ use Rattle.cert_rules.specs.Setting.{StepPoint, IsFaithful}
 use Rattle.cert_rules.specs.WorkedSettings.{form, is_nothing, are_nothing, has_nothing, folded, zero_below, enter}
 use Rattle.cert_rules.specs.WorkedSettings.{count_down, counting}
 
--- what is nothing has the value 0
+-- a bound that is nothing has the value 0
 mutual
   nothing_val : (b : Bound) (m : List ℕ) → is_nothing b ≡ true → val b m ≡ 0
   nothing_val (Constant zero) m h = refl
@@ -70,7 +70,7 @@ folded_val b m = go (is_nothing b) refl
     go true e = rw e (sym (nothing_val b m e))
     go false e = rw e refl
 
--- and bases
+-- folding keeps bases of at least 1
 pub folded-based : (b : Bound) → IsBased b → IsBased (folded b)
 folded-based b h = go (is_nothing b) refl
   where

@@ -51,7 +51,7 @@ is_double = one_point (keeping 0 0 []) refl (pos 2) 1 (omega arith) (omega arith
 is_back : IsPart back
 is_back = one_point (keeping 0 0 []) refl (negsuc 0) 0 (omega arith) (omega arith)
 
--- what the shape of a gap over the second and the third rule needs
+-- the conditions for the shape of a gap over the second and the third rule
 abbrev IsShaping : Program → (ℕ → RuleForms) → Type 0
 IsShaping p rule =
     (t : ℕ) → is_in t (2 ∷ 3 ∷ []) ≡ true → (rule t).unknowns ≡ 1 → (move next floor kept last : ScaledPoint)

@@ -62,7 +62,7 @@ one_row r z h = record {
       (All-nil (λ f. pos 0 ≤ℤ form_value f (at z.parts) (pos z.den)));
 }
 
--- and there alone
+-- a point that meets the only row gives at least 0 there
 pub row_met : (r : Form) (z : ScaledPoint) → MeetsAt (r ∷ []) z → pos 0 ≤ℤ value_at r z
 row_met r z h = All-head (λ f. pos 0 ≤ℤ form_value f (at z.parts) (pos z.den)) r [] h.each
 
@@ -94,7 +94,7 @@ loses_one f e = omega (arith, e.0)
 abbrev pub row : Form
 row = record { coefs = pos 1 ∷ []; constant = negsuc 0 }
 
--- where it is met, and kept
+-- a point at which the row is met, and which is kept
 pub met_at_1 : MeetsAt (row ∷ []) (scaled (pos 1 ∷ []) 1)
 met_at_1 = one_row row (scaled (pos 1 ∷ []) 1) (omega (arith, ints))
 
@@ -124,11 +124,11 @@ pairs_shape =
     (pair_point (pairs_forms 2) refl (pos 1) (negsuc 0) 0 (omega arith) (omega arith) (omega arith))
     (pair_point (pairs_forms 2) refl (pos 1) (pos 1) 1 (omega arith) (omega arith) (omega arith))
 
--- what passes, and what is behind it
+-- a check that passes, and the ones after it
 pub both : {A B : Type 0} → A → B → A × B
 both a b = (a, b)
 
--- what passes, and what fails behind it
+-- a check that passes, and one after it that fails
 pub behind : {A B C : Type 0} → A → B → C ⊎ (A × B)
 behind a b = inr (a, b)
 
@@ -142,7 +142,7 @@ two_is_some e = omega (arith, ints, e)
 pub minus_one_is_some : ¬ (negsuc 0 ≡ pos 0)
 minus_one_is_some e = omega (arith, ints, e)
 
--- the number behind the limit is past it
+-- the limit plus one is over the limit
 pub past : 2 ^ 45 + 1 ≤ point_limit → ⊥
 past h = omega (arith, h)
 

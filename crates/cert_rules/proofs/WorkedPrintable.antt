@@ -9,7 +9,7 @@ use Rattle.cert_rules.specs.Printable.{WritesTidy}
 use Rattle.cert_rules.specs.Worked.{one_part, only, once, down_alone}
 use Rattle.cert_rules.specs.WorkedPrintable.{PrintingIsJudged}
 
--- one part isn't two, and the number behind the limit is past it
+-- one part isn't two, and the limit plus one is over the limit
 one_is_few : ¬ (2 ≤ 1)
 one_is_few h = omega (arith, h)
 

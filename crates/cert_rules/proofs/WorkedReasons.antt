@@ -39,7 +39,7 @@ down_shape k l h i = record {
   floor = one_needed l i;
 }
 
--- the shapes of members of the first rule with wrong arms
+-- the shapes of members of the first rule with wrong side bounds
 up_shape : HasMemberShape counting wrong_up
 up_shape = record {
   at = record { rule = enter; numbered = refl; least = omega arith; most = omega arith };

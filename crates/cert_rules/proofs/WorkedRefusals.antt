@@ -50,14 +50,14 @@ nodes_numbered = record {
   not_last_use_first = λ e. other_number (same_head _ _ _ _ e);
 }
 
--- a node is the first that fails, behind nodes that are accepted
+-- a node is the first that fails, after nodes that are accepted
 module _ (past : List (List Fact)) where
   -- a node alone
   alone : (node : Proof) (r : Reason) → IsFirstReason counting past node r
       → FailsFirst (AcceptsNode counting past) (IsFirstReason counting past) (node ∷ []) 1 r
   alone node r h = first-here (AcceptsNode counting past) (IsFirstReason counting past) node [] r h
 
-  -- a node behind another one
+  -- a node after another one
   behind_one : (x node : Proof) (r : Reason) → AcceptsNode counting past x → IsFirstReason counting past node r
       → FailsFirst (AcceptsNode counting past) (IsFirstReason counting past) (x ∷ node ∷ []) 2 r
   behind_one x node r h k =
@@ -76,7 +76,7 @@ floor_refused = record {
   first = behind_one first_fact Start (down (0 ∷ []) (0 ∷ [])) Floor tt reasons_worked.floor;
 }
 
--- the same where it is the first lemma
+-- the refusal if this is the first lemma
 first_refused : IsRefusedAt counting (down (0 ∷ []) (0 ∷ []) ∷ Cite 2 ∷ []) 1 2 Floor
 unfolding AcceptsLemmas facts_of_lemmas
 first_refused = record {
@@ -143,7 +143,7 @@ later_refused = record {
       Shape (inl ((λ h. let low : 3 ≤ 1 = h.earlier in omega (arith, low)), refl));
 }
 
--- a node behind two uses, without the time of what enters
+-- a node after two uses, without the time of the rule that enters
 third_refused : IsRefusedAt counting (once ∷ entered ∷ without_time ∷ []) 3 3 (MissingTime 1)
 unfolding AcceptsLemmas facts_of_lemmas
 third_refused = record {

@@ -1,4 +1,4 @@
--- Moves, arms and sizes, on small programs.
+-- Moves, side bounds and sizes, on small programs.
 use Rattle.std.proofs.Common.{◌≡◌, ◌≤◌, List, ℕ, zero, suc, ◌<◌, ◌==◌, ◌||◌, Bool, true, false, [], ◌∷◌, Some, refl, ap}
 use Rattle.std.proofs.Common.{arith, All}
 use Rattle.std.specs.Prelude.{ℤ, pos, negsuc, nat_abs}
@@ -60,7 +60,7 @@ square_sizes : SideBoundHasSizes squaring (table_of (start_facts squaring.progra
 square_sizes zero k l = (Input 0, refl)
 square_sizes (suc j) k l = absurd (no_other_place j k)
 
--- a polynomial arm outside a loop
+-- a polynomial side bound outside a loop
 poly : Accepts squaring [] (Spread (nonlinear_member 1) (only Start))
 poly = (
   (tt, tt),
@@ -97,7 +97,7 @@ loop_size h =
     All-head (HasSizesBefore counting (table_of (start_facts counting.program)) (looped_member ∷ [])) looped_member [] h.1.sizes in
     let size = (sizes 1 refl).up 0 refl refl in nothing_known size.0 size.1
 
--- the numbers of an arm that doubles are within the limit
+-- the numbers of a side bound that doubles are within the limit
 double_side_bound : (a : ℤ) → nat_abs a ≤ 2 → HasLinearShape doubling 2 1 1 (form (a ∷ []) (pos 0)) []
 double_side_bound a h = record {
   over = omega arith;
@@ -111,11 +111,11 @@ double_side_bound a h = record {
   one_each = record { long = refl; limit = All-nil IsInLimit };
 }
 
--- what the two lemmas state
+-- the facts of the two lemmas
 abbrev size_with_time : List Fact
 size_with_time = Size 1 1 (Input 0) ∷ Time 2 (Constant 3) ∷ []
 
--- what holds of the member that doubles holds of all
+-- a property of the member that doubles is one of all
 of_doubled : (P : Member → Type 0) → P doubled_member → All P doubled
 of_doubled P h = All-cons P doubled_member [] h (All-nil P)
 

@@ -27,7 +27,7 @@ pub record AreMultipliers (s : Setting) (t : ℕ) (multipliers : List ℕ) : Typ
   pub long : length multipliers ≡ length (s.rows t)
   pub limit : AreInLimit multipliers
 
--- what has to be right of an empty node before anything else
+-- the shape of an `empty` node, checked before anything else
 pub record HasEmptyShape (s : Setting) (t : ℕ) (multipliers : List ℕ) : Type 0 where
   pub rule : IsRule s.program t
   pub one_each : AreMultipliers s t multipliers
@@ -75,12 +75,12 @@ abbrev pub places_at : Program → Option ℕ → List ℕ
 places_at p None = []
 places_at p (Some a) = range_with_len 1 (arity_of p a)
 
--- what follows of a rule that never runs: size 0 for each place of its target
+-- the facts about a rule that never runs: size 0 for each place of its target
 abbrev pub never_facts : Program → List Fact → List Fact
 never_facts p (Time t b ∷ []) = zero_sizes t (places_at p (target_of p t))
 never_facts p facts = []
 
--- what holds of the virtual entry: it occurs once, and place i has the size of start argument i
+-- the facts about the virtual entry: it occurs once, and place i has the size of start argument i
 abbrev pub start_sizes : List ℕ → List Fact
 start_sizes [] = []
 start_sizes (i ∷ is) = Size 0 i (Input (i - 1)) ∷ start_sizes is

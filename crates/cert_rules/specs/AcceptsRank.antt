@@ -29,9 +29,10 @@ moves_of [] moves t = []
 moves_of (u ∷ set) [] t = []
 moves_of (u ∷ set) (m ∷ moves) t = cond (u == t) m (moves_of set moves t)
 
--- what has to be right before anything else: the set is ascending, has only numbers of rules and holds the rule;
--- there is one form for each source and target symbol of the set, in symbol order; the denominator is at least 1;
--- there are multipliers for each rule of the set and for the floor; and all numbers are within the limit
+-- the shape of a ranking node, checked before anything else: the set is ascending, has only numbers of rules and
+-- contains the rule; there is one form for each source and target symbol of the set, in symbol order; the denominator
+-- is at least 1; there are multipliers for each rule of the set and for the floor; and all numbers are within the
+-- limit
 pub record HasRankShape (s : Setting) (node : RankNode) : Type 0 where
   pub ascending : IsAscending node.set
   pub rules : (t : ℕ) → is_in t node.set ≡ true → IsRule s.program t
@@ -51,7 +52,7 @@ at_source p node t = rank_form node.forms (source_of p t)
 abbrev pub at_target : Program → RankNode → ℕ → Form
 at_target p node t = rank_form node.forms (target_of p t)
 
--- what the function has to lose by a rule: the denominator by the strict rule, and nothing by the others
+-- how much the function has to fall by a rule: the denominator for the strict rule, and 0 for the others
 abbrev pub least_loss : RankNode → ℕ → ℤ
 least_loss node t = cond (t == node.rule) (pos node.den) (pos 0)
 

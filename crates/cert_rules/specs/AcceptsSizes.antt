@@ -27,8 +27,8 @@ pub record IsResultVariable (p : Program) (result_variable : ResultVariable) : T
   pub least : 1 ≤ result_variable.place
   pub most : result_variable.place ≤ arity_of p rule.target
 
--- the numbers of a linear arm: a denominator of at least 1, one coefficient a left place, a multiplier a row, all
--- within the limit; a polynomial arm has no number
+-- the numbers of a linear side bound: a denominator of at least 1, one coefficient for each left place, a multiplier
+-- for each row, all within the limit; a polynomial side bound has no number
 pub record HasLinearShape (s : Setting) (t left den : ℕ) (form : Form) (multipliers : List ℕ) : Type 0 where
   pub over : 1 ≤ den
   pub den_limit : IsInLimit den
@@ -49,23 +49,23 @@ left_in (Some r) = r.left
 abbrev pub left_of : Program → ℕ → ℕ
 left_of p t = left_in (rule_at p t)
 
--- what has to be right of a member before anything else
+-- the shape of a member, checked before anything else
 pub record HasMemberShape (s : Setting) (m : Member) : Type 0 where
   pub at : IsResultVariable s.program m.result_variable
   pub up : HasSideBoundShape s m.result_variable.rule (left_of s.program m.result_variable.rule) m.local.up
   pub low : HasSideBoundShape s m.result_variable.rule (left_of s.program m.result_variable.rule) m.local.low
 
--- the side of an arm: over the new value, or over its negation
+-- the side of a side bound: over the new value, or over its negation
 pub data Side : Type 0 where
   Up : Side
   Low : Side
 
--- what is to be at least 0: the form less den times the new value on the up side, plus it on the low side
+-- the form that has to be at least 0: the form less den times the new value on the up side, plus it on the low side
 abbrev pub side_bound_goal : Side → ℕ → Form → Form → Form
 side_bound_goal Up den form value = form_sum form (form_times (neg_ℤ (pos den)) value)
 side_bound_goal Low den form value = form_sum form (form_times (pos den) value)
 
--- the form of the new value at a spot, whose place counts from 1
+-- the form of the new value at a result variable, whose place counts from 1
 abbrev pub new_value : Setting → ResultVariable → Form
 new_value s result_variable = form_at (s.new_values result_variable.rule) (result_variable.place - 1)
 
@@ -79,30 +79,30 @@ pub record IsPolynomialUpdate (s : Setting) (result_variable : ResultVariable) :
   pub nonlinear : poly_at s result_variable ≡ Some polynomial
   pub left_alone : ReadsLeft (left_of s.program result_variable.rule) polynomial
 
--- an arm is accepted: the rows imply it, or the update is its own polynomial
+-- a side bound is accepted: the rows imply it, or the update is its own polynomial
 abbrev pub AcceptsSideBound : Setting → ResultVariable → Side → SideBound → Type 0
 AcceptsSideBound s result_variable side (Linear den form multipliers) =
     Implies (s.rows result_variable.rule) multipliers (side_bound_goal side den form (new_value s result_variable))
 AcceptsSideBound s result_variable side Poly = IsPolynomialUpdate s result_variable
 
--- each of the two arms of a member is accepted
+-- each of the two side bounds of a member is accepted
 abbrev pub AcceptsUp : Setting → Member → Type 0
 AcceptsUp s m = AcceptsSideBound s m.result_variable Up m.local.up
 
 abbrev pub AcceptsLow : Setting → Member → Type 0
 AcceptsLow s m = AcceptsSideBound s m.result_variable Low m.local.low
 
--- after rule e: each place that an arm reads is a member, or has a size
+-- after rule e each place that a side bound reads is a member, or has a size
 abbrev pub SideBoundHasSizes : Setting → Table → List Member → ResultVariable → SideBound → ℕ → Type 0
 SideBoundHasSizes s table members result_variable side_bound e = (j : ℕ) → reads (poly_at s result_variable) side_bound j ≡ true → is_member members e j ≡ false
     → IsKnown (table.size e (suc j))
 
--- after rule e: each place that the up arm reads is a member or has a size, and each that the low arm reads
+-- after rule e each place that the up side bound or the low one reads is a member or has a size
 pub record HasSizesAfter (s : Setting) (table : Table) (members : List Member) (m : Member) (e : ℕ) : Type 0 where
   pub up : SideBoundHasSizes s table members m.result_variable m.local.up e
   pub low : SideBoundHasSizes s table members m.result_variable m.local.low e
 
--- the same after each rule that can come before
+-- this holds after each rule that can come before
 abbrev pub HasSizesBefore : Setting → Table → List Member → Member → Type 0
 HasSizesBefore s table members m = (e : ℕ) → is_in e (pre s.program m.result_variable.rule) ≡ true
     → HasSizesAfter s table members m e
@@ -111,8 +111,8 @@ HasSizesBefore s table members m = (e : ℕ) → is_in e (pre s.program m.result
 abbrev pub spread_size : Setting → Table → Member → Bound
 spread_size s table m = spread_of s m table.size
 
--- a size that doesn't loop: both arms are accepted, each place that they read has a size after each rule that can
--- come before, and the composed bound is small
+-- a spread node is accepted: both side bounds are, each place that they read has a size after each rule that can come
+-- before, and the composed bound is small
 pub record AcceptsSpread (s : Setting) (table : Table) (m : Member) : Type 0 where
   pub shape : HasMemberShape s m
   pub up : AcceptsUp s m
@@ -120,7 +120,7 @@ pub record AcceptsSpread (s : Setting) (table : Table) (m : Member) : Type 0 whe
   pub sizes : HasSizesBefore s table [] m
   pub small : IsSmallComposed s.rewrite (spread_size s table m)
 
--- one spot comes before another: by rule, then by place
+-- one result variable comes before another: by rule, then by place
 abbrev pub ComesBefore : ResultVariable → ResultVariable → Type 0
 ComesBefore a b = (a.rule < b.rule) ⊎ ((a.rule ≡ b.rule) × (a.place < b.place))
 
@@ -130,12 +130,12 @@ AreAscending [] = ⊤
 AreAscending (m ∷ []) = ⊤
 AreAscending (m ∷ n ∷ rest) = ComesBefore m.result_variable n.result_variable × AreAscending (n ∷ rest)
 
--- after rule e: a polynomial arm reads no member
+-- after rule e a polynomial side bound reads no member
 abbrev pub IsStraightSideBound : Setting → List Member → Member → ℕ → SideBound → Type 0
 IsStraightSideBound s members m e (Linear den form multipliers) = ⊤
 IsStraightSideBound s members m e Poly = (j : ℕ) → reads (poly_at s m.result_variable) Poly j ≡ true → is_member members e j ≡ false
 
--- neither arm of a member is bent
+-- neither side bound of a member is a polynomial that reads a member
 pub record IsStraight (s : Setting) (members : List Member) (m : Member) : Type 0 where
   pub up : (e : ℕ) → is_in e (pre s.program m.result_variable.rule) ≡ true → IsStraightSideBound s members m e m.local.up
   pub low : (e : ℕ) → is_in e (pre s.program m.result_variable.rule) ≡ true → IsStraightSideBound s members m e m.local.low
@@ -150,8 +150,8 @@ pub record HasCycleShape (s : Setting) (members : List Member) : Type 0 where
   pub ascending : AreAscending members
   pub each : All (HasMemberShape s) members
 
--- a loop: all arms are accepted, each place that they read outside has a size, no polynomial arm reads a member, each
--- rule that multiplies or adds has a time, and the composed bound is small
+-- a loop node is accepted: all side bounds are, each place that they read outside has a size, no polynomial side bound
+-- reads a member, each rule that multiplies or adds has a time, and the composed bound is small
 pub record AcceptsCycle (s : Setting) (table : Table) (members : List Member) : Type 0 where
   pub shape : HasCycleShape s members
   pub up : All (AcceptsUp s) members

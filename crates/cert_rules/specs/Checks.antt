@@ -53,7 +53,7 @@ needed_after s node e =
     (filter (λ j. not (is_zero (at (at_target s.program node e).coefs j)))
     (range_with_len 0 (length (at_target s.program node e).coefs)))
 
--- and after each of these rules
+-- the sizes needed after each of these rules
 abbrev pub needed_after_each : Setting → RankNode → List ℕ → List ResultVariable
 needed_after_each s node [] = []
 needed_after_each s node (e ∷ es) = needed_after s node e ++ needed_after_each s node es
@@ -68,14 +68,14 @@ rank_checks s table node =
     (for_each (check_size table) (needed_after_each s node (entries s.program node.set))
     (check_small s (rank_time s node table) ∷ [])))
 
--- both arms of each member, all that are up and then all that are low
+-- the checks of both side bounds of each member, first all that are up and then all that are low
 abbrev pub check_up : Setting → Member → Check
 check_up s m = check (SideBoundUp m.result_variable.rule m.result_variable.place) (AcceptsUp s m)
 
 abbrev pub check_low : Setting → Member → Check
 check_low s m = check (SideBoundLow m.result_variable.rule m.result_variable.place) (AcceptsLow s m)
 
--- the sizes that an arm needs after rule e: those of the places that it reads and that aren't members, ascending
+-- the sizes that a side bound needs after rule e: those of the places that it reads and that aren't members, ascending
 abbrev pub needed_by : Setting → List Member → Member → SideBound → ℕ → List ResultVariable
 needed_by s members m side_bound e =
     result_variables_after e
@@ -102,18 +102,18 @@ spread_checks s table m =
     for_each (check_size table) (needed_into s [] (m ∷ []))
     (check_small s (spread_size s table m) ∷ [])
 
--- an arm of a member after rule e reads no member
+-- the check that a side bound of a member reads no member after rule e, if it is polynomial
 abbrev pub check_straight : Setting → List Member → Member → SideBound → ℕ → Check
 check_straight s members m side_bound e = check (Nonlinear m.result_variable.rule m.result_variable.place) (IsStraightSideBound s members m e side_bound)
 
--- neither arm of a member does, after these rules
+-- the checks of both side bounds of a member, after these rules
 abbrev pub straight_from : Setting → List Member → Member → List ℕ → List Check → List Check
 straight_from s members m [] rest = rest
 straight_from s members m (e ∷ es) rest =
     check_straight s members m m.local.up e ∷
     check_straight s members m m.local.low e ∷ straight_from s members m es rest
 
--- no arm of these members does, after what can come before each
+-- the checks of all side bounds of these members, after the rules that can come before each
 abbrev pub straight_into : Setting → List Member → List Member → List Check → List Check
 straight_into s members [] rest = rest
 straight_into s members (m ∷ ms) rest =
@@ -136,7 +136,7 @@ cycle_checks s table members =
     (for_each (check_time table) (needed_times s table members)
     (check_small s (cycle_size s table members) ∷ [])))))
 
--- the sizes that the arm of a cost needs after these rules, places ascending after each
+-- the sizes that the side bound of a cost needs after these rules, places ascending after each
 abbrev pub needed_at_cost : Setting → ℕ → SideBound → List ℕ → List ResultVariable
 needed_at_cost s t side_bound [] = []
 needed_at_cost s t side_bound (e ∷ es) =

@@ -1,5 +1,5 @@
--- The bounds on sizes that nodes compose: arms as bounds, the maximum over what can come before, and the formula of a
--- loop.
+-- The bounds on sizes that nodes compose: side bounds as bounds, the maximum over the rules that can come before, and
+-- the formula of a loop.
 use Rattle.std.specs.Prelude.{ℕ, zero, suc, ◌+◌, ◌==◌, ◌&&◌, not, max, nat_lt, Bool, false, cond, List, [], ◌∷◌, ◌++◌}
 use Rattle.std.specs.Prelude.{filter, ℤ, nat_abs, Option, Some, None}
 use Rattle.std.specs.List.{list_any}
@@ -29,7 +29,7 @@ abbrev pub polynomial_bound : Option Polynomial → (ℕ → Bound) → Bound
 polynomial_bound None sizes = Constant 0
 polynomial_bound (Some q) sizes = SumOf (monomial_parts q sizes)
 
--- an arm as a bound, with a bound for each place
+-- a side bound as a bound, with a bound for each place
 abbrev pub composed_side_bound : Option Polynomial → SideBound → (ℕ → Bound) → Bound
 composed_side_bound poly (Linear den form multipliers) sizes = form_bound form den sizes
 composed_side_bound poly Poly sizes = polynomial_bound poly sizes
@@ -39,12 +39,12 @@ abbrev pub has_variable : Option Polynomial → ℕ → Bool
 has_variable None j = false
 has_variable (Some q) j = list_any (λ m. is_in j m.vars) q
 
--- an arm reads a place, numbered from 0: its coefficient there isn't 0, or the polynomial has it
+-- a side bound reads a place, numbered from 0: its coefficient there isn't 0, or the polynomial has it
 abbrev pub reads : Option Polynomial → SideBound → ℕ → Bool
 reads poly (Linear den form multipliers) j = not (is_zero (at form.coefs j))
 reads poly Poly j = has_variable poly j
 
--- the polynomial of a spot's new value, where it has degree 2 or more
+-- the polynomial of a result variable's new value, if it has degree 2 or more
 abbrev pub poly_of : Setting → ℕ → ℕ → Option Polynomial
 poly_of s t zero = None
 poly_of s t (suc i) = s.poly t i
@@ -52,13 +52,13 @@ poly_of s t (suc i) = s.poly t i
 abbrev pub poly_at : Setting → ResultVariable → Option Polynomial
 poly_at s result_variable = poly_of s result_variable.rule result_variable.place
 
--- both arms of a member at the sizes after rule e
+-- both side bounds of a member at the sizes after rule e
 abbrev pub spread_part : Setting → Member → (ℕ → ℕ → Option Bound) → ℕ → Bound
 spread_part s m size e =
     MaximumOf (both_parts (composed_side_bound (poly_at s m.result_variable) m.local.up (sizes_after size e))
     (composed_side_bound (poly_at s m.result_variable) m.local.low (sizes_after size e)))
 
--- the size of a spot that doesn't loop: the maximum over what can come before
+-- the size of a result variable that doesn't loop: the maximum over the rules that can come before
 abbrev pub spread_of : Setting → Member → (ℕ → ℕ → Option Bound) → Bound
 spread_of s m size = MaximumOf (parts_for (spread_part s m size) (pre s.program m.result_variable.rule))
 
@@ -71,7 +71,7 @@ abbrev pub inner_sum : List ℤ → ℕ → (ℕ → Bool) → ℕ
 inner_sum [] den inside = 0
 inner_sum (c ∷ cs) den inside = cond (inside 0) (rounded_up (nat_abs c) den) 0 + inner_sum cs den (λ j. inside (suc j))
 
--- how often an arm takes the members, and what it adds to them
+-- the sum of a side bound's coefficients at members, and its other part
 abbrev pub slope_of : SideBound → (ℕ → Bool) → ℕ
 slope_of (Linear den form multipliers) inside = inner_sum form.coefs den inside
 slope_of Poly inside = 0
@@ -80,13 +80,13 @@ abbrev pub offset_of : Option Polynomial → SideBound → (ℕ → Bool) → (�
 offset_of poly (Linear den form multipliers) inside sizes = rest_bound form den inside sizes
 offset_of poly Poly inside sizes = polynomial_bound poly sizes
 
--- what flows into a member by one arm from one rule before: at most slope times the members, and the offset
+-- a flow into a member by one side bound from one rule before: at most slope times the members, plus the offset
 pub record Flow : Type 0 where
   pub rule : ℕ
   pub slope : ℕ
   pub offset : Bound
 
--- what flows into a member by an arm from rule e
+-- the flow into a member by a side bound from rule e
 abbrev pub flow : Setting → List Member → (ℕ → ℕ → Option Bound) → Member → SideBound → ℕ → Flow
 flow s members size m side_bound e = record {
   rule = m.result_variable.rule;
@@ -94,23 +94,23 @@ flow s members size m side_bound e = record {
   offset = offset_of (poly_at s m.result_variable) side_bound (is_member members e) (sizes_after size e);
 }
 
--- what flows into a member from these rules, up before low
+-- the flows into a member from these rules, up before low
 abbrev pub flows_from : Setting → List Member → (ℕ → ℕ → Option Bound) → Member → List ℕ → List Flow
 flows_from s members size m [] = []
 flows_from s members size m (e ∷ es) =
     flow s members size m m.local.up e ∷ flow s members size m m.local.low e ∷ flows_from s members size m es
 
--- what flows into these members of a loop
+-- the flows into these members of a loop
 abbrev pub flows_into : Setting → List Member → (ℕ → ℕ → Option Bound) → List Member → List Flow
 flows_into s members size [] = []
 flows_into s members size (m ∷ ms) =
     flows_from s members size m (pre s.program m.result_variable.rule) ++ flows_into s members size ms
 
--- all that flows in a loop: by members, then by what can come before, then up before low
+-- all flows of a loop: by members, then by the rules that can come before, then up before low
 abbrev pub flows : Setting → List Member → (ℕ → ℕ → Option Bound) → List Flow
 flows s members size = flows_into s members size members
 
--- it takes no member: the slope is 0
+-- the flow takes no member: its slope is 0
 abbrev pub is_outer : Flow → Bool
 is_outer f = f.slope == 0
 
@@ -119,19 +119,19 @@ abbrev pub offsets : (Flow → Bool) → List Flow → Parts
 offsets test [] = NoParts
 offsets test (f ∷ fs) = cond (test f) (Part f.offset (offsets test fs)) (offsets test fs)
 
--- what comes into the loop: the maximum offset of the flows that take no member
+-- the base of a loop: the maximum offset of the flows that read no member
 abbrev pub base_of : List Flow → Bound
 base_of fs = MaximumOf (offsets is_outer fs)
 
--- it takes members, by rule t
+-- the flow takes members, by rule t
 abbrev pub is_inner : ℕ → Flow → Bool
 is_inner t f = (f.rule == t) && not (is_outer f)
 
--- what rule t adds: the maximum offset of its flows that take members
+-- the addition of rule t: the maximum offset of its flows that read members
 abbrev pub addition_of : List Flow → ℕ → Bound
 addition_of fs t = MaximumOf (offsets (is_inner t) fs)
 
--- by what rule t multiplies: the maximum of 1 and the slopes of its flows
+-- the factor of rule t: the maximum of 1 and the slopes of its flows
 abbrev pub factor_of : List Flow → ℕ → ℕ
 factor_of [] t = 1
 factor_of (f ∷ fs) t = cond (f.rule == t) (max f.slope (factor_of fs t)) (factor_of fs t)

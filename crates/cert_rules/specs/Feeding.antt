@@ -14,8 +14,8 @@ growth factor (t ∷ ts) steps = factor t ^ count t steps * growth factor ts ste
 abbrev pub grown : ℕ → (ℕ → ℕ) → (ℕ → ℕ) → List ℕ → List Step → ℕ
 grown base factor addition ts steps = growth factor ts steps * (base + income addition ts steps)
 
--- what feeds the members of a loop: a run without a step leaves them within the base; and after a step by rule t each
--- member is within the base, or within the factor of t times whatever bounds the members before the step, plus the
+-- the growth of the members of a loop: a run without a step leaves them within the base; and after a step by rule t
+-- each member is within the base, or within the factor of t times a bound on the members before the step, plus the
 -- addition of t
 pub record IsFed {C : Type 0} (IsRunTo : List Step → C → Type 0) (size : C → ℕ → ℕ) (member : ℕ → ℕ → Bool) (base : ℕ)
     (factor addition : ℕ → ℕ) (ts : List ℕ) : Type 0 where

@@ -17,7 +17,7 @@ use Rattle.cert_rules.specs.Reasons.{CheckOf, check, for_each}
 -- Why a gap isn't accepted, in the order of the checks; in the proof text `shape`, `move`, `floor`, `kept`, `balance`
 -- and `nothing`: a wrong set, wrong lengths or numbers over the limit; the move of a rule that isn't a point or a ray
 -- of its rows; a floor that isn't; the kept point of a rule that isn't a point of its rows; a symbol's place without
--- balance, where place 0 is the constant; and nothing is lost, since neither the strict rule's move nor the floor has a
+-- balance, where place 0 is the constant; and no fall at all, since neither the strict rule's move nor the floor has a
 -- denominator.
 pub data GapFault : Type 0 where
   WrongShape : GapFault
@@ -39,9 +39,9 @@ point_of [] zs t = record { parts = []; den = 0 }
 point_of (u ∷ set) [] t = record { parts = []; den = 0 }
 point_of (u ∷ set) (z ∷ zs) t = cond (u == t) z (point_of set zs t)
 
--- what has to be right before anything else: the set is ascending, has only numbers of rules and holds the strict
--- rule; there is one move and one kept point for each rule of the set; and each point has a part for each unknown of
--- its rule, and numbers within the limit
+-- the shape of a gap, checked before anything else: the set is ascending, has only numbers of rules and contains the
+-- strict rule; there is one move and one kept point for each rule of the set; and each point has a part for each
+-- unknown of its rule, and numbers within the limit
 pub record HasGapShape (p : Program) (rule : ℕ → RuleForms) (g : Gap) : Type 0 where
   pub ascending : IsAscending g.set
   pub rules : (t : ℕ) → is_in t g.set ≡ true → IsRule p t
@@ -64,7 +64,7 @@ IsPointOf rows z = IsPoint rows (at z.parts) (pos z.den)
 abbrev pub value_at : Form → ScaledPoint → ℤ
 value_at f z = form_value f (at z.parts) (pos z.den)
 
--- what leaves a place of a symbol by the moves of the rules of a set, less what arrives there
+-- the sum at a place of a symbol over the moves of the rules of a set: the values there before, less those after
 abbrev pub net : (ℕ → RuleForms) → Coefficient → List ℕ → List ScaledPoint → ℤ
 net rule c [] zs = pos 0
 net rule c (t ∷ ts) [] = pos 0
@@ -84,7 +84,7 @@ balanced_at p g (s ∷ ss) =
     (0 ∷ filter (λ i. not (is_shut g.shut s i)) (range_with_len 1 (arity_of p s)))
     ++ balanced_at p g ss
 
--- those of the symbols that a rule of the set leaves or leads to, in the order of symbols
+-- the coefficients of the symbols that are sources or targets of rules of the set, in the order of symbols
 abbrev pub balanced : Program → Gap → List Coefficient
 balanced p g = balanced_at p g (symbols_of p g.set)
 

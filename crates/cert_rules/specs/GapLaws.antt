@@ -1,4 +1,4 @@
--- What a gap that holds proves, and that its checks agree with its definition.
+-- The claim that a gap proves, and the agreement of its checks with its definition.
 use Rattle.std.specs.Prelude.{◌≡◌, ◌↔◌, ℕ}
 use Rattle.run_counting.specs.model.Programs.{Program, arity_of}
 use Rattle.rule_forms.specs.linear_forms.RuleQuestions.{RuleForms, RankedSet, symbols_of_set}
@@ -26,7 +26,7 @@ pub record GapsExcludeFunctions : Type 0 where
 pub record HasNoFault (p : Program) (rule : ℕ → RuleForms) (g : Gap) : Type 0 where
   pub none : (x : GapFault) → ¬ (IsFirstAmong (gap_checks p rule g) x)
 
--- the checks of a gap all pass exactly where it holds, which is exactly where no fault is the first; and at most one is
+-- the checks of a gap all pass exactly if it holds, which is exactly if no fault is the first; and at most one is
 pub record GapChecksAreInLine : Type 0 where
   pub pass : (p : Program) (rule : ℕ → RuleForms) (g : Gap) → AllPass (gap_checks p rule g) ↔ GapHolds p rule g
   pub none : (p : Program) (rule : ℕ → RuleForms) (g : Gap) → GapHolds p rule g ↔ HasNoFault p rule g

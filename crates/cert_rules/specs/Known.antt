@@ -1,4 +1,5 @@
--- What is known where a node is checked: a table of bounds, and facts as they are looked up, the first that matches.
+-- The bounds known where a node is checked: a table of bounds, and facts as they are looked up, the first that
+-- matches.
 use Rattle.std.specs.Prelude.{◌≡◌, ℕ, zero, ◌==◌, ◌&&◌, Bool, true, false, cond, List, [], ◌∷◌, Option, Some, None}
 use Rattle.run_counting.specs.model.Bounds.{Bound, Constant}
 use Rattle.run_counting.specs.model.Facts.{Fact, Time, Size, Cost}

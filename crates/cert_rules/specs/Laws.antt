@@ -21,7 +21,7 @@ bound_in (Cost t b) = b
 abbrev pub HasBasedBound : Fact → Type 0
 HasBasedBound f = IsBased (bound_in f)
 
--- and every base in the bounds of these facts is at least 1
+-- every base in the bounds of facts of accepted lemmas is at least 1
 pub record AcceptedBoundsAreBased : Type 0 where
   pub each : (s : Setting) → IsFaithful s → (proofs : List Proof) → AcceptsLemmas s proofs
       → All (All HasBasedBound) (facts_of_lemmas s proofs)

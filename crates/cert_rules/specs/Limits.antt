@@ -9,7 +9,7 @@ use Rattle.rule_forms.specs.linear_forms.Limits.{certificate_limit}
 abbrev pub IsInLimit : ℕ → Type 0
 IsInLimit n = n ≤ certificate_limit
 
--- the same for each multiplier
+-- each multiplier is within the limit
 abbrev pub AreInLimit : List ℕ → Type 0
 AreInLimit multipliers = All IsInLimit multipliers
 

@@ -14,12 +14,12 @@ pub data SideBound : Type 0 where
   Linear : ℕ → Form → List ℕ → SideBound
   Poly : SideBound
 
--- a local bound: the up arm is never below the new value, the low arm never below its negation
+-- a local bound: the up side bound is never below the new value, the low one never below its negation
 pub record LocalBound : Type 0 where
   pub up : SideBound
   pub low : SideBound
 
--- a spot with its local bound
+-- a result variable with its local bound
 pub record Member : Type 0 where
   pub result_variable : ResultVariable
   pub local : LocalBound
@@ -29,7 +29,7 @@ pub record SymbolForm : Type 0 where
   pub symbol : ℕ
   pub form : Form
 
--- what a ranking node holds beside its uses: the rule whose time it bounds, the set of rules, the function as one
+-- the parts of a ranking node besides its uses: the rule whose time it bounds, the set of rules, the function as one
 -- form for each symbol over one denominator, the multipliers of each rule of the set, and those of the floor
 pub record RankNode : Type 0 where
   pub rule : ℕ
@@ -39,14 +39,14 @@ pub record RankNode : Type 0 where
   pub moves : List (List ℕ)
   pub floor : List ℕ
 
--- how it is shown what the steps by a rule cost: the cost rows, each times its multiplier, add up to -1; the rule never
--- runs; or an arm over the cost, in the rule's left arguments
+-- how the cost of the steps by a rule is shown: the cost rows, each times its multiplier, add up to -1; the rule never
+-- runs; or a side bound over the cost, in the rule's left arguments
 pub data CostBy : Type 0 where
   EmptyCost : List ℕ → CostBy
   NeverCost : CostBy
   SideBoundCost : SideBound → CostBy
 
--- what a node on the cost of a rule holds beside its uses
+-- the parts of a node on the cost of a rule besides its uses
 pub record CostNode : Type 0 where
   pub rule : ℕ
   pub by : CostBy

@@ -11,7 +11,7 @@ use Rattle.cert_rules.specs.Checks.{IsFirstReason}
 pub record HasNoReason (s : Setting) (past : List (List Fact)) (proof : Proof) : Type 0 where
   pub none : (r : Reason) → ¬ (IsFirstReason s past proof r)
 
--- a node has no first reason exactly where it is accepted, and it has at most one
+-- a node has no first reason exactly if it is accepted, and it has at most one
 pub record FirstReasonsAreInLine : Type 0 where
   pub none : (s : Setting) (past : List (List Fact)) (proof : Proof)
       → AcceptsNode s past proof ↔ HasNoReason s past proof

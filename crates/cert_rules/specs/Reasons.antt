@@ -3,9 +3,9 @@ use Rattle.std.specs.Prelude.{◌≡◌, ℕ, ◌⊎◌, List, [], ◌∷◌, �
 
 -- the reasons, in the words of the proof text: wrong lengths, numbers out of range or over their limit, lists that
 -- don't ascend, no earlier lemma, and no cost; rows that don't add up to -1; a source that is reached; a time that
--- isn't 0; a rule by which the function may rise; a function without a floor; an arm of a spot, up or low, that isn't
--- shown, where place 0 is the rule's cost; a time or a size that isn't known; a spot whose polynomial arm reads a
--- member; a composed bound with this many nodes; and a bound that isn't weaker
+-- isn't 0; a rule by which the function may rise; a function without a floor; a side bound of a result variable, up or
+-- low, that isn't shown, where place 0 is the rule's cost; a time or a size that isn't known; a result variable whose
+-- polynomial side bound reads a member; a composed bound with this many nodes; and a bound that isn't weaker
 pub data Reason : Type 0 where
   Shape : Reason
   NotEmpty : Reason
@@ -21,7 +21,7 @@ pub data Reason : Type 0 where
   Large : ℕ → Reason
   NotWeaker : Reason
 
--- what has to hold, and the reason where it doesn't
+-- a condition, and the reason that is given if it doesn't hold
 pub record CheckOf (R : Type 0) : Type 1 where
   pub reason : R
   pub holds : Type 0

@@ -15,7 +15,7 @@ use Rattle.cert_rules.specs.Acceptance.{AcceptsNode, Accepts, AcceptsLemmas, fac
 use Rattle.cert_rules.specs.Reasons.{Reason}
 use Rattle.cert_rules.specs.Refusals.{IsRefusedAt, AcceptsFile, IsRefusedAtGap}
 
--- a lemma is accepted exactly where each of its nodes is accepted by itself
+-- a lemma is accepted exactly if each of its nodes is accepted by itself
 pub record LemmasAreTheirNodes : Type 0 where
   pub each : (s : Setting) (past : List (List Fact)) (proof : Proof)
       → Accepts s past proof ↔ All (AcceptsNode s past) (nodes_of proof)
@@ -24,7 +24,7 @@ pub record LemmasAreTheirNodes : Type 0 where
 pub record HasNoRefusal (s : Setting) (proofs : List Proof) : Type 0 where
   pub none : (lemma node : ℕ) (r : Reason) → ¬ (IsRefusedAt s proofs lemma node r)
 
--- lemmas are accepted exactly where there is no node at which they are refused; and they are refused at one node of one
+-- lemmas are accepted exactly if there is no node at which they are refused; and they are refused at one node of one
 -- lemma at most, for one reason
 pub record RefusalsAreInLine : Type 0 where
   pub none : (s : Setting) (proofs : List Proof) → AcceptsLemmas s proofs ↔ HasNoRefusal s proofs
@@ -35,8 +35,8 @@ pub record RefusalsAreInLine : Type 0 where
 pub record HasNoGapRefusal (s : Setting) (rule : ℕ → RuleForms) (f : ProofFile) : Type 0 where
   pub none : (g : ℕ) (x : GapFault) → ¬ (IsRefusedAtGap s rule f g x)
 
--- a file is accepted exactly where there is neither a node nor a gap at which it is refused; it isn't refused at a node
--- and at a gap; and it is refused at one gap at most, for one fault
+-- a file is accepted exactly if it is refused neither at a node nor at a gap; it isn't refused at both; and it is
+-- refused at one gap at most, with one fault
 pub record FileRefusalsAreInLine : Type 0 where
   pub none : (s : Setting) (rule : ℕ → RuleForms) (f : ProofFile)
       → AcceptsFile s rule f ↔ (HasNoRefusal s f.lemmas × HasNoGapRefusal s rule f)

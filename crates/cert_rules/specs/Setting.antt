@@ -31,7 +31,7 @@ abbrev pub only_place : Option Polynomial → ℕ → Option Polynomial
 only_place poly zero = poly
 only_place poly (suc i) = None
 
--- the same setting with the cost rule of each rule in the rule's place
+-- the setting with the cost rule of each rule in the rule's place
 abbrev pub costs_of : Setting → Setting
 costs_of s = record {
   program = s.program;

@@ -1,4 +1,4 @@
--- Worked values of what is accepted and what isn't.
+-- Worked values of accepted and refused nodes.
 use Rattle.std.specs.Prelude.{◌≡◌, ℕ, List, [], ◌∷◌, ℤ, pos, negsuc, Option, Some}
 use Rattle.run_counting.specs.model.Bounds.{Bound, Constant, Input, SumOf, ProductOf, MaximumOf, PowerOf, Parts}
 use Rattle.run_counting.specs.model.Bounds.{NoParts, Part, val}
@@ -22,7 +22,7 @@ one_part b = Part b NoParts
 abbrev pub at_symbol : ℕ → ℤ → ℤ → SymbolForm
 at_symbol symbol coef constant = record { symbol = symbol; form = form (coef ∷ []) constant }
 
--- an arm over one place: a coefficient, a constant and multipliers
+-- a side bound over one place: a coefficient, a constant and multipliers
 abbrev pub side_bound : ℤ → ℤ → List ℕ → SideBound
 side_bound coef constant multipliers = Linear 1 (form (coef ∷ []) constant) multipliers
 
@@ -58,7 +58,7 @@ down_node move floor = record {
 abbrev pub down : List ℕ → List ℕ → Proof
 down move floor = Rank (down_node move floor) (only Start)
 
--- the same over the second rule alone, which the first one enters; the uses are given
+-- this node over the second rule alone, which the first one enters; the uses are given
 abbrev pub alone_node : RankNode
 alone_node = record {
   rule = 2;

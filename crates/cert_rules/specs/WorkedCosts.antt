@@ -48,7 +48,7 @@ paying_rule = with_cost (Variable 0) enter
 abbrev pub paying : Setting
 paying = one_paying paying_rule no_rows counting_new_values (form_of_A ∷ []) form_of_A None
 
--- the same with a rewriting that makes every bound 201 levels deep
+-- this setting with a rewriting that makes every bound 201 levels deep
 abbrev pub paying_towers : Setting
 paying_towers = record {
   program = paying.program;
@@ -93,7 +93,7 @@ paying_free_squares = one_paying
 abbrev pub charge : ℕ → CostBy → Proofs → Proof
 charge rule by uses = Charge (record { rule = rule; by = by }) uses
 
--- by an arm that is a times A, with these multipliers for the cost rows
+-- a side bound of a times A, with these multipliers for the cost rows
 abbrev pub times_A : ℕ → List ℕ → CostBy
 times_A a multipliers = SideBoundCost (side_bound (pos a) (pos 0) multipliers)
 
@@ -111,14 +111,14 @@ once_and_never = (Time 1 once_time ∷ []) ∷ (Time 1 (Constant 0) ∷ []) ∷ 
 abbrev pub free_of_charge : List (List Fact)
 free_of_charge = (Cost 1 (Constant 0) ∷ []) ∷ []
 
--- as often as the rule runs, the maximum over what can come before: A, and 1 * A * A
+-- the rule's time, times the maximum over the rules that can come before: A, and 1 * A * A
 abbrev pub cost_of_A : Bound
 cost_of_A = ProductOf (both_parts once_time (MaximumOf (one_part (one_times (Input 0)))))
 
--- a cost of A is accepted with the arm A, where the rule has a time, and A a size; with the arm 0 it isn't, nor with a
--- time or size less, nor at a rule without a cost. Cost rows that add up to -1, a rule whose first time is 0, and the
--- square of a left argument are accepted, and others not. A cost may be weakened; it is no time, and no rule is dead by
--- it
+-- a cost of A is accepted with the side bound A, if the rule has a time, and A a size; with the side bound 0 it isn't,
+-- nor without this time or size, nor at a rule without a cost. Cost rows that add up to -1, a rule whose first time is
+-- 0, and the square of a left argument are accepted, and others not. A cost may be weakened; it is no time, and no
+-- rule is dead by it
 pub record CostNodesAreJudged : Type 0 where
   pub side_bound : Accepts paying first_fact (charge 1 (times_A 1 (0 ∷ [])) start_and_first)
   pub side_bound_fact :
@@ -145,8 +145,8 @@ pub record CostNodesAreJudged : Type 0 where
   pub cost_leaves_reached : ¬ (Accepts counting free_of_charge (Unreached 2 (only (Cite 1))))
   pub time_leaves_unreached : Accepts counting no_time (Unreached 2 (only (Cite 1)))
 
--- for each reason a node on a cost whose first reason it is; a missing time comes before a missing size, and an arm
--- that isn't certified before both
+-- for each reason a node on a cost whose first reason it is; a missing time comes before a missing size, and a side
+-- bound that isn't certified before both
 pub record CostReasonsComeInOrder : Type 0 where
   pub no_cost : IsFirstReason counting first_fact (charge 1 NeverCost NoProof) Shape
   pub no_rule : IsFirstReason paying first_fact (charge 2 NeverCost NoProof) Shape

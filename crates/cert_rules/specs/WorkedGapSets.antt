@@ -28,7 +28,7 @@ crossing = program_with (enter ∷ rule_over 1 2 0 (Variable 0) [] ∷ rule_over
 abbrev pub crossing_forms : ℕ → RuleForms
 crossing_forms = three_forms (keeping 0 1 []) (keeping 1 2 []) (keeping 2 1 [])
 
--- the same with a guard of the third rule, A >= 1
+-- this program with a guard of the third rule, A >= 1
 abbrev pub guarded : Program
 guarded = program_with
     (enter ∷ rule_over 1 2 0 (Variable 0) []

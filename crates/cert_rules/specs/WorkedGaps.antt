@@ -124,7 +124,7 @@ gap_with rule set shut moves floor kept = record {
 abbrev pub gap_over : ℕ → List SymbolPlace → ScaledPoint → ScaledPoint → ScaledPoint → Gap
 gap_over t shut move floor kept = gap_with 2 (t ∷ []) shut (move ∷ []) floor (kept ∷ [])
 
--- the same over the second rule itself, with points of one part
+-- such a gap over the second rule itself, with points of one part
 abbrev pub gap_of_one : List SymbolPlace → ℤ → ℕ → ℤ → ℕ → ℤ → ℕ → Gap
 gap_of_one shut move m floor f kept k =
     gap_over 2 shut (scaled (move ∷ []) m) (scaled (floor ∷ []) f) (scaled (kept ∷ []) k)

@@ -37,7 +37,7 @@ wrong_up = record {
   local = record { up = side_bound (pos 0) (pos 0) []; low = side_bound (pos 1) (pos 0) [] };
 }
 
--- for each reason a node whose first reason it is; where both arms are wrong the up one is reported
+-- for each reason a node whose first reason it is; if both side bounds are wrong, the up one is reported
 pub record ReasonsComeInOrder : Type 0 where
   pub shape : IsFirstReason counting first_fact (Cite 2) Shape
   pub not_empty : IsFirstReason stuck [] (empty_loop (1 ∷ 0 ∷ [])) NotEmpty

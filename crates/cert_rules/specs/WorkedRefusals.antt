@@ -28,8 +28,8 @@ unreached_by_two = Unreached 2 (AndProof (Cite 2) (only (Never (Cite 1))))
 abbrev pub charged : Proof
 charged = Charge (record { rule = 1; by = NeverCost }) (only (Cite 1))
 
--- each node comes after its children, the children come in order, and what is cited and the virtual entry are nodes; so
--- a node is neither numbered before its child, nor its uses from behind
+-- each node comes after its children, the children come in order, and cited lemmas and the virtual entry are nodes; so
+-- a node isn't numbered before its child, nor are its uses numbered backwards
 pub record NodesAreNumbered : Type 0 where
   pub cited : nodes_of (Cite 3) ≡ Cite 3 ∷ []
   pub never : nodes_of (Never (Cite 1)) ≡ Cite 1 ∷ Never (Cite 1) ∷ []
@@ -48,14 +48,14 @@ pub record NodesAreNumbered : Type 0 where
 abbrev pub without_floor : List Proof
 without_floor = once ∷ down (0 ∷ []) (0 ∷ []) ∷ entered ∷ looped ∷ []
 
--- a loop's time with its uses, which lack the time of what enters it
+-- a loop's time with its uses, without the time of the rule that enters it
 abbrev pub without_time : Proof
 without_time = down_alone (AndProof Start (only (Cite 2)))
 
 -- the four lemmas aren't refused; without the floor's multiplier they are refused at the second node of the second
--- lemma, and nowhere else. A lemma that cites itself is refused at its first node, and so is one that cites a later one
--- or a lemma 0, and a node with a multiplier for no row; a missing time is reported for the node, behind its two
--- premises; and nothing behind a refused lemma is checked
+-- lemma, and nowhere else. A lemma that cites itself is refused at its first node, and so is one that cites a later
+-- one or a lemma 0, and a node with a multiplier for no row; a missing time is reported for the node, after its two
+-- premises; and no lemma after a refused one is checked
 pub record LemmasAreRefused : Type 0 where
   pub four : HasNoRefusal counting four_lemmas
   pub floor : IsRefusedAt counting without_floor 2 2 Floor
@@ -113,7 +113,7 @@ kept_ray = gap_of_one [] (pos 1) 1 (pos 0) 0 (pos 1) 0
 abbrev pub other_set : Gap
 other_set = gap_over 1 [] (scaled (pos 1 ∷ []) 1) (scaled (pos 0 ∷ []) 0) (scaled (pos 1 ∷ []) 1)
 
--- the file of these gaps, behind the lemma that states what holds of the virtual entry
+-- the file of these gaps, after the lemma that states the facts of the virtual entry
 abbrev pub turning_file : List Gap → ProofFile
 turning_file gaps = file_with (Start ∷ []) gaps
 

@@ -115,7 +115,7 @@ counting = record {
   below = zero_below;
 }
 
--- the same without a guard: it falls for ever
+-- this setting without a guard: the value falls for ever
 abbrev pub falling : Setting
 falling = record {
   program = program_with (enter ∷ rule_over 1 1 0 (Subtraction (Variable 0) (Literal (pos 1))) [] ∷ []);

@@ -1,4 +1,4 @@
--- Moves, arms and sizes that are accepted and that aren't, worked out by hand.
+-- Worked values of accepted and refused moves, side bounds and sizes.
 use Rattle.std.specs.Prelude.{ℕ, zero, suc, List, [], ◌∷◌, pos, Option, Some, None}
 use Rattle.run_counting.specs.model.Terms.{Variable, Multiplication}
 use Rattle.run_counting.specs.model.Bounds.{Constant, Input}
@@ -53,7 +53,7 @@ wrong_low multipliers = record {
   local = record { up = side_bound (pos 1) (pos 0) []; low = side_bound (pos 1) (pos 0) multipliers };
 }
 
--- a member whose low arm alone reads the place
+-- a member of which only the low side bound reads the place
 abbrev pub low_reader : Member
 low_reader = record {
   result_variable = record { rule = 1; place = 1 };
@@ -64,14 +64,14 @@ low_reader = record {
 abbrev pub one_size : List (List Fact)
 one_size = (Size 1 1 (Input 0) ∷ []) ∷ []
 
--- and how often the second rule occurs
+-- this size, and how often the second rule occurs
 abbrev pub size_and_time : List (List Fact)
 size_and_time = (Size 1 1 (Input 0) ∷ []) ∷ (Time 2 (Constant 3) ∷ []) ∷ []
 
--- a polynomial arm outside a loop is accepted, and one that reads a member isn't; a move whose multipliers don't show
--- it, an arm that isn't over the negation on the low side, a spread and a loop without the size that they read, on
--- either side, and a loop that multiplies by a rule without a time: none of them is accepted. With that time the loop
--- is accepted
+-- a polynomial side bound outside a loop is accepted, and one that reads a member isn't; nor is a move whose
+-- multipliers don't show it, a side bound that isn't over the negation on the low side, a spread or a loop without the
+-- size that it reads, on either side, and a loop that multiplies by a rule without a time. With that time the loop is
+-- accepted
 pub record SizeNodesAreJudged : Type 0 where
   pub poly : Accepts squaring [] (Spread (nonlinear_member 1) (only Start))
   pub nonlinear : ¬ (Accepts squaring one_size (Cycle (nonlinear_member 2 ∷ []) (only (Cite 1))))

@@ -63,7 +63,7 @@ pub fn worked_costs_hold()
     ensures reasons { CostReasonsComeInOrder }
 {}
 
-/// A node has no first reason exactly where it is accepted, and it has at most one.
+/// A node has no first reason exactly if it is accepted, and it has at most one.
 pub fn first_reasons_are_in_line()
     ensures { FirstReasonsAreInLine }
 {}
@@ -74,7 +74,7 @@ pub fn gaps_exclude_functions()
     ensures { GapsExcludeFunctions }
 {}
 
-/// The checks of a gap all pass exactly where it holds, and exactly there it has no first fault; it has at most one.
+/// The checks of a gap all pass exactly if it holds, and exactly there it has no first fault; it has at most one.
 pub fn gap_checks_are_in_line()
     ensures { GapChecksAreInLine }
 {}
@@ -90,10 +90,10 @@ pub fn worked_gaps_hold()
     ensures shut { ShutPlacesAreJudged }
 {}
 
-/// A lemma is accepted exactly where each of its nodes is accepted by itself. Lemmas are accepted exactly where there
-/// is no node at which they are refused, and there is one such node at most, with one reason. A file is accepted
-/// exactly where there is neither such a node nor a gap at which it is refused; there aren't both; and there is one
-/// such gap at most, with one fault.
+/// A lemma is accepted exactly if each of its nodes is accepted by itself. Lemmas are accepted exactly if there is no
+/// node at which they are refused, and there is one such node at most, with one reason. A file is accepted exactly if
+/// there is neither such a node nor a gap at which it is refused; there aren't both; and there is one such gap at
+/// most, with one fault.
 pub fn refusals_are_in_line()
     ensures nodes { LemmasAreTheirNodes }
     ensures lemmas { RefusalsAreInLine }

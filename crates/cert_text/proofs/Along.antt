@@ -17,11 +17,11 @@ use Rattle.cert_text.specs.Against.{against_piece}
 use Rattle.cert_text.specs.Reading.{Progress, moved, proof_fold}
 use Rattle.cert_text.specs.Remembered.{State, done}
 
--- the state behind pieces without faults
+-- the state after pieces without faults
 abbrev pub at : State → Progress
 at s = record { kept = s; broken = false }
 
--- in a mode bytes begin with a piece, and these are behind it
+-- in a mode bytes begin with a piece, and these are the bytes after it
 pub record IsCutOff (p : Program) (m : Mode) (q : Piece) (whole rest : List ℕ) : Type 0 where
   pub first : ℕ
   pub others : List ℕ
@@ -42,7 +42,7 @@ skipped p m at zero bytes = (at, refl)
 skipped p m at (suc n) [] = (at, refl)
 skipped p m at (suc n) (b ∷ bytes) = skipped p m (at + 1) n bytes
 
--- so the tokens of bytes that are cut into pieces have these
+-- the tokens of bytes that are cut into pieces have these pieces
 pub cut_tokens : (p : Program) (m : Mode) (at : ℕ) (qs : List Piece) (whole : List ℕ) → Cuts p m qs whole
     → pieces (tokens_in (lexer_of p) m at 0 whole) ≡ qs
 cut_tokens p m at [] whole e = ap (λ (bs : List ℕ). pieces (tokens_in (lexer_of p) m at 0 bs)) e
@@ -101,7 +101,7 @@ module _ {p : Program} {ss : List Symbol} {s : State} {m : Mode} {Q : State → 
         holds = more.holds;
       }
 
-  -- what a mark stands for is done
+  -- the action of a mark is done
   pub marks : {whole : List ℕ} (n : ℕ) → Along p ss (done n s) m whole Q → Along p (item.Mark n ∷ ss) s m whole Q
   marks n more = record {
     events = Did n ∷ more.events;
@@ -132,7 +132,7 @@ module _ {p : Program} {ss : List Symbol} {s : State} {m : Mode} {Q : State → 
   pub spelled_as : {whole others : List ℕ} → whole ≡ others → Along p ss s m others Q → Along p ss s m whole Q
   spelled_as e more = subst (λ (bs : List ℕ). Along p ss s m bs Q) (sym e) more
 
-  -- what is remembered is something else
+  -- the state is another one by an equation
   pub becomes : {whole : List ℕ} {t : State} → s ≡ t → Along p ss t m whole Q → Along p ss s m whole Q
   becomes {whole} e more = subst (λ (u : State). Along p ss u m whole Q) (sym e) more
 
@@ -149,7 +149,7 @@ abbrev pub text_in : Chunks → List ℕ
 text_in (Bytes bytes) = bytes
 text_in (Then a b) = text_in a ++ text_in b
 
--- with others behind them, one behind the other
+-- the bytes of chunks, followed by others
 abbrev pub flat : Chunks → List ℕ → List ℕ
 flat (Bytes bytes) rest = bytes ++ rest
 flat (Then a b) rest = flat a (flat b rest)

@@ -38,7 +38,7 @@ use Rattle.cert_text.specs.Remembered.{State, done}
 use Rattle.cert_text.proofs.Along.{Along, Cuts, IsCutOff, at}
 use Rattle.cert_text.proofs.Cutting.{Within, Bare, Shut, mode_in}
 
--- what is derived, by its first symbol
+-- a derivation by its first symbol
 Turns : List Symbol → List (Event Piece) → List Piece → Type 0
 Turns [] es ps = (es ≡ []) × (ps ≡ [])
 Turns (item.Piece c ∷ ss) es ps =
@@ -106,7 +106,7 @@ module _ {p : Program} {ss : List Symbol} {s : State} {m : Mode} {whole : List �
             holds = a.holds;
           })
 
-  -- what a mark stands for was done
+  -- the action of a mark was done
   pub mark_back : (n : ℕ) → Along p (item.Mark n ∷ ss) s m whole Q → Along p ss (done n s) m whole Q
   unfolding Turns
   mark_back n a =
@@ -149,18 +149,18 @@ module _ {p : Program} {ss : List Symbol} {s : State} {m : Mode} {whole : List �
       let t = made_any n a in
       taken (λ xs. Along p (xs ++ ss) s m whole Q) R bodies t.0 (subst (Among t.0) e t.1) t.2 ways
 
-  -- what is remembered is something else, and so is the mode
+  -- the state, or the mode, is another one by an equation
   pub turned_to : {t : State} → s ≡ t → Along p ss s m whole Q → Along p ss t m whole Q
   turned_to e a = subst (λ (u : State). Along p ss u m whole Q) e a
 
   pub mode_to : {k : Mode} → m ≡ k → Along p ss s m whole Q → Along p ss s k whole Q
   mode_to e a = subst (λ (j : Mode). Along p ss s j whole Q) e a
 
--- bytes that begin with some, and others behind these
+-- bytes that begin with some, and others after these
 pub on : {xs ys zs : List ℕ} (w : List ℕ) → xs ≡ w ++ ys → ys ≡ zs → xs ≡ w ++ zs
 on w e f = e ∙ ap (λ (bs : List ℕ). w ++ bs) f
 
--- what is left is no longer
+-- the remaining bytes are no longer than before
 pub shorter : {xs : List ℕ} (w ys : List ℕ) → xs ≡ w ++ ys → length ys ≤ length xs
 shorter {xs} w ys e = let long = ap length e in let both = length-append w ys in omega (arith, long, both)
 

@@ -12,7 +12,7 @@ bytes_more (suc n) xs ys x e l =
     ap (λ (zs : List Inner). bytes_of (take (suc n) zs)) e
     ∙ ap (λ (k : ℕ). x.len + bytes_of (take k ys)) (let s : n ≡ suc n - 1 = omega arith in s)
 
--- and none
+-- no bytes of no pieces
 pub bytes_none : (n : ℕ) (xs : List Inner) → length xs ≡ 0 → bytes_of (take n xs) ≡ 0
 bytes_none zero xs e = refl
 bytes_none (suc n) [] e = refl

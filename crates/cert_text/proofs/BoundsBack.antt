@@ -43,7 +43,7 @@ Ends p ss Q =
     → whole ≡ first ∷ others → ((lexer_of p).lexeme_in m first others).piece ≡ Some (InBound q len last)
     → Along p ss s m whole Q → ⊥
 
--- the same where a piece of another class comes, also behind marks
+-- the end of a bound at a piece of another class, also after marks
 pub ends_piece : {p : Program} {ss : List Symbol} {Q : State → Type 0} (c : ℕ) → ¬ (c ≡ 44) → Ends p (item.Piece c ∷ ss) Q
 ends_piece {p} c other s m whole first others q len last e f a = read_back c a (λ r rest is none cut more.
     let same : first ∷ others ≡ cut.first ∷ cut.others = sym e ∙ cut.begins in
@@ -60,7 +60,7 @@ pub ends_mark : {p : Program} {ss : List Symbol} {Q : State → Type 0} (n : ℕ
 ends_mark n h s m whole first others q len last e f a =
     h (done n s) m whole first others q len last e f (mark_back n a)
 
--- what is left is no longer
+-- the remaining bytes are no longer than before
 drop_few : (n : ℕ) (xs : List ℕ) → length (drop n xs) ≤ length xs
 drop_few zero xs = omega arith
 drop_few (suc n) [] = omega arith
@@ -71,7 +71,7 @@ stands_so : (a : Answer Bound ProofKind) → against_answer a ≡ None → (w : 
 stands_so (Stands w) h = (w, refl, refl)
 stands_so (Refused x) h = cc
 
--- a bound that has ended goes on with no piece of it
+-- after a bound has ended, no piece of it follows
 ended_so : (p : Program) (depth before : ℕ) (rest : List ℕ) (q : Piece) (behind : List ℕ) → true ≡ ends_before depth rest
     → class_of q ≡ 44 → IsCutOff p (mode.InBound depth before) q rest behind → ⊥
 ended_so p depth before [] q behind ends is cut = let e = cut.begins in cc
@@ -87,7 +87,7 @@ ended_so p depth before (b ∷ bytes) q behind ends is cut =
     ∙ ap (λ (bs : List ℕ). (lexer_of p).lexeme_in (mode.InBound depth before) cut.first bs) two ∙ cut.cut
     ∙ ap (λ (x : Piece). record { piece = Some x; len = suc cut.some }) c.3)
 
--- and one that hasn't, with nothing else
+-- before a bound has ended, no other piece follows
 goes_so : (p : Program) {ss : List Symbol} {Q : State → Type 0} → Ends p ss Q → (s : State) (depth before : ℕ)
     (rest : List ℕ) → false ≡ ends_before depth rest → Along p ss s (mode.InBound depth before) rest Q → ⊥
 goes_so p ends s depth before [] on a = cc
@@ -105,7 +105,7 @@ Whole p ss Q R c l d whole xs =
 
 module _ {p : Program} {ss : List Symbol} {Q : State → Type 0} {R : Type 0} (sure : Sure p) (c : Base) (l : Last) (d : Draft)
     (ends : Ends p ss Q) where
-  -- the pieces that are left, behind some
+  -- the remaining pieces, after some
   inside_back : (f : ℕ) {whole : List ℕ} → length whole < f → (xs : List Inner) (depth before : ℕ)
       → Along p (item.Piece 44 ∷ item.Made 40 ∷ ss) (held c l d xs) (mode.InBound depth before) whole Q → Whole p ss Q R c l d whole xs → R
   inside_back zero few xs depth before a k = absurd (omega (arith, few))

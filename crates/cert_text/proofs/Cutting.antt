@@ -42,7 +42,7 @@ abbrev pub mode_in : Within → Mode
 mode_in Bare = mode.Plain
 mode_in Shut = mode.InShut
 
--- what a node ends with: a bracket, a bound, or something else
+-- the end of a node: a bracket, a bound, or another piece
 pub data Ending : Type 0 where
   AtPlain : Ending
   AtClosed : Ending
@@ -95,7 +95,7 @@ module _ {p : Program} {ss : List Symbol} {s : State} {rest : List ℕ} {Q : Sta
   pub feed : Along p ss s mode.Plain rest Q → Along p (item.Piece 33 ∷ ss) s mode.Plain (10 ∷ rest) Q
   feed more = reads (ASign sign.LineFeed) refl (byte_cut p mode.Plain (ASign sign.LineFeed) 10 rest refl) more
 
-  -- and so are those behind a node
+  -- the bytes after a node are cut
   pub feed_at : (x : Ending) → Along p ss s mode.Plain rest Q → Along p (item.Piece 33 ∷ ss) s (mode_at x) (10 ∷ rest) Q
   feed_at AtPlain more = reads (ASign sign.LineFeed) refl (byte_cut p mode.Plain (ASign sign.LineFeed) 10 rest refl) more
   feed_at AtClosed more = reads (ASign sign.LineFeed) refl (byte_cut p mode.Closed (ASign sign.LineFeed) 10 rest refl) more
@@ -127,7 +127,7 @@ module _ {p : Program} {ss : List Symbol} {s : State} {rest : List ℕ} {Q : Sta
   bracket_at AtBound more =
       reads (ASign sign.Close) refl (byte_cut p (mode.InBound 0 0) (ASign sign.Close) 41 rest refl) more
 
-  -- a blank behind a bracket, and behind `to`
+  -- a blank after a bracket, and after `to`
   pub blank_closed : Along p ss s mode.ClosedBlank rest Q
       → Along p (item.Piece 32 ∷ ss) s mode.Closed (32 ∷ rest) Q
   blank_closed more = reads (ASign sign.Blank) refl (byte_cut p mode.Closed (ASign sign.Blank) 32 rest refl) more
@@ -135,7 +135,7 @@ module _ {p : Program} {ss : List Symbol} {s : State} {rest : List ℕ} {Q : Sta
   pub blank_to : Along p ss s (mode.InBound 0 0) rest Q → Along p (item.Piece 32 ∷ ss) s mode.To (32 ∷ rest) Q
   blank_to more = reads (ASign sign.Blank) refl (byte_cut p mode.To (ASign sign.Blank) 32 rest refl) more
 
--- a name is cut off where it can't go on
+-- a name is cut off before a byte that doesn't continue it
 name_lexed : (symbols : List NameBytes) (b : ℕ) (others rest : List ℕ) → begins_name b ≡ true
     → list_all continues_name others ≡ true → Stops continues_name rest
     → plain_lexeme symbols b (others ++ rest) ≡ name_lexeme symbols (b ∷ others)
@@ -144,7 +144,7 @@ name_lexed symbols b others rest begins all stops =
     (cond (is_ascii_digit b) (digits_lexeme (b ∷ prefix is_ascii_digit (others ++ rest))) (lexeme (sign_at b) 1))) begins
     ∙ ap (λ (xs : List ℕ). name_lexeme symbols (b ∷ xs)) (prefix-append continues_name others rest all stops)
 
--- which name a piece is
+-- the piece of a name
 abbrev pub named : Program → ℕ → List ℕ → Piece
 named p b others = Name (word_of (b ∷ others)) (symbol_of (symbol_names p) (b ∷ others))
 
@@ -170,7 +170,7 @@ pub word : {p : Program} {ss : List Symbol} {s : State} {rest : List ℕ} {Q : S
 word {p} {ss} {s} {rest} b others begins all stops none more =
     reads (named p b others) none (name_cut p b others rest begins all stops) more
 
--- `to` behind a bracket and a blank
+-- `to` after a bracket and a blank
 pub to_cut : (p : Program) (rest : List ℕ) → Stops continues_name rest
     → IsCutOff p mode.ClosedBlank (named p 116 (codes "o")) (116 ∷ 111 ∷ rest) rest
 to_cut p rest stops = record {
@@ -215,7 +215,7 @@ digits_of n small = go (decimal n) d.0.0 (digits_pass (decimal n) d.0.1) refl
 digit_no_name : (c : ℕ) → is_ascii_digit c ≡ true → begins_name c ≡ false
 digit_no_name c h = grind (arith, nat_tests)
 
--- digits are cut off where they can't go on
+-- digits are cut off before a byte that doesn't continue them
 number_lexed : (symbols : List NameBytes) (n : ℕ) (d : Digits n) (rest : List ℕ) → n < 2 ^ 127 → Stops is_ascii_digit rest
     → plain_lexeme symbols d.first (d.others ++ rest) ≡ record { piece = Some (Number n); len = suc (length d.others) }
 number_lexed symbols n d rest small stops =
@@ -276,7 +276,7 @@ positive_class n some =
     go false true = inr (inl refl)
     go false false = inr (inr (inl refl))
 
--- behind a number the mode is the same
+-- after a number the mode is the same
 number_mode : (x : Within) (n : ℕ) → mode_with (mode_in x) (Number n) ≡ mode_in x
 number_mode Bare n = refl
 number_mode Shut n = refl

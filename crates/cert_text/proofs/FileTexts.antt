@@ -180,7 +180,7 @@ first_cut p rest =
       behind = refl;
     }
 
--- what is remembered where nothing was read
+-- the state before any piece
 abbrev nothing_read : Last
 nothing_read = record { number = 0; negative = false; symbol = 0; node = Start; bound = Constant 0 }
 
@@ -217,7 +217,7 @@ whole p sure f h = go (some_has_cost f.lemmas) refl
         (reads (Number 1) refl (byte_cut p mode.Plain (Number 1) 49 _ refl)
         (marks 0 (feed (lines false e (record nothing_read { number = 1 }) no_draft))))))))
 
--- so it is the answer
+-- the file is the answer to its text
 pub text_stands : (p : Program) → Sure p → (bytes : List ℕ) (f : ProofFile) → IsTextWithin p bytes f
     → answer (reader (proofs_of p)) (length bytes) (tokens p bytes) ≡ Stands f
 text_stands p sure bytes f h =
@@ -231,7 +231,7 @@ text_stands p sure bytes f h =
     ∙ ap (λ (s : Progress). Stands (file_in s.kept)) (state_after (proof_fold p) [] a.events ∙ a.comes)
     ∙ ap (λ (g : ProofFile). Stands g) a.holds
 
--- and a result gives it back that says what the answer is
+-- a result that agrees with the answer is the file
 pub tells_back : (p : Program) (bytes : List ℕ) (f : ProofFile) (result : Result code_file.ProofFile ProofTextError)
     → answer (reader (proofs_of p)) (length bytes) (tokens p bytes) ≡ Stands f
     → Tells file_of refusal_in (answer (reader (proofs_of p)) (length bytes) (tokens p bytes)) result → GivesBack f result

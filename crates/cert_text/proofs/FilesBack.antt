@@ -262,7 +262,7 @@ first_so vs v f h = ap (λ (w : Bool). cond w (codes "koat-proof 2\n") (codes "k
     go false true f h = cc
     go false false f h = refl
 
--- the text of a file, one line behind the other
+-- the text of a file, line by line
 text_flat : (p : Program) (f : ProofFile)
     → text_of p f ≡ first_line f.lemmas ++ (lemma_lines p f.lemmas ++ (gap_lines p f.gaps ++ codes "end\n"))
 unfolding text_of
@@ -350,7 +350,7 @@ some_piece p mode.Closed b bytes = plain_piece p b bytes
 some_piece p mode.ClosedBlank b bytes = plain_piece p b bytes
 some_piece p mode.To b bytes = plain_piece p b bytes
 
--- what is left is no longer
+-- the remaining bytes are no longer than before
 drop_few : (n : ℕ) (xs : List ℕ) → length (drop n xs) ≤ length xs
 drop_few zero xs = omega arith
 drop_few (suc n) [] = omega arith
@@ -425,7 +425,7 @@ answer_spelled p sure bytes f e =
       holds = sym (ap (λ (s : Progress). file_in s.kept) (state_after (proof_fold p) [] w.0 ∙ u.1)) ∙ w.2;
     })
 
--- so the file of a result that says what the answer is is the one that the bytes spell
+-- the file of a result that agrees with the answer is the one that the bytes spell
 pub tells_spelled : (p : Program) → Sure p → (bytes : List ℕ) (result : Result code_file.ProofFile ProofTextError)
     → Tells file_of refusal_in (answer (reader (proofs_of p)) (length bytes) (tokens p bytes)) result
     → IfOk result (λ file. IsTextWithin p bytes (file_of file))

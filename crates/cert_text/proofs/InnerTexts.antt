@@ -27,7 +27,7 @@ use Rattle.cert_text.specs.Spelled.{IsBoundWithin}
 use Rattle.cert_text.proofs.Along.{Along, IsCutOff, becomes, in_mode, makes, reads}
 use Rattle.cert_text.proofs.States.{Base, Last, Sure, held, st}
 
--- a piece of a bound is cut off, before pieces with which it goes on and bytes with which it ends
+-- a piece of a bound is cut off, before pieces that continue it and bytes that end it
 bound_cut : (p : Program) → Sure p → (depth before : ℕ) (q : Piece) (qs : List Piece) (b : ℕ) (others : List ℕ)
     → Goes (length p.start_names) depth (q ∷ qs) → ends_bound 0 b ≡ true → Closes (b ∷ others)
     → IsCutOff p (mode.InBound depth before)
@@ -59,7 +59,7 @@ bound_cut p sure depth before q qs b others goes ends closed =
 
 module _ {p : Program} {ss : List Symbol} {Q : State → Type 0} (sure : Sure p) (c : Base) (l : Last) (d : Draft) (w : Bound)
     (x : ℕ) (others : List ℕ) (ends : ends_bound 0 x ≡ true) (closed : Closes (x ∷ others)) where
-  -- the pieces that are left, behind some
+  -- the remaining pieces, after some
   inside : (q : Piece) (qs : List Piece) (xs : List Inner) (depth before : ℕ) → Goes (length p.start_names) depth (q ∷ qs)
       → bound_answer (length p.start_names) (xs ++ inners p.start_names (q ∷ qs)) ≡ Stands w
       → Along p ss (st c (record l { bound = w }) d) (mode.InBound 0 0) (x ∷ others) Q

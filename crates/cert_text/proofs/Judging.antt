@@ -1,4 +1,4 @@
--- Reading a proof file piece by piece comes to the answer to all of it.
+-- Reading a proof file piece by piece gives the answer to all of it.
 use Rattle.std.proofs.Common.{◌≡◌, ℕ, ◌+◌, Bool, true, false, cond, ◌||◌, List, ◌∷◌, length, Option, Some, None, refl, ap}
 use Rattle.std.proofs.Common.{sym, subst, ◌∙◌, arith}
 use Rattle.std.specs.Prelude.{Result, Ok, Err, IfSome, is_some}
@@ -73,7 +73,7 @@ shown_kind : (p : Program) (o : Option ProofKind) (at : ℕ) → first_shown (pr
 shown_kind p None at = refl
 shown_kind p (Some k) at = refl
 
--- behind a refusal nothing is
+-- after a refusal no other one is shown
 pub shown_behind : (p : Program) (es : List (Event Piece)) (s : State) (broken : Bool) (piece : Piece) (at : ℕ)
     → progress s broken ≡ state (proof_fold p) es
     → cond broken None (refusal_of p s piece at)
@@ -87,7 +87,7 @@ shown_behind p es s broken piece at e =
     go true = refl
     go false = sym (shown_kind p (against_piece p s piece) (position_of p s piece at))
 
--- a fault is reported exactly where a piece has one
+-- a fault is reported exactly if a piece has one
 refusal_is_some : (first_refusal : Option (code_fault.Fault ProofKind)) (o : Option ProofKind) (at : ℕ) → fault_of first_refusal ≡ kind_at o at → is_some first_refusal ≡ is_some o
 refusal_is_some None None at e = refl
 refusal_is_some None (Some k) at e = cc
@@ -112,7 +112,7 @@ pub marked : (p : Program) (es : List (Event Piece)) (mark : ℕ) (old new : Sta
 marked p es mark old new broken k d =
     ap (λ (s : State). progress s broken) d ∙ ap (λ (s : Progress). (proof_fold p).done mark s) k
 
--- what reading says of the tokens of a program is what the answer is
+-- reading the tokens of a program's proof file gives the answer
 pub judged : (bytes : List ℕ) (p q : Program) (ts : List (Token Piece)) (result : Result ProofFile (Refusal ProofKind))
     → q ≡ p → ts ≡ tokens p bytes
     → Says (λ made t. file_of made ≡ t) (answer (reader (proofs_of q)) (length bytes) ts) result

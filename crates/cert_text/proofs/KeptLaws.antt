@@ -1,4 +1,4 @@
--- What the code remembers of a proof file, and the rules of a program.
+-- The state of the code that reads a proof file, and the rules of a program.
 use Rattle.std.proofs.Common.{◌≡◌, ℕ, zero, suc, ◌-◌, ◌<◌, min, Bool, true, false, List, [], ◌∷◌, ◌++◌}
 use Rattle.std.proofs.Common.{length, map, take, Option, Some, None, refl, ap, sym, subst, ◌∙◌, arith}
 use Rattle.std.specs.Prelude.{nat_lt, nat_le, ◌&&◌, is_some, slice_get, slice_index_or, ℤ}
@@ -37,7 +37,7 @@ opens s d us o u a b c =
     ∙ ap (λ (ws : List Proof). record s { draft = no_draft; used = ws; outer = o }) b
     ∙ ap (λ (v : Outer). record s { draft = no_draft; used = []; outer = v }) c
 
--- and where they end
+-- where uses end
 pub closes : (s : State) (d : Draft) (us : List Proof) (o : Outer) (e : Draft) (ws : List Proof) (v : Outer) → o ≡ Inside d us v
     → e ≡ record d { uses = s.used } → ws ≡ us → record s { draft = e; used = ws; outer = v } ≡ uses_read o s
 closes s d us o e ws v a b c =
@@ -80,12 +80,12 @@ same_some : {X Y : Type 0} (f : X → Y) (o : Option X) → is_some (option_map 
 same_some f None = refl
 same_some f (Some x) = refl
 
--- a test behind one that is true decides
+-- a test after a true one decides
 both : (a b v : Bool) → a ≡ true → b ≡ v → (a && b) ≡ v
 both true b v h k = k
 both false b v h k = cc
 
--- there is a rule exactly where its number is from 1 on and up to their number
+-- there is a rule exactly if its number is from 1 on and up to their number
 pub rule_there : (p : code_program.Program) (n : ℕ) → is_some (rule_at (program_of p) n) ≡ (nat_lt 0 n && nat_le n (length p.rules.items))
 rule_there p zero = refl
 rule_there p (suc n) = ap is_some (slice_get-map rule_of p.rules.items n) ∙ same_some rule_of (slice_get p.rules.items n) ∙ some_within p.rules.items n ∙ go (nat_lt n (length p.rules.items)) refl
@@ -107,14 +107,14 @@ place_there p (suc n) r k h l e =
     ∙ ap (λ (q : code.Rule). Some q) (sym (subst (λ (i : ℕ). r ≡ slice_index_or p.rules.items i r) same e)) in
     ap (λ (o : Option Rule). has_place (program_of p) o k) (slice_get-map rule_of p.rules.items n ∙ ap (option_map rule_of) found)
 
--- and none where there is no rule
+-- a rule that doesn't exist has no place
 pub place_past : (p : code_program.Program) (n k : ℕ) → length p.rules.items < n → has_place (program_of p) (rule_at (program_of p) n) k ≡ false
 place_past p zero k l = refl
 place_past p (suc n) k l =
     ap (λ (o : Option Rule). has_place (program_of p) o k)
     (slice_get-map rule_of p.rules.items n ∙ ap (option_map rule_of) (slice_get_past p.rules.items n (omega (arith, l))))
 
--- the first of some, as many as there are at most
+-- taking as many elements as there are at most
 pub take-all : {X : Type 0} (xs : List X) (n : ℕ) → take (min (length xs) n) xs ≡ take n xs
 take-all xs zero = let e : min (length xs) 0 ≡ 0 = omega arith in ap (λ (k : ℕ). take k xs) e
 take-all [] (suc n) = let e : min 0 (suc n) ≡ 0 = omega arith in ap (λ (k : ℕ). take k []) e

@@ -30,7 +30,7 @@ floor_near : (v : Bool) (at : ℕ) → cond v at 0 ≤ at
 floor_near true at = omega arith
 floor_near false at = omega arith
 
--- behind a refusal nothing is shown, and else nothing before the first byte
+-- after a refusal no fault is shown, and else none before the first byte
 shown_behind : (v : Bool) (o : Option ProofKind) (at place : ℕ) (y : Fault ProofKind)
     → Among y (refusals (cond v None o) place) → cond v at 0 ≤ y.at
 shown_behind true o at place y a = absurd a
@@ -40,7 +40,7 @@ shown_behind false o at place y a = omega arith
 floor_stays : (v : Bool) (at : ℕ) → cond v at 0 ≤ cond v at 0
 floor_stays v at = omega arith
 
--- and rises with a refusal
+-- the floor rises with a refusal
 floor_rises : (v w : Bool) (at behind : ℕ) → at ≤ behind → cond v at 0 ≤ cond (v || w) behind 0
 floor_rises true w at behind h = h
 floor_rises false w at behind h = omega arith
@@ -59,6 +59,6 @@ lawful p = record {
       (is_some (against_piece p (state (proof_fold p) es).kept t.piece)) t.at at (omega (arith, some, behind));
 }
 
--- so they are read as the laws have it
+-- proof files are read by the laws of readers
 pub proofs_read : ProofTextsAreRead
 proofs_read = record { each = λ p. texts_read (proofs_of p) (lawful p) }

@@ -20,7 +20,7 @@ pub mod PointTexts
 pub mod InnerTexts
 pub mod NodeTexts
 pub mod FileTexts
--- and read backwards: bytes along which a file was read are its text, and it is within the limits
+-- backwards: bytes that were read as a file are its text, and it is within the limits
 pub mod Back
 pub mod ListsBack
 pub mod PartsBack

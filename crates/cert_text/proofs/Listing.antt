@@ -114,7 +114,7 @@ list_stops : (ws : List (List ℕ)) (rest : List ℕ)
 list_stops [] rest = refl
 list_stops (w ∷ ws) rest = refl
 
--- a word with others behind it
+-- a word with others after it
 pub word_then : (w : List ℕ) (ws : List (List ℕ)) (rest : List ℕ)
     → each_behind (codes " ") (w ∷ ws) ++ rest ≡ 32 ∷ (w ++ (each_behind (codes " ") ws ++ rest))
 word_then w ws rest = ap (λ (bs : List ℕ). 32 ∷ bs) (append_assoc w (each_behind (codes " ") ws) rest)
@@ -125,7 +125,7 @@ pub words_then : (w : List ℕ) (ws : List (List ℕ)) (rest : List ℕ)
 words_then w ws rest =
     flatten (Then (Then (Bytes w) (Bytes (each_behind (codes " ") ws))) (Bytes (codes "]"))) rest
 
--- the same with a semicolon and a blank between
+-- a word with others after it, with a semicolon and a blank between
 pub next_then : (w : List ℕ) (ws : List (List ℕ)) (rest : List ℕ)
     → each_behind (codes "; ") (w ∷ ws) ++ rest ≡ 59 ∷ 32 ∷ (w ++ (each_behind (codes "; ") ws ++ rest))
 next_then w ws rest = ap (λ (bs : List ℕ). 59 ∷ 32 ∷ bs) (append_assoc w (each_behind (codes "; ") ws) rest)

@@ -93,7 +93,7 @@ number_cut p Shut b bytes n some small h = go (begins_name b) h
         (ap (λ (l : Lexeme (Option Piece)). l.piece) e))
     go false e = plain_number (symbol_names p) b bytes n some small e
 
--- behind a number the mode is the same
+-- after a number the mode is the same
 number_mode : (x : Within) (n : ℕ) → mode_with (mode_in x) (Number n) ≡ mode_in x
 number_mode Bare n = refl
 number_mode Shut n = refl

@@ -36,7 +36,7 @@ result_variable_low p sp sure h = let m = h.most in let f = sure.few_places h.ru
 
 module _ {p : Program} {ss : List Symbol} {rest : List ℕ} {Q : State → Type 0} (sure : Sure p) (b : Base)
     (outside : b.in_gap ≡ false) where
-  -- both arms of a place
+  -- both side bounds of a place
   side_bounds : (m : Member) → IsMemberWithin p m → Stops continues_name rest → (l : Last) (g : Scratch) (d : Draft)
       → ((n : Last) (h : Scratch) → Along p ss
       (st b n (placed h m.result_variable.rule m.result_variable (record d { members = d.members ++ m ∷ [] }))) mode.Plain rest Q)
@@ -76,7 +76,7 @@ module _ {p : Program} {ss : List Symbol} {rest : List ℕ} {Q : State → Type 
       (placed g m.result_variable.rule (record { rule = m.result_variable.rule; place = n }) d)) (same_32 m.result_variable.place (omega (arith, low))))
       (blank Bare (side_bounds m h stops (record l { number = m.result_variable.place }) g d more)))))))))
 
--- what closes or goes on stops a word
+-- a closing bracket, or a separator, ends a word
 members_stop : (ws : List (List ℕ)) (rest : List ℕ) → Stops continues_name (each_behind (codes "; ") ws ++ (93 ∷ rest))
 members_stop [] rest = refl
 members_stop (w ∷ ws) rest = refl

@@ -45,7 +45,7 @@ use Rattle.cert_text.proofs.MemberTexts.{by, member, members}
 use Rattle.cert_text.proofs.PartTexts.{both_true, fine, forms, moves}
 use Rattle.cert_text.proofs.States.{Base, Last, Sure, limit_least, limit_of, limit_outside, none_large, st}
 
--- what comes behind a node
+-- the piece after a node
 pub data Ender : Type 0 where
   Feed : Ender
   Semi : Ender
@@ -128,7 +128,7 @@ paid b v = record b { paid = v }
 deep_none : (level : ℕ) → level ≤ 64 → when (nat_lt 64 level) kind.TooDeep ≡ None
 deep_none level l = ap (λ (v : Bool). when v kind.TooDeep) (false_lt 64 level l)
 
--- nothing stands against an earlier lemma
+-- an earlier lemma has no fault
 lemma_none : (limit count n : ℕ) → n ≤ limit → 1 ≤ n → n ≤ count
     → or_else (when (nat_lt limit n) kind.NumberTooLarge) (when (not (nat_lt 0 n && nat_le n count)) kind.BadReference)
     ≡ None
@@ -162,7 +162,7 @@ module _ {p : Program} {ss : List Symbol} {rest : List ℕ} {Q : State → Type 
       marks 4 (becomes (ap (λ (n : ℕ). record (st (record b { levels = n }) l no_draft) { coming = next.Node }) more_levels)
       (word c others first all stops none more))
 
--- what follows the uses that are left
+-- the bytes after the remaining uses
 record Tail (bytes : List ℕ) : Type 0 where
   pub ender : Ender
   pub others : List ℕ
@@ -364,7 +364,7 @@ module _ {p : Program} (sure : Sure p) where
         ∙ ended b true (b.paid || true) m4 (Charge n us) (or_true b.paid))
         (more (record m4 { node = Charge n us; bound = Constant 0 }) no_draft AtPlain refl))))))))))
 
-    -- what a node rests on is read
+    -- the uses of a node are read
     uses : (us : Proofs) {ss : List Symbol} {Q : State → Type 0} (b : Base) (l : Last) (d : Draft) (rest : List ℕ)
         → b.in_gap ≡ false → length b.lemmas ≤ 100000 → AreProofsWithin p (length b.lemmas) (suc b.levels) us
         → (have_cost us ≡ true → b.priced ≡ true)

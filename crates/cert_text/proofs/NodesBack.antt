@@ -47,7 +47,7 @@ use Rattle.cert_text.proofs.NodeTexts.{deeper, ended, list_in, or_assoc, or_fals
 use Rattle.cert_text.proofs.PartsBack.{forms_back, in_limit, moves_back, numbers_within}
 use Rattle.cert_text.proofs.States.{Base, Last, Sure, limit_of, st}
 
--- what a node ends with: a bracket, a bound, or something else
+-- the end of a node: a bracket, a bound, or another piece
 pub data Ended : Type 0 where
   AtPlain : Ended
   AtClosed : Ended
@@ -58,7 +58,7 @@ mode_of AtPlain = mode.Plain
 mode_of AtClosed = mode.Closed
 mode_of (AtBound depth) = mode.InBound depth 0
 
--- what comes behind it ends it
+-- the mode after a node, at a line feed
 pub feed_mode : (k : Ended) → mode_with (mode_of k) (ASign sign.LineFeed) ≡ mode.Plain
 feed_mode AtPlain = refl
 feed_mode AtClosed = refl
@@ -117,7 +117,7 @@ module _ {p : Program} {ss : List Symbol} {whole : List ℕ} {Q : State → Type
         k symbol rest level (when_none (is_cost w && not b.priced) kind.Syntax f.0) e
         (turned_to (ap (λ (n : ℕ). st (record b { levels = n }) (record l { symbol = symbol }) no_draft) same) x))
 
--- behind uses comes no piece of a bound
+-- no piece of a bound follows uses
 ends_more : {p : Program} {ss : List Symbol} {Q : State → Type 0} → Ends p (item.Made 7 ∷ ss) Q
 ends_more s m whole first others q len last e f a =
     made_back 7 ((item.Piece 37 ∷ []) ∷ (item.Piece 40 ∷ item.Piece 32 ∷ item.Made 4 ∷ item.Mark 17 ∷ item.Made 7 ∷ []) ∷ [])
@@ -126,14 +126,14 @@ ends_more s m whole first others q len last e f a =
       ((λ x. ends_piece 40 (λ k. absurd (omega (arith, k))) s m whole first others q len last e f x), tt),
     )
 
--- what is known of a node that was read
+-- the properties of a node that was read
 abbrev pub NodeRead : Program → List Symbol → (State → Type 0) → Type 0 → Base → List ℕ → Type 0
 NodeRead p ss Q R b whole =
     (v : Proof) (m : Last) (g : Draft) (k : Ended) (rest : List ℕ) → IsProofWithin p (length b.lemmas) (suc b.levels) v
     → (has_cost v ≡ true → b.priced ≡ true) → m.node ≡ v → whole ≡ node_text p v ++ rest
     → Along p ss (st (paid b (b.paid || has_cost v)) m g) (mode_of k) rest Q → R
 
--- what a ranking node holds, one part behind the other
+-- the parts of a ranking node in order
 abbrev RankFlat : Program → RankNode → List ℕ → List ℕ
 RankFlat p n rest =
     codes "rank " ++ (decimal n.rule ++ (codes " set " ++ (numbers_text n.set ++ (codes " den " ++ (decimal n.den
@@ -389,7 +389,7 @@ module _ {p : Program} {Q : State → Type 0} {R : Type 0} (sure : Sure p) where
           ),
         )
 
-    -- what a node rests on was read
+    -- the uses of a node were read
     uses_back : (f : ℕ) {ss : List Symbol} {whole : List ℕ} → length whole < f → (b : Base) (l : Last) (d : Draft)
         → b.in_gap ≡ false → length b.lemmas ≤ 100000 → Along p (item.Made 5 ∷ ss) (st b l d) mode.Plain whole Q
         → ((us : Proofs) (m : Last) (rest : List ℕ) → AreProofsWithin p (length b.lemmas) (suc b.levels) us

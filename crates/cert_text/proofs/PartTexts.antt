@@ -1,4 +1,4 @@
--- Forms, arms and what else a node holds are read along their texts.
+-- Forms, side bounds and further parts of a node are read along their texts.
 use Rattle.std.proofs.Common.{◌≡◌, ℕ, ◌<◌, ◌≤◌, Bool, true, false, List, [], ◌∷◌, ◌++◌, length, map, Option}
 use Rattle.std.proofs.Common.{None, refl, ap, sym, ◌∙◌, arith, inl, inr, append-nil, append_assoc}
 use Rattle.std.specs.Prelude.{ℤ, nat_abs, nat_lt, nat_le, not, ◌&&◌, codes}
@@ -69,7 +69,7 @@ name_class word.Shut = inr (inr (inr (inr (inr (inr (inr (inr (inr (inr (inr (in
 name_class word.Kept = inr (inr (inr (inr (inr (inr (inr (inr (inr (inr (inr (inr (inr (inr (inr (inr (inr (inr (inr (inr (inr (inr (inr (inr (inr (inl refl)))))))))))))))))))))))))
 name_class word.Other = inr (inr (inr (inr (inr (inr (inr (inr (inr (inr (inr (inr (inr (inr (inr (inr (inr (inr (inr (inr (inr (inr (inr (inr (inr (inr (inl refl))))))))))))))))))))))))))
 
--- the mode behind a name
+-- the mode after a name
 pub list_mode : Word → Within
 list_mode word.Shut = Shut
 list_mode w = Bare
@@ -83,7 +83,7 @@ name_mode w symbol = refl
 abbrev pub bare : Draft → Draft
 bare d = record d { numbers = []; integers = [] }
 
--- what an arm leaves behind
+-- the state after a side bound
 pub record Scratch : Type 0 where
   pub den : ℕ
   pub numbers : List ℕ
@@ -93,7 +93,7 @@ pub record Scratch : Type 0 where
 abbrev pub scratch : Scratch → Draft → Draft
 scratch g d = record d { den = g.den; numbers = g.numbers; integers = g.integers; form = g.form }
 
--- what a place with its local bound does
+-- the effect of a place with its local bound
 abbrev pub placed : Scratch → ℕ → ResultVariable → Draft → Draft
 placed g r sp d = record (scratch g d) { rule = r; result_variable = sp; up = Poly; side_bound = Poly }
 
@@ -233,7 +233,7 @@ module _ {p : Program} {ss : List Symbol} {rest : List ℕ} {Q : State → Type 
       (λ n. becomes (ap (λ (gs : List (List ℕ)). st b n (bare (record d { moves = gs })))
       (append_assoc d.moves (ns ∷ []) nss)) (more n)))))))
 
-  -- an arm
+  -- a side bound
   pub side_bound : (a : SideBound) → IsSideBoundWithin a → Stops continues_name rest → (l : Last) (d : Draft)
       → ((m : Last) (g : Scratch) → Along p ss (st b m (scratch g (record d { side_bound = a }))) mode.Plain rest Q)
       → Along p (item.Made 30 ∷ ss) (st b l d) mode.Plain (side_bound_text a ++ rest) Q

@@ -1,4 +1,4 @@
--- Forms, arms and what else a node holds that were read along bytes are what these spell.
+-- Forms, side bounds and further parts of a node that were read along bytes are those that the bytes spell.
 use Rattle.std.proofs.Common.{◌≡◌, ℕ, zero, suc, ◌-◌, ◌<◌, ◌≤◌, ◌^◌, min, Bool, true, false, cond, List, [], ◌∷◌, ◌++◌, length, map}
 use Rattle.std.proofs.Common.{Option, Some, None, slice_index_or, refl, ap, sym, subst, ◌∙◌, arith, inl, inr, append-nil}
 use Rattle.std.proofs.Common.{append_assoc}
@@ -263,7 +263,7 @@ module _ {p : Program} {ss : List Symbol} {Q : State → Type 0} {R : Type 0} (s
         tt,
       )
 
-  -- an arm
+  -- a side bound
   pub side_bound_back : {whole : List ℕ} (l : Last) (d : Draft) → Along p (item.Made 30 ∷ ss) (st b l d) mode.Plain whole Q
       → ((y : SideBound) (m : Last) (g : Scratch) (rest : List ℕ) → IsSideBoundWithin y → whole ≡ side_bound_text y ++ rest
       → Along p ss (st b m (scratch g (record d { side_bound = y }))) mode.Plain rest Q → R) → R

@@ -130,7 +130,7 @@ module _ {p : Program} {ss : List Symbol} {rest : List ℕ} {Q : State → Type 
       (λ n. becomes (ap (λ (ys : List ScaledPoint). st b n (bare (record d { points = ys })))
       (append_assoc d.points (z ∷ []) zs)) (more n))))))
 
--- a digit is no dot, and goes on a name
+-- a digit is no dot, and continues a name
 digit_no_dot : (c : ℕ) → is_ascii_digit c ≡ true → (c == 46) ≡ false
 digit_no_dot c h = pick (c == 46) refl
   where
@@ -157,7 +157,7 @@ digits_go_on (c ∷ cs) h = go (is_ascii_digit c) refl h (λ k. digits_go_on cs 
     go true e k ih = both_true (continues_name c) (list_all continues_name cs) (digit_goes_on c e) (ih k)
     go false e k ih = cc
 
--- what follows the last dot of a place are its digits
+-- the digits of a place follow its last dot
 no_dot : (o : Option (List ℕ)) (ds : List ℕ) → list_all is_ascii_digit ds ≡ true → behind_last_dot o ds ≡ o
 no_dot o [] h = refl
 no_dot o (c ∷ cs) h = go (is_ascii_digit c) refl h (λ k. no_dot o cs k)
@@ -204,7 +204,7 @@ place_found symbols s n w d small found =
     ∙ ap (λ (k : ℕ). Place s (behind.Number k))
     (ap (λ (k : ℕ). min k (2 ^ 127)) d.value ∙ (let k : min n (2 ^ 127) ≡ n = omega (arith, small) in k))
 
--- it is cut off where a name ends
+-- a place is cut off where a name ends
 place_cut : (p : Program) (s n : ℕ) (h : HasName p s) (rest : List ℕ) → n < 2 ^ 127 → Stops continues_name rest
     → IsCutOff p mode.InShut (Place s (behind.Number n)) ((name_at p s ++ 46 ∷ decimal n) ++ rest) rest
 place_cut p s n h rest small stops = go (digits_of n small)
@@ -258,7 +258,7 @@ module _ {p : Program} {ss : List Symbol} {rest : List ℕ} {Q : State → Type 
       (becomes (ap (λ (n : ℕ). st b l (record d { shut = d.shut ++ record { symbol = s.symbol; place = n } ∷ [] }))
       (same_32 s.place (omega (arith, few, most)))) more)
 
--- what closes or goes on stops a name
+-- a closing bracket, or a blank, ends a name
 places_stop : (ws : List (List ℕ)) (rest : List ℕ) → Stops continues_name (each_behind (codes " ") ws ++ (93 ∷ rest))
 places_stop [] rest = refl
 places_stop (w ∷ ws) rest = refl

@@ -176,7 +176,7 @@ module _ {p : Program} {ss : List Symbol} {Q : State → Type 0} {R : Type 0} (b
         tt,
       )
 
--- what is known of a shut place without a fault
+-- the properties of a shut place without a fault
 record IsShut (p : Program) (limit s : ℕ) (d : Behind) : Type 0 where
   pub place : ℕ
   pub is : d ≡ behind.Number place

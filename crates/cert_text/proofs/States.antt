@@ -1,4 +1,4 @@
--- What is remembered between the parts of a node, and what is sure of a valid program.
+-- The state between the parts of a node, and properties of a valid program.
 use Rattle.std.proofs.Common.{◌≡◌, ℕ, zero, suc, ◌-◌, ◌<◌, ◌≤◌, ◌^◌, min, Bool, true, false, cond, List, [], ◌∷◌, length}
 use Rattle.std.proofs.Common.{map, Some, None, refl, ap, sym, subst, ◌∙◌, arith}
 use Rattle.std.specs.Prelude.{nat_lt, slice_get, slice_index_or, if◌then◌else◌}
@@ -22,7 +22,7 @@ use Rattle.cert_text.specs.declared.phase.Next.TheVariants as next
 use Rattle.cert_text.specs.Remembered.{Draft, Outer, State}
 use Rattle.cert_text.specs.Texts.{name_at, name_in}
 
--- what a node doesn't change but for what it adds to it
+-- the part of the state that a node only adds to
 pub record Base : Type 0 where
   pub priced : Bool
   pub paid : Bool
@@ -33,7 +33,7 @@ pub record Base : Type 0 where
   pub used : List Proof
   pub outer : Outer
 
--- what was read last
+-- the pieces that were read last
 pub record Last : Type 0 where
   pub number : ℕ
   pub negative : Bool
@@ -41,7 +41,7 @@ pub record Last : Type 0 where
   pub node : Proof
   pub bound : Bound
 
--- what is remembered where nothing but itself comes next, with pieces of a bound and with none
+-- the state where no other part comes next, with pieces of a bound and without
 abbrev pub held : Base → Last → Draft → List Inner → State
 held b l d xs = record {
   coming = next.Nothing;
@@ -65,7 +65,7 @@ held b l d xs = record {
 abbrev pub st : Base → Last → Draft → State
 st b l d = held b l d []
 
--- with another number and sign
+-- the state with another number and sign
 abbrev pub now : Last → ℕ → Bool → Last
 now l n v = record l { number = n; negative = v }
 
@@ -98,7 +98,7 @@ limit_inside b e n l = subst (λ (v : Bool). n ≤ cond v point_limit certificat
 pub none_large : (limit n : ℕ) → n ≤ limit → when (nat_lt limit n) kind.NumberTooLarge ≡ None
 none_large limit n l = ap (λ (v : Bool). when v kind.NumberTooLarge) (false_lt limit n l)
 
--- what is sure of a program
+-- the properties of a valid program
 pub record Sure (p : Program) : Type 0 where
   pub few_rules : length p.rules ≤ 1000
   pub few_places : (s : ℕ) → arity_of p s ≤ 32

@@ -4,7 +4,7 @@ use Rattle.std.proofs.Common.{subst, ◌∙◌, arith}
 use Rattle.text_grammar.specs.text_core.Tokens.{Lexeme, Lexer, Token, pieces, tokens_in, token_then}
 use Rattle.cert_text.specs.TokenTexts.{spelled_all, AreCut, AllSpellBack, TokensAreTexts}
 
--- the first of some bytes, and the rest behind those that are passed over
+-- the first so many bytes, and the rest after them
 taken_and_rest : (n : ℕ) (bytes : List ℕ) → take n bytes ++ drop n bytes ≡ bytes
 taken_and_rest zero bytes = refl
 taken_and_rest (suc n) [] = refl
@@ -45,7 +45,7 @@ module _ {P M : Type 0} (lexer : Lexer P M) (spelled : P → List ℕ) where
       ∙ ap (λ (ts : List (Token P)). pieces ts) (passed_over behind (at + 1) c.others rest)
       ∙ cut_apart behind (at + 1 + length c.others) ps cs))
 
-  -- bytes that are spelled back, behind those that are passed over
+  -- bytes whose lexemes spell them are the bytes of their pieces, after those that are skipped
   spelled_back : (mode : M) (at skip : ℕ) (bytes : List ℕ) → AllSpellBack lexer spelled mode skip bytes
       → spelled_all lexer spelled (pieces (tokens_in lexer mode at skip bytes)) ≡ drop skip bytes
   spelled_back mode at zero [] h = refl

@@ -85,7 +85,7 @@ lawful = record {
   floor_read = λ es t at some behind. omega (arith, some, behind);
 }
 
--- what bytes are cut into
+-- how bytes are cut
 cuts : CutsAreWorkedOut
 cuts = record {
   first = refl;
@@ -110,7 +110,7 @@ cuts = record {
   to_alone = refl;
 }
 
--- where they break off
+-- where texts break off
 breaks : BreaksAreWorkedOut
 breaks = record {
   nothing_at_all = refl;

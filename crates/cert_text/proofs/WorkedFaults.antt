@@ -1,4 +1,4 @@
--- What reading small proof files comes to.
+-- The results of reading small proof files.
 use Rattle.std.proofs.Common.{ℕ, refl, ap}
 use Rattle.std.specs.Prelude.{nat_le}
 use Rattle.text_grammar.specs.text_core.Choices.{when}
@@ -31,7 +31,7 @@ nodes = record {
   gap_points = refl;
 }
 
--- what is refused of lemmas
+-- the refusals of lemmas
 lemmas : LemmasAreRefused
 lemmas = record {
   itself = refl;
@@ -78,7 +78,7 @@ bounds = record {
   behind_ten = refl;
 }
 
--- and of gaps
+-- the refusals of gaps
 gaps : GapsAreRefused
 gaps = record {
   rule = refl;

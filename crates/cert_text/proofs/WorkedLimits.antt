@@ -1,4 +1,4 @@
--- What is within the limits of small proof files, and what isn't.
+-- Small proof files within the limits, and others.
 use Rattle.std.proofs.Common.{◌≡◌, ℕ, zero, suc, ◌+◌, ◌^◌, ◌-◌, ◌≤◌, List, [], ◌∷◌, Option, Some, None, refl, arith, All}
 use Rattle.std.specs.Prelude.{ℤ, pos, negsuc, nat_abs}
 use Rattle.std.proofs.lemmas.List.Elements.{All-nil, All-cons, All-head}
@@ -24,7 +24,7 @@ first_rule = record { rule = rule_from 0 (Variable 0) []; numbered = refl }
 second_rule : IsRule counting 2
 second_rule = record { rule = counting_rule; numbered = refl }
 
--- and no others
+-- there are no other rules
 none_is_some : (r : Rule) → ¬ (◌≡◌ {A = Option Rule} None (Some r))
 none_is_some r e = cc
 
@@ -160,7 +160,7 @@ nested_beyond (suc n) level h w = nested_beyond n (suc level) (omega (arith, h))
 past : (n limit : ℕ) → limit + 1 ≤ n → ¬ (n ≤ limit)
 past n limit h k = omega (arith, h, k)
 
--- what is within the limits, and what isn't
+-- small proof files within the limits, and others
 pub limits_worked_out : LimitsAreWorkedOut
 limits_worked_out = record {
   loop = record {

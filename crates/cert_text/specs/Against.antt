@@ -1,4 +1,4 @@
--- What stands against the pieces of a proof file, and where.
+-- The faults of the pieces of a proof file, and their positions.
 use Rattle.std.specs.Prelude.{ℕ, ◌+◌, ◌-◌, Bool, true, false, not, ◌||◌, ◌&&◌, ◌==◌, nat_lt, nat_le, is_some}
 use Rattle.std.specs.Prelude.{List, [], ◌∷◌, ◌++◌, length, take, Option, Some, None, if◌then◌else◌}
 use Rattle.its_model.specs.model.Programs.{Program, Rule, rule_at, arity_of}
@@ -42,11 +42,11 @@ abbrev pub has_place : Program → Option Rule → ℕ → Bool
 has_place p None n = false
 has_place p (Some r) n = nat_lt 0 n && nat_le n (arity_of p r.target)
 
--- what stands against a number that is over the limit
+-- the fault of a number that is over the limit
 abbrev pub too_large : State → ℕ → Option ProofKind
 too_large s n = when (nat_lt (number_limit s) n) kind.NumberTooLarge
 
--- what stands against a number: it is too large, or as an earlier lemma, a rule or a place it isn't there
+-- the fault of a number: it is too large, or there is no such earlier lemma, rule or place
 abbrev pub against_number : Program → State → Next → ℕ → Option ProofKind
 against_number p s next.Nothing n = None
 against_number p s next.Node n = None
@@ -62,7 +62,7 @@ against_number p s next.Place n =
     (when (not (has_place p (rule_at p s.draft.rule) n)) kind.BadReference)
 against_number p s next.Number n = too_large s n
 
--- what stands against a word that begins a node: `cost` where the first line has a 1, and a level too many
+-- the fault of a word that begins a node: `cost` in a file whose first line has a 1, or a node too deep
 abbrev pub is_cost : Word → Bool
 is_cost word.Cost = true
 is_cost w = false
@@ -85,7 +85,7 @@ against_name p s next.Symbol w symbol = when (nat_le (length p.symbols) symbol) 
 against_name p s next.Node w symbol = against_node s w
 against_name p s coming w symbol = against_line s w
 
--- the fault of what follows the name of an existing symbol, as one of its places
+-- the fault of the part after the name of an existing symbol, as one of its places
 abbrev pub against_behind : Program → State → ℕ → Behind → Option ProofKind
 against_behind p s symbol behind.NoNumber = Some kind.Syntax
 against_behind p s symbol behind.Nothing = Some kind.Syntax
@@ -99,7 +99,7 @@ abbrev pub against_place : Program → State → ℕ → Behind → Option Proof
 against_place p s symbol b =
     or_else (when (nat_le (length p.symbols) symbol) kind.BadReference) (against_behind p s symbol b)
 
--- a fault of a place is at the name if there is no such symbol, behind the name if no number follows it, and else at
+-- a fault of a place is at the name if there is no such symbol, after the name if no number follows it, and else at
 -- the number
 abbrev pub name_bytes : Program → ℕ → Behind → ℕ
 name_bytes p symbol behind.NoNumber = if nat_le (length p.symbols) symbol then 0 else length (name_at p symbol)
@@ -114,7 +114,7 @@ bytes_of (i ∷ is) = i.len + bytes_of is
 abbrev pub read_bound : Program → List Inner → Answer Bound ProofKind
 read_bound p is = bound_answer (length p.start_names) is
 
--- what is refused of it, the bound where none is, and the pieces before that at which it is refused
+-- the kind of a refusal of a bound, the bound if there is none, and the number of pieces before the refused one
 abbrev pub against_answer : Answer Bound ProofKind → Option ProofKind
 against_answer (Stands b) = None
 against_answer (Refused x) = Some x.kind
@@ -142,7 +142,7 @@ against_piece p s (InBound piece len true) = against_answer (read_bound p (with_
 against_piece p s (InBound piece len false) = None
 against_piece p s Wrong = None
 
--- the position of the refusal of a bound, given that of its last piece: as many bytes behind its first one as the
+-- the position of the refusal of a bound, given that of its last piece: as many bytes after its first one as the
 -- pieces before the refused one have
 abbrev pub position_in_bound : List Inner → List Inner → Answer Bound ProofKind → ℕ → ℕ
 position_in_bound before is a at = at - bytes_of before + bytes_of (take (refused_before a) is)

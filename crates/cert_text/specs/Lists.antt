@@ -24,7 +24,7 @@ listed words = bracketed (joined (codes "; ") words)
 abbrev pub numbers_text : List ℕ → List ℕ
 numbers_text ns = bracketed (joined (codes " ") (map decimal ns))
 
--- a blank behind each number
+-- numbers with a blank after each
 abbrev pub each_before : List ℤ → List ℕ
 each_before [] = []
 each_before (z ∷ zs) = signed_decimal z ++ (codes " " ++ each_before zs)

@@ -18,7 +18,7 @@ abbrev mutual
   IsOverFirst n (Weaken child b) = IsOverFirst n child × ReadsBelow n b
   IsOverFirst n (Charge node uses) = AreOverFirst n uses
 
-  -- so does each that these write
+  -- each of these nodes is over the first n start arguments
   pub AreOverFirst : ℕ → Proofs → Type 0
   AreOverFirst n NoProof = ⊤
   AreOverFirst n (AndProof proof uses) = IsOverFirst n proof × AreOverFirst n uses

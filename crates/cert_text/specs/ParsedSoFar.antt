@@ -17,7 +17,7 @@ use Rattle.cert_text.specs.Remembered.{Draft, Outer, Whole, Inside, State}
 abbrev pub affine_of : Affine → Form
 affine_of f = record { coefs = f.coefs.items; constant = f.constant }
 
--- what a node or a gap holds
+-- the parts of a node or a gap read so far
 abbrev pub draft_of : code.Draft → Draft
 draft_of d = record {
   rule = d.rule;
@@ -48,7 +48,7 @@ outer_from outer (x ∷ xs) = outer_from (Inside (draft_of x.draft) (map proof_o
 abbrev pub outer_of : List OpenNode → Outer
 outer_of xs = outer_from Whole xs
 
--- what is remembered
+-- the state of reading
 abbrev pub own_of : ParsedSoFar → State
 own_of k = record {
   coming = k.coming;

@@ -23,7 +23,7 @@ abbrev pub with_shut : ℕ → Behind → Draft → Draft
 with_shut symbol (behind.Number n) d = record d { shut = d.shut ++ record { symbol = symbol; place = in_32 n } ∷ [] }
 with_shut symbol b d = d
 
--- what is remembered behind a piece
+-- the state after a piece
 abbrev pub moved : Program → Piece → State → State
 moved p First s = s
 moved p (Name w symbol) s = record s { symbol = symbol; coming = next.Nothing }
@@ -46,7 +46,7 @@ abbrev pub read_piece : Program → Piece → Progress → Progress
 read_piece p piece s =
     record { kept = moved p piece s.kept; broken = s.broken || is_some (against_piece p s.kept piece) }
 
--- behind a refusal no other fault is reported
+-- after a refusal no other fault is reported
 abbrev pub against : Program → Progress → Piece → Option ProofKind
 against p s piece = if s.broken then None else against_piece p s.kept piece
 

@@ -17,9 +17,9 @@ use Rattle.cert_text.specs.declared.action.Action.TheVariants as action
 use Rattle.cert_text.specs.declared.action.TheConstants.{ACTIONS}
 
 -- the parts of the node or gap that began last, as far as they were read: its rule and its set, its denominator, the
--- last list of numbers, with signs or without, the forms and the multipliers of a ranking function, an arm and its
--- form, the up arm, a place, the places with their local bounds, the way a cost is certified, its premises, the shut
--- places, and scaled points: the last ones, the moves and the floor
+-- last list of numbers, with signs or without, the forms and the multipliers of a ranking function, a side bound and
+-- its form, the up side bound, a place, the places with their local bounds, the way a cost is certified, its premises,
+-- the shut places, and scaled points: the last ones, the moves and the floor
 pub record Draft : Type 0 where
   pub rule : ℕ
   pub set : List ℕ
@@ -46,10 +46,10 @@ pub data Outer : Type 0 where
   Whole : Outer
   Inside : Draft → List Proof → Outer → Outer
 
--- what is remembered: what comes next; whether the first line has a 2, and whether a node on costs was read; whether a
--- gap is open; lemmas and gaps in order; how many nodes are open; the node that was read last, the uses that are open
--- and what is round them, and what the last node or gap holds; the last number, its sign and the last symbol; and the
--- pieces of a bound that is open, and the last bound
+-- the state of reading: the meaning of the next piece; whether the first line has a 2, and whether a node on costs was
+-- read; whether a gap is open; lemmas and gaps in order; the number of open nodes; the node that was read last, the
+-- open uses and the nodes around them, and the parts of the last node or gap; the last number, its sign and the last
+-- symbol; and the pieces of an open bound, and the last bound
 pub record State : Type 0 where
   pub coming : Next
   pub priced : Bool
@@ -159,12 +159,12 @@ abbrev pub first_or : {X : Type 0} → X → List X → X
 first_or d [] = d
 first_or d (x ∷ xs) = x
 
--- a place with its local bound, by the arm that was read last as the low one
+-- a place with its local bound, with the side bound that was read last as the low one
 abbrev pub member_in : Draft → Member
 member_in d = record { result_variable = d.result_variable; local = record { up = d.up; low = d.side_bound } }
 
--- what an action does to the numbers that a node or a gap holds, by the last number, its sign and the last symbol; what
--- is taken is gone
+-- the effect of an action on the numbers of a node or a gap, by the last number, its sign and the last symbol; numbers
+-- that are used are removed
 abbrev pub numbered : ℕ → Bool → ℕ → Action → Draft → Draft
 numbered n negative symbol action.RuleRead d = record d { rule = in_32 n }
 numbered n negative symbol action.RuleListed d = record d { set = d.set ++ in_32 n ∷ [] }
@@ -178,7 +178,7 @@ numbered n negative symbol action.MoveRead d = record d { moves = d.moves ++ d.n
 numbered n negative symbol action.ResultVariableRead d = record d { result_variable = record { rule = d.rule; place = in_32 n } }
 numbered n negative symbol a d = d
 
--- what one does to arms, to how a cost is shown and to scaled points
+-- the effect of an action on side bounds, on how a cost is shown and on scaled points
 abbrev pub shaped : Action → Draft → Draft
 shaped action.UpRead d = record d { up = d.side_bound; side_bound = Poly }
 shaped action.LowRead d = record d { members = d.members ++ member_in d ∷ []; up = Poly; side_bound = Poly }
@@ -193,7 +193,7 @@ shaped action.GapMovesRead d = record d { gap_moves = d.points; points = [] }
 shaped action.GapFloorRead d = record d { floor = first_or no_point d.points; points = [] }
 shaped a d = d
 
--- what one does to what a node or a gap holds
+-- the effect of an action on the parts of a node or a gap
 abbrev pub drafted : ℕ → Bool → ℕ → Action → Draft → Draft
 drafted n negative symbol a d = shaped a (numbered n negative symbol a d)
 
@@ -222,7 +222,7 @@ rank_in d = record {
   floor = d.numbers;
 }
 
--- the node that was read, by what it holds, the node inside it and the bound that were read last
+-- the node that was read, from its parts, the node inside it and the bound that were read last
 abbrev pub node_in : Action → ℕ → Draft → Proof → Bound → Proof
 node_in action.CiteRead n d child b = Cite (in_32 n)
 node_in action.EmptyRead n d child b = Empty d.rule d.numbers
@@ -263,7 +263,7 @@ uses_read Whole s = s
 uses_read (Inside d before outer) s =
     record s { draft = record d { uses = s.used }; used = before; outer = outer }
 
--- what an action does to what comes next
+-- the meaning of the next piece after an action
 abbrev pub announced : Action → Next → Next
 announced action.NodeBegins coming = next.Node
 announced action.LemmaComes coming = next.Lemma
@@ -274,7 +274,7 @@ announced action.IntegerComes coming = next.Number
 announced action.NameComes coming = next.Symbol
 announced a coming = coming
 
--- what an action does to lines, levels and uses; what is taken is gone
+-- the effect of an action on lines, levels and uses; those that are used are removed
 abbrev pub arranged : Action → State → State
 arranged action.SecondVersion s = record s { priced = true }
 arranged action.LemmaRead s = record s { lemmas = s.lemmas ++ s.node ∷ []; node = Start }
@@ -295,7 +295,7 @@ acted a s =
     let t = arranged a (node_ended a s) in
     record t { draft = drafted s.number s.negative s.symbol a t.draft; coming = announced a s.coming }
 
--- what a mark stands for is done
+-- the state after the action of a mark, if it has one
 abbrev pub done_by : Option Action → State → State
 done_by None s = s
 done_by (Some a) s = acted a s

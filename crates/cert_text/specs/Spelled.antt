@@ -16,7 +16,7 @@ use Rattle.cert_types.specs.cert_rules.Nodes.{Weaken, Charge, Proofs, NoProof, A
 use Rattle.cert_types.specs.cert_rules.Gaps.{ScaledPoint, SymbolPlace, Gap, ProofFile}
 use Rattle.cert_text.specs.Texts.{text_of}
 
--- at most so many levels of nodes, so many lemmas and so many gaps are read
+-- at most this many levels of nodes, this many lemmas and this many gaps are read
 abbrev pub level_limit : ℕ
 level_limit = 64
 
@@ -39,12 +39,12 @@ pub record IsPlaceOf (p : Program) (s : SymbolPlace) : Type 0 where
   pub least : 1 ≤ s.place
   pub most : s.place ≤ arity_of p s.symbol
 
--- the numbers of an arm are at most 2^56 in absolute value
+-- the numbers of a side bound are at most 2^56 in absolute value
 abbrev pub IsSideBoundWithin : SideBound → Type 0
 IsSideBoundWithin (Linear den form multipliers) = IsInLimit den × IsFormInLimit form × AreInLimit multipliers
 IsSideBoundWithin Poly = ⊤
 
--- so are those of both arms
+-- the numbers of both side bounds are at most 2^56 in absolute value
 pub record IsLocalWithin (l : LocalBound) : Type 0 where
   pub up : IsSideBoundWithin l.up
   pub low : IsSideBoundWithin l.low
@@ -87,8 +87,8 @@ pub record IsBoundWithin (p : Program) (b : Bound) : Type 0 where
   pub listed : ReadsBelow (length p.start_names) b
   pub within : IsWithin b
 
--- what a node says is within the limits, behind so many lemmas: it cites an earlier lemma, counted from 1, and names
--- rules, places and symbols that there are
+-- a node is within the limits, after this many lemmas: it cites an earlier lemma, counted from 1, and names existing
+-- rules, places and symbols
 abbrev pub SaysWithin : Program → ℕ → Proof → Type 0
 SaysWithin p earlier (Cite lemma) = (1 ≤ lemma) × (lemma ≤ earlier)
 SaysWithin p earlier Start = ⊤
@@ -132,7 +132,7 @@ abbrev mutual
   AreProofsWithin p earlier level (AndProof proof uses) =
       IsProofWithin p earlier level proof × AreProofsWithin p earlier level uses
 
--- each lemma is, at level 1 and behind the lemmas before it
+-- each lemma is within the limits, at level 1 and after the lemmas before it
 abbrev pub AreLemmasWithin : Program → ℕ → List Proof → Type 0
 AreLemmasWithin p earlier [] = ⊤
 AreLemmasWithin p earlier (lemma ∷ lemmas) =

@@ -58,13 +58,13 @@ abbrev pub rank_head : RankNode → List ℕ
 rank_head n =
     codes "rank " ++ (decimal n.rule ++ (codes " set " ++ (numbers_text n.set ++ (codes " den " ++ decimal n.den))))
 
--- its forms and its multipliers
+-- the forms and the multipliers of a ranking node
 abbrev pub rank_rest : Program → RankNode → List ℕ
 rank_rest p n =
     codes " forms " ++ (listed (map (form_text p) n.forms) ++ (codes " moves " ++ (listed (map numbers_text n.moves)
     ++ (codes " floor " ++ numbers_text n.floor))))
 
--- what a ranking node holds beside its uses
+-- the parts of a ranking node besides its uses
 abbrev pub rank_text : Program → RankNode → List ℕ
 rank_text p n = rank_head n ++ rank_rest p n
 
@@ -84,7 +84,7 @@ abbrev mutual
   node_text p (Charge node uses) =
       codes "cost " ++ (decimal node.rule ++ (codes " " ++ (cost_by_text node.by ++ uses_text p uses)))
 
-  -- what a node rests on, in braces, with a semicolon and a blank between
+  -- the uses of a node, in braces, with a semicolon and a blank between
   pub uses_text : Program → Proofs → List ℕ
   uses_text p NoProof = codes " uses {}"
   uses_text p (AndProof proof uses) = codes " uses {" ++ (node_text p proof ++ (more_uses_text p uses ++ codes "}"))
@@ -141,13 +141,13 @@ gap_head p g =
     decimal g.rule ++ (codes " set " ++ (numbers_text g.set
     ++ (codes " shut " ++ bracketed (joined (codes " ") (map (symbol_place_text p) g.shut)))))
 
--- its points
+-- the points of a gap
 abbrev pub gap_points : Gap → List ℕ
 gap_points g =
     codes " moves " ++ (listed (map point_text g.moves) ++ (codes " floor " ++ (point_text g.floor
     ++ (codes " kept " ++ listed (map point_text g.kept)))))
 
--- what a gap holds
+-- the parts of a gap
 abbrev pub gap_text : Program → Gap → List ℕ
 gap_text p g = gap_head p g ++ gap_points g
 

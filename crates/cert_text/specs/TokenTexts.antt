@@ -4,12 +4,12 @@ use Rattle.text_grammar.specs.text_core.Tokens.{Lexer, pieces, tokens_in}
 
 -- how texts are cut, and the bytes of each piece
 module _ {P M : Type 0} (lexer : Lexer P M) (spelled : P → List ℕ) where
-  -- the bytes of pieces, one behind the other
+  -- the bytes of pieces in order
   abbrev pub spelled_all : List P → List ℕ
   spelled_all [] = []
   spelled_all (p ∷ ps) = spelled p ++ spelled_all ps
 
-  -- in a mode a piece is cut off from the bytes behind it: it has a byte at least, and is what these begin with
+  -- in a mode the bytes begin with this piece, which has at least one byte, and `behind` are the bytes after it
   pub record IsCut (mode : M) (p : P) (behind : List ℕ) : Type 0 where
     pub first : ℕ
     pub others : List ℕ
@@ -29,7 +29,7 @@ module _ {P M : Type 0} (lexer : Lexer P M) (spelled : P → List ℕ) where
     pub len : (lexer.lexeme_in mode b bytes).len ≡ suc some
     pub spells : spelled piece ≡ b ∷ take some bytes
 
-  -- the same for each lexeme of bytes, after skipping this many of them
+  -- each lexeme of bytes spells its own bytes, after skipping this many of them
   abbrev pub AllSpellBack : M → ℕ → List ℕ → Type 0
   AllSpellBack mode skip [] = ⊤
   AllSpellBack mode (suc skip) (b ∷ bytes) = AllSpellBack mode skip bytes

@@ -1,4 +1,4 @@
--- The refusals that errors stand for.
+-- The refusals of errors.
 use Rattle.std.specs.Prelude.{Option, Some, None}
 use Rattle.text_grammar.specs.text_core.Readers.{Fault}
 use Rattle.cert_lexer.specs.declared.kind.ProofKind.{ProofKind}
@@ -7,7 +7,7 @@ use Rattle.cert_text.specs.declared.error.ProofTextError.{ProofTextError}
 use Rattle.cert_text.specs.declared.error.ProofTextError.TheVariants.{Syntax, NumberTooLarge, TooDeep, BadReference}
 use Rattle.cert_text.specs.declared.error.ProofTextError.TheVariants.{Limit, Memory}
 
--- the refusal that an error stands for; want of memory stands for none
+-- the refusal of an error; want of memory has none
 abbrev pub refusal_in : ProofTextError → Option (Fault ProofKind)
 refusal_in (Syntax at) = Some (record { kind = kind.Syntax; at = at })
 refusal_in (NumberTooLarge at) = Some (record { kind = kind.NumberTooLarge; at = at })

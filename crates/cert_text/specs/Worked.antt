@@ -1,4 +1,4 @@
--- Worked values of small proof files and their texts, and of what is within the limits.
+-- Worked values of small proof files and their texts, and of which files are within the limits.
 use Rattle.std.specs.Prelude.{◌≡◌, ℕ, zero, suc, ◌+◌, ◌^◌, ◌-◌, ◌≤◌, List, [], ◌∷◌, ◌++◌, length, All, ℤ, pos, negsuc}
 use Rattle.std.specs.Prelude.{None, codes}
 use Rattle.its_model.specs.model.Terms.{Term, Literal, Variable, Subtraction}
@@ -47,7 +47,7 @@ form coef constant = record { coefs = coef ∷ []; constant = constant }
 abbrev pub at_symbol : ℕ → ℤ → ℤ → SymbolForm
 at_symbol symbol coef constant = record { symbol = symbol; form = form coef constant }
 
--- a place with an up and a low arm over the denominator 1, each with its multipliers
+-- a place with an up and a low side bound over the denominator 1, each with its multipliers
 abbrev pub member : ℕ → Form → List ℕ → Form → List ℕ → Member
 member rule up above low below = record {
   result_variable = record { rule = rule; place = 1 };
@@ -96,7 +96,7 @@ size_loop =
 abbrev pub file_of_lemmas : List Proof → ProofFile
 file_of_lemmas lemmas = record { lemmas = lemmas; gaps = [] }
 
--- lines, with a line feed behind each
+-- lines with a line feed after each
 abbrev pub lines_text : List (List ℕ) → List ℕ
 lines_text [] = []
 lines_text (line ∷ lines) = line ++ (codes "\n" ++ lines_text lines)
@@ -110,7 +110,7 @@ abbrev pub HasLine : Proof → List ℕ → Type 0
 HasLine lemma line =
     HasLines (file_of_lemmas (lemma ∷ [])) (codes "koat-proof 1" ∷ (codes "lemma " ++ line) ∷ codes "end" ∷ [])
 
--- and in one with costs
+-- the line of a lemma in a file with costs
 abbrev pub HasCostLine : Proof → List ℕ → Type 0
 HasCostLine lemma line =
     HasLines (file_of_lemmas (lemma ∷ [])) (codes "koat-proof 2" ∷ (codes "lemma " ++ line) ∷ codes "end" ∷ [])
@@ -139,7 +139,7 @@ gap_apart =
       kept = point (pos 8) 9 ∷ [];
     }
 
--- an up arm with a form of two coefficients, and two places
+-- an up side bound with a form of two coefficients, and two places
 abbrev pub spread_two : Proof
 spread_two =
     Spread
@@ -188,7 +188,7 @@ pub record TextsAreWorkedOut : Type 0 where
         local = record { up = Poly; low = Poly };
       }) NoProof)
       (codes "spread 1.1 up poly low poly uses {}")
-  -- the elements of a list keep their order: the coefficients of a form, its constant behind them, multipliers, and the
+  -- the elements of a list keep their order: the coefficients of a form and then its constant, multipliers, and the
   -- members of a cycle
   pub form_of_two : HasLine spread_two (codes "spread 1.1 up lin 2 [3 4 5] [6 7] low poly uses {}")
   pub two_members : HasLine cycle_two (codes "cycle [1.1 up poly low poly; 2.1 up poly low poly] uses {}")
@@ -209,7 +209,7 @@ pub record TextsAreWorkedOut : Type 0 where
       (codes "cost 1 empty [1] uses {}")
   pub never_run : HasCostLine (Never (Charge (record { rule = 1; by = NeverCost }) (only (Cite 2))))
       (codes "never (cost 1 never uses {cite 2})")
-  -- gaps come behind the lemmas
+  -- gaps come after the lemmas
   pub gaps : HasLines
       (record {
         lemmas = Start ∷ [];
@@ -230,12 +230,12 @@ pub record TextsAreWorkedOut : Type 0 where
       ∷ codes "end"
       ∷ [])
 
--- nodes on top of one another, so many below the first
+-- nodes on top of one another, this many below the first
 abbrev pub nested : ℕ → Proof
 nested zero = Start
 nested (suc n) = Never (nested n)
 
--- a proof is within the limits as a lemma behind so many others
+-- a proof is within the limits as a lemma after this many others
 abbrev pub IsLemma : ℕ → Proof → Type 0
 IsLemma earlier proof = IsProofWithin counting earlier 1 proof
 
@@ -243,7 +243,7 @@ IsLemma earlier proof = IsProofWithin counting earlier 1 proof
 abbrev pub power : ℕ → Bound
 power base = PowerOf base (Input 0)
 
--- what is within the limits, and what isn't
+-- files within the limits, and others
 pub record LimitsAreWorkedOut : Type 0 where
   pub loop : IsFileWithin counting (file_of_lemmas (rank_enter ∷ rank_loop ∷ size_enter ∷ size_loop ∷ []))
   -- an earlier lemma is cited, and not the lemma itself, or lemma 0
@@ -271,7 +271,7 @@ pub record LimitsAreWorkedOut : Type 0 where
   pub too_large : ¬ (IsLemma 0 (Empty 1 ((2 ^ 56 + 1) ∷ [])))
   pub negative : IsSideBoundWithin (Linear 1 (form (negsuc (2 ^ 56 - 1)) (pos 0)) [])
   pub too_negative : ¬ (IsSideBoundWithin (Linear 1 (form (negsuc (2 ^ 56)) (pos 0)) []))
-  -- those of a gap, and its places
+  -- the limits of a gap's numbers, and of its places
   pub large_point : IsPointWithin (point (pos (2 ^ 45)) (2 ^ 45))
   pub too_large_point : ¬ (IsPointWithin (point (pos (2 ^ 45 + 1)) 1))
   pub too_large_den : ¬ (IsPointWithin (point (pos 1) (2 ^ 45 + 1)))

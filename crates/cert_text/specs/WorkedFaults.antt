@@ -21,7 +21,7 @@ use Rattle.cert_text.specs.Reading.{proofs_of}
 use Rattle.cert_text.specs.Worked.{counting, form, member, only, rank_enter, size_enter, file_of_lemmas}
 use Rattle.cert_text.specs.Worked.{lines_text, gap_with, gap_apart, spread_two, cycle_two, two_parts}
 
--- reading bytes comes to this
+-- the answer to reading bytes
 abbrev pub ComesTo : List ℕ → Answer ProofFile ProofKind → Type 0
 ComesTo bytes a = answer (reader (proofs_of counting)) (length bytes) (tokens counting bytes) ≡ a
 
@@ -40,7 +40,7 @@ IsCostLineOf line lemma =
 abbrev pub IsRefused : List ℕ → ProofKind → ℕ → Type 0
 IsRefused bytes kind at = ComesTo bytes (Refused (record { kind = kind; at = at }))
 
--- what begins like this and then with a first lemma, whose byte 0 is byte 19
+-- the refusal of a file with these bytes in its first lemma, whose byte 0 is byte 19
 abbrev pub IsRefusedLemma : List ℕ → ProofKind → ℕ → Type 0
 IsRefusedLemma bytes kind at = IsRefused (codes "koat-proof 1\nlemma " ++ bytes) kind at
 
@@ -87,7 +87,7 @@ pub record NodesAreRead : Type 0 where
       (codes "koat-proof 1\ngap 2 set [2] shut [] moves [[1 2 3]; [4 5]] floor [6 7] kept [[8 9]]\nend\n")
       (Stands (record { lemmas = []; gaps = gap_apart ∷ [] }))
 
--- what is refused of lemmas
+-- the refusals of lemmas
 pub record LemmasAreRefused : Type 0 where
   -- a lemma isn't earlier than itself
   pub itself : IsRefusedLemma (codes "cite 1\n") BadReference 24
@@ -118,7 +118,7 @@ pub record LemmasAreRefused : Type 0 where
   pub deepest : against_node (record begun { levels = 64 }) word.Start ≡ None
   pub too_deep : against_node (record begun { levels = 65 }) word.Start ≡ Some TooDeep
   pub cost_first : against_node (record begun { levels = 65 }) word.Cost ≡ Some Syntax
-  -- the 100,000th lemma and the 1,000th gap are read, and no other behind them
+  -- the 100,000th lemma and the 1,000th gap are read, and no further one
   pub last_lemma : (lemmas : List Proof) → length lemmas ≡ 99999
       → against_line (record begun { lemmas = lemmas }) word.Lemma ≡ None
   pub lemma_behind : (lemmas : List Proof) → length lemmas ≡ 100000
@@ -128,7 +128,7 @@ pub record LemmasAreRefused : Type 0 where
   pub gap_behind : (gaps : List Gap) → length gaps ≡ 1000
       → against_line (record begun { gaps = gaps }) word.Gap ≡ Some Limit
 
--- what is refused of bounds, of which byte 0 is byte 37
+-- the refusals of bounds, whose byte 0 is byte 37
 pub record BoundsAreRefused : Type 0 where
   pub unlisted : IsRefusedLemma (codes "weaken (start) to B\n") BadReference 37
   pub before_bracket : IsRefusedLemma (codes "weaken (start) to B)") BadReference 37
@@ -166,6 +166,6 @@ pub record FilesAreWorkedOut : Type 0 where
   pub gaps : GapsAreRefused
 
 -- the proof files of each program are read as the laws of readers say: each text has one answer, the file or the first
--- refusal, and a file is accepted exactly where its text is derived and its tokens have no fault
+-- refusal, and a file is accepted exactly if its text is derived and its tokens have no fault
 pub record ProofTextsAreRead : Type 0 where
   pub each : (p : Program) → TextsAreRead (proofs_of p)

@@ -16,7 +16,7 @@ use Rattle.cert_lexer.specs.Lexing.{tokens}
 use Rattle.its_model.specs.model.Programs.{Program}
 use Rattle.cert_text.specs.Worked.{counting}
 
--- texts of the grammar, with nothing against their tokens, which all stand for the same
+-- texts of the grammar without faults of tokens, which all denote the same value
 abbrev pub bare : Text Piece ⊤ ℕ
 bare = record {
   grammar = proof_grammar;
@@ -31,11 +31,11 @@ bare = record {
 abbrev pub IsCutInto : List ℕ → List Piece → Type 0
 IsCutInto bytes ps = pieces (tokens counting bytes) ≡ ps
 
--- reading them comes to this
+-- the answer to reading them
 abbrev pub ComesTo : List ℕ → Answer ⊤ ℕ → Type 0
 ComesTo bytes a = answer (reader bare) (length bytes) (tokens counting bytes) ≡ a
 
--- they are a whole text, or break off at a position
+-- the bytes are a whole text, or break off at a position
 abbrev pub IsRead : List ℕ → Type 0
 IsRead bytes = ComesTo bytes (Stands tt)
 
@@ -64,7 +64,7 @@ pub record CutsAreWorkedOut : Type 0 where
   pub result_variable : IsCutInto (codes "10.2") (Number 10 ∷ ASign sign.Dot ∷ Number 2 ∷ [])
   pub leading_zero : IsCutInto (codes "01") (Wrong ∷ [])
   pub other : IsCutInto (codes "+") (Wrong ∷ [])
-  -- no other byte stands for a blank or a line feed: not a tab, not a carriage return, and none over 127
+  -- no other byte is a blank or a line feed: not a tab, not a carriage return, and none over 127
   pub tab : IsCutInto (9 ∷ []) (Wrong ∷ [])
   pub carriage_return : IsCutInto (13 ∷ []) (Wrong ∷ [])
   pub over_127 : IsCutInto (128 ∷ []) (Wrong ∷ [])
@@ -81,7 +81,7 @@ pub record CutsAreWorkedOut : Type 0 where
       ∷ Name word.Shut 2 ∷ ASign sign.Blank ∷ ASign sign.OpenSquare ∷ Place 0 (behind.Number 1) ∷ ASign sign.Blank
       ∷ Place 1 (behind.Number 2) ∷ ASign sign.Blank ∷ Place 0 behind.NoNumber ∷ ASign sign.Blank
       ∷ Place 2 (behind.Number 1) ∷ ASign sign.CloseSquare ∷ []
-  -- a bound behind `) to `, up to a bracket that closes none of its own
+  -- a bound after `) to `, up to a bracket that closes none of its own
   pub closed : IsCutInto (codes ") to 2^(A))")
       (ASign sign.Close ∷ ASign sign.Blank ∷ Name word.To 2 ∷ ASign sign.Blank
       ∷ InBound (bound.Number 2) 1 false ∷ InBound bound.Caret 1 false ∷ InBound bound.Open 1 false
@@ -111,7 +111,7 @@ pub record CutsAreWorkedOut : Type 0 where
       ∷ InBound (bound.Variable 1) 1 true ∷ [])
   pub to_alone : IsCutInto (codes "to A") (Name word.To 2 ∷ ASign sign.Blank ∷ Name word.Other 2 ∷ [])
 
--- where texts break off; the first byte behind `koat-proof 1` and its line feed is byte 13, and `lemma ` ends at 19
+-- where texts break off; the first byte after `koat-proof 1` and its line feed is byte 13, and `lemma ` ends at 19
 pub record BreaksAreWorkedOut : Type 0 where
   pub nothing_at_all : BreaksOffAt [] 0
   pub no_lemma : IsRead (codes "koat-proof 1\nend\n")

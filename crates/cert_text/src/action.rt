@@ -1,6 +1,6 @@
 //! The actions of the marks of the grammar.
 
-/// What is done at a mark.
+/// The action of a mark.
 #[derive(Clone, Copy, Debug, PartialEq, Eq)]
 pub enum Action {
     /// The first line has a 1.
@@ -35,7 +35,7 @@ pub enum Action {
     WeakenRead,
     /// A node `cost` was read.
     CostRead,
-    /// What a node rests on begins.
+    /// The uses of a node begin.
     UsesBegin,
     /// One of the nodes that it rests on was read.
     UsedRead,
@@ -69,21 +69,21 @@ pub enum Action {
     PlaceComes,
     /// A rule and a place were read.
     ResultVariableRead,
-    /// An up arm was read.
+    /// An up side bound was read.
     UpRead,
-    /// A low arm was read, and with it a place with its local bound.
+    /// A low side bound was read, and with it a place with its local bound.
     LowRead,
-    /// The arm is a polynomial.
+    /// The side bound is a polynomial.
     PolyRead,
-    /// The form of an arm was read.
+    /// The form of a side bound was read.
     SideBoundFormRead,
-    /// The arm is linear.
+    /// The side bound is linear.
     SideBoundRead,
     /// A cost is shown by multipliers.
     ByEmptyRead,
     /// A cost is shown by a rule that never runs.
     ByNeverRead,
-    /// A cost is shown by an arm.
+    /// A cost is shown by a side bound.
     BySideBoundRead,
     /// A gap begins.
     GapBegins,

@@ -34,7 +34,7 @@ pub struct Draft {
     /// The forms and the multipliers of a ranking function.
     pub forms: Vec<Form>,
     pub moves: Vec<Vec<u64>>,
-    /// An arm that was read, its form before, and the up arm.
+    /// A side bound that was read, its form before, and the up side bound.
     pub form: Affine,
     pub side_bound: SideBound,
     pub up: SideBound,
@@ -43,7 +43,7 @@ pub struct Draft {
     pub members: Vec<Member>,
     /// How a cost is shown.
     pub by: CostBy,
-    /// What the node rests on.
+    /// The uses of the node.
     pub uses: Vec<Proof>,
     /// The shut places, the last scaled points, and the moves and the floor of a gap.
     pub shut: Vec<(u32, u32)>,
@@ -171,7 +171,7 @@ impl Draft {
         self.act_shape(alloc, action)
     }
 
-    // What an action does to numbers.
+    // Does an action on numbers.
     fn act_number(
         &mut self,
         alloc: Global,
@@ -205,7 +205,7 @@ impl Draft {
         Ok(())
     }
 
-    // What an action does to arms, to how a cost is shown and to scaled points.
+    // Does an action on side bounds, on how a cost is shown and on scaled points.
     fn act_shape(&mut self, alloc: Global, action: Action) -> Result<(), AllocError>
         ensures { OnOk result (draft_of self.new ≡ shaped action (draft_of self.old)) }
     {
@@ -282,7 +282,7 @@ impl Draft {
         Ok(())
     }
 
-    // A linear arm.
+    // A linear side bound.
     fn read_side_bound(&mut self, alloc: Global)
         ensures { draft_of self.new ≡ shaped action.SideBoundRead (draft_of self.old) }
     {

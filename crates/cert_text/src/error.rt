@@ -51,7 +51,7 @@ impl<T: Drop> From<AllocFailed<T>> for ProofTextError {
 }
 
 impl ProofTextError {
-    /// The error that stands for the refusal of a kind at a position.
+    /// The error of a refusal of a kind at a position.
     pub fn of(kind: ProofKind, at: u64) -> ProofTextError
         ensures { refusal_in result ≡ Some (record { kind = kind; at = at }) }
     {

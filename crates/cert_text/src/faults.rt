@@ -1,4 +1,4 @@
-//! What stands against numbers, names and places of a proof file.
+//! The faults of numbers, names and places of a proof file.
 
 ghost use Rattle.std.specs.Prelude.{◌≡◌, ◌≤◌, ◌^◌, is_some};
 ghost use Rattle.its_model.specs.Views.{program_of};
@@ -13,7 +13,7 @@ use cert_lexer::{Behind, ProofKind, Word};
 use its_model::Program;
 use linear_forms::{CERTIFICATE_LIMIT, POINT_LIMIT};
 
-/// At most so many levels of nodes, so many lemmas and so many gaps are read.
+/// At most this many levels of nodes, this many lemmas and this many gaps are read.
 pub const LEVEL_LIMIT: u64 = 64;
 /// See `LEVEL_LIMIT`.
 pub const LEMMA_LIMIT: usize = 100_000;
@@ -37,7 +37,7 @@ fn or_else(first: Option<ProofKind>, other: Option<ProofKind>) -> Option<ProofKi
     }
 }
 
-// What stands against a number that is over the limit.
+// The fault of a number that is over the limit.
 fn too_large(kept: &ParsedSoFar, number: u128) -> Option<ProofKind>
     ensures { result ≡ against.too_large (own_of kept.now) number }
 {
@@ -86,7 +86,7 @@ fn has_place(p: &Program, rule: u32, number: u128) -> bool
     number > 0 && number <= u128::from(arity(p, target))
 }
 
-/// What stands against a number, by what it stands for.
+/// The fault of a number, by its meaning.
 pub fn against_number(p: &Program, kept: &ParsedSoFar, number: u128) -> Option<ProofKind>
     ensures { result ≡ against.against_number (program_of p.now) (own_of kept.now) kept.now.coming number }
 {
@@ -111,7 +111,7 @@ pub fn against_number(p: &Program, kept: &ParsedSoFar, number: u128) -> Option<P
     }
 }
 
-/// What stands against a name, as a symbol or as a word that begins a node or a line.
+/// The fault of a name, as a symbol or as a word that begins a node or a line.
 pub fn against_name(p: &Program, kept: &ParsedSoFar, word: Word, symbol: u32) -> Option<ProofKind>
     ensures { result ≡ against.against_name (program_of p.now) (own_of kept.now) kept.now.coming word symbol }
 {
@@ -122,7 +122,7 @@ pub fn against_name(p: &Program, kept: &ParsedSoFar, word: Word, symbol: u32) ->
     }
 }
 
-// What stands against a word that begins a node.
+// The fault of a word that begins a node.
 fn against_node(kept: &ParsedSoFar, word: Word) -> Option<ProofKind>
     ensures { result ≡ against.against_node (own_of kept.now) word }
 {
@@ -145,7 +145,7 @@ fn against_line(kept: &ParsedSoFar, word: Word) -> Option<ProofKind>
     }
 }
 
-// The fault of what follows the name of an existing symbol, as one of its places.
+// The fault of the part after the name of an existing symbol, as one of its places.
 fn against_behind(p: &Program, kept: &ParsedSoFar, symbol: u32, behind: Behind) -> Option<ProofKind>
     ensures { result ≡ against.against_behind (program_of p.now) (own_of kept.now) symbol behind }
 {

@@ -13,7 +13,7 @@ use farkas_cert::Scaled;
 use its_model::Program;
 use model::Memory;
 
-/// What a gap holds.
+/// Writes the parts of a gap.
 pub(crate) fn push_gap(text: &mut Vec<u8>, p: &Program, gap: &Gap) -> Result<(), Memory>
     ensures { OnOk result (text.new.items ≡ text.old.items ++ gap_text (program_of p.now) (gap_of gap.now)) }
 {

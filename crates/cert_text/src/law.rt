@@ -5,8 +5,8 @@ ghost use Rattle.cert_text.specs.Worked.{TextsAndLimitsAreWorkedOut};
 ghost use Rattle.cert_text.specs.WorkedFaults.{FilesAreWorkedOut, ProofTextsAreRead};
 ghost use Rattle.cert_text.specs.WorkedReading.{ReadingIsWorkedOut};
 
-/// What the texts of small proof files are, and which files are within the limits, is what was worked out by hand, on
-/// both sides. It has no code: its contract is the law.
+/// Worked values, on both sides: the texts of small proof files, and which files are within the limits. It has no
+/// code: its contract is the law.
 pub fn worked_texts_hold()
     ensures { TextsAndLimitsAreWorkedOut }
 {}
@@ -17,8 +17,8 @@ pub fn worked_breaks_hold()
     ensures { ReadingIsWorkedOut }
 {}
 
-/// What reading small proof files comes to, the file or the first refusal, is what was worked out by hand, on both
-/// sides. It has no code: its contract is the law.
+/// Worked values, on both sides: the result of reading small proof files, the file or the first refusal. It has no
+/// code: its contract is the law.
 pub fn worked_files_hold()
     ensures { FilesAreWorkedOut }
 {}
@@ -28,7 +28,7 @@ pub fn proof_texts_are_read()
     ensures { ProofTextsAreRead }
 {}
 
-/// Of a valid program with fewer than 2^32 symbols, bytes are read as a proof file exactly where they are its text and
+/// Of a valid program with fewer than 2^32 symbols, bytes are read as a proof file exactly if they are its text and
 /// it is within the limits and the references; so what is printed of such a file is read as it. It has no code: its
 /// contract is the law.
 pub fn files_are_their_texts()

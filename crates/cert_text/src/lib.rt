@@ -2,7 +2,7 @@
 //!
 //! Builds on `cert_lexer` (lexer and grammar), `text_grammar` (the parser) and `cert_types` (lemmas and gaps). Main
 //! guarantee: `text_of` is the text of a proof file, production by production, and `print` writes exactly that. `read`
-//! gives a file exactly where the bytes are the text of that file and it keeps the limits and the references of a
+//! gives a file exactly if the bytes are the text of that file and it keeps the limits and the references of a
 //! program, and else exactly the first refusal.
 #![tactic(auto)]
 

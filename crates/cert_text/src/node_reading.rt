@@ -133,7 +133,7 @@ fn cycle_from(alloc: Global, draft: Draft) -> Result<Proof, AllocError>
     Ok(Proof::Cycle(Box::new(alloc, node)?))
 }
 
-// What the steps by a rule cost together.
+// The node on what the steps by a rule cost together.
 fn cost_from(alloc: Global, draft: Draft) -> Result<Proof, AllocError>
     ensures { IfOk result (λ node. proof_of node ≡ Charge (record { rule = draft.rule; by = cost_by_of draft.by })
         (uses_of (map proof_of draft.uses.items))) }

@@ -83,7 +83,7 @@ fn push_more_rules(text: &mut Vec<u8>, rules: &[u32]) -> Result<(), Memory>
     Ok(())
 }
 
-/// Numbers with their signs, and a blank behind each.
+/// Writes numbers with their signs, and a blank after each.
 pub(crate) fn push_each_before(text: &mut Vec<u8>, numbers: &[i64]) -> Result<(), Memory>
     ensures { OnOk result (text.new.items ≡ text.old.items ++ each_before numbers.now) }
 {

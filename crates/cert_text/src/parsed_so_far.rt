@@ -28,7 +28,7 @@ pub struct OpenNode {
 #[derive(Drop)]
 pub struct ParsedSoFar {
     pub alloc: Global,
-    /// What the next piece stands for.
+    /// The meaning of the next piece.
     pub coming: Next,
     /// Whether the first line has a 2, whether a node on costs was read, and whether a gap is open.
     pub priced: bool,
@@ -43,7 +43,7 @@ pub struct ParsedSoFar {
     pub node: Proof,
     pub used: Vec<Proof>,
     pub outer: Vec<OpenNode>,
-    /// What the last node or gap holds.
+    /// The parts of the last node or gap.
     pub draft: Draft,
     /// The last number, its sign, and the last symbol.
     pub number: u128,
@@ -73,7 +73,7 @@ fn ends_node(action: Action) -> bool
     )
 }
 
-// What comes next behind an action.
+// The meaning of the next piece after an action.
 fn announce(action: Action, coming: Next) -> Next
     ensures { result ≡ announced action coming }
 {
@@ -128,7 +128,7 @@ impl ParsedSoFar {
         }
     }
 
-    /// Does what a mark stands for.
+    /// Does the action of a mark.
     ///
     /// # Errors
     ///
@@ -172,7 +172,7 @@ impl ParsedSoFar {
         Ok(())
     }
 
-    // What an action does to lines, levels and uses.
+    // Does an action on lines, levels and uses.
     fn arrange(&mut self, action: Action) -> Result<(), AllocError>
         ensures { OnOk result (own_of self.new ≡ arranged action (own_of self.old)) }
     {

@@ -1,6 +1,6 @@
-//! What comes next in a proof file.
+//! The meanings of the next piece in a proof file.
 
-/// What the piece that comes next stands for.
+/// The meaning of the next piece.
 #[derive(Clone, Copy, Debug, PartialEq, Eq)]
 pub enum Next {
     /// Nothing but itself.

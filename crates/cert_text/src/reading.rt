@@ -23,17 +23,17 @@ use its_model::Program;
 use std::alloc::Global;
 use text_grammar::{Tables, TokenStream, read as read_tokens};
 
-/// Reads the proof file that a text stands for, as one of a program, as `docs/proof-format.md` says.
+/// Reads a text as a proof file of a program, as `docs/proof-format.md` defines it.
 ///
 /// # Errors
 ///
-/// The refusal at the least position is the answer, and at one position the one that comes first here. `Syntax` stands
-/// at the first token that can't follow, or at the text's length where it ends too early; at `cost` where the first
-/// line has a 1, and at `end` where it has a 2 and no node is on costs. `NumberTooLarge` stands at a number over 2^56
-/// in absolute value, or over 2^45 in a gap. `TooDeep` stands at a node at level 65, `BadReference` at the number or
-/// the name of what there isn't, a cited lemma that is no earlier one among it, and `Limit` at lemma 100,001 or gap
-/// 1,001. In a bound `Syntax`, `NumberTooLarge` and `Limit` stand as where it is read alone, and a part at level 201 is
-/// `TooDeep` at its first byte. `Memory` comes where memory ran out.
+/// The refusal at the least position is the answer, and of those at one position the one that comes first here.
+/// `Syntax` is at the first token that can't follow, or at the text's length if it ends too early; at `cost` in a file
+/// whose first line has a 1, and at `end` in one that has a 2 and no node on costs. `NumberTooLarge` is at a number
+/// over 2^56 in absolute value, or over 2^45 in a gap. `TooDeep` is at a node at level 65, `BadReference` at a number
+/// or a name that refers to nothing, such as a cited lemma that is no earlier one, and `Limit` at lemma 100,001 or gap
+/// 1,001. In a bound `Syntax`, `NumberTooLarge` and `Limit` are where they are if it is read alone, and a part at
+/// level 201 is `TooDeep` at its first byte. `Memory` comes where memory ran out.
 pub fn read(alloc: Global, p: &Program, bytes: &[u8]) -> Result<ProofFile, ProofTextError>
     requires { IsValid (program_of p.now) }
     ensures answer { Answers (program_of p.now) bytes.now result }

@@ -1,4 +1,4 @@
-//! What a piece of a proof file does, and what stands against it.
+//! The effect of a piece of a proof file, and its fault.
 
 ghost use Rattle.std.specs.Prelude.{◌≡◌, ◌-◌, ◌+◌, ◌^◌, ◌∷◌, ◌++◌, [], min, List, true, take, IfOk, OnOk};
 ghost use Rattle.its_model.specs.Views.{program_of};
@@ -34,7 +34,7 @@ fn fault_at(first_refusal: Option<ProofKind>, at: u64) -> Option<Fault<ProofKind
     }
 }
 
-// The bytes of the first so many pieces of a bound, or 2^64-1 where there are more.
+// The bytes of the first this many pieces of a bound, or 2^64-1 where there are more.
 fn bytes_of(pieces: PackedRest<'_>, count: u64) -> u64
     ensures { result ≡ min (bytes_in (take count (inners_in pieces.entry))) (2 ^ 64 - 1) }
 {
@@ -65,7 +65,7 @@ fn position_in_bound(pieces: PackedRest<'_>, index: u64, at: u64) -> u64
 }
 
 impl ParsedSoFar {
-    /// Reads a piece at a position, and tells what stood against it.
+    /// Reads a piece at a position, and returns its fault, if it has one.
     ///
     /// # Errors
     ///

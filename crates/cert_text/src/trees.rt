@@ -79,7 +79,7 @@ fn push_weaken(text: &mut Vec<u8>, p: &Program, child: &Proof, bound: &Bound) ->
     write(&p.start_names, text, bound)
 }
 
-// What a node rests on.
+// Writes the uses of a node.
 #[cycle(write_proof)]
 fn push_uses(text: &mut Vec<u8>, p: &Program, uses: &[Proof]) -> Result<(), Memory>
     requires { AreOverFirst (length p.now.start_names.items) (uses_of (map proof_of uses.now)) }

@@ -1,4 +1,4 @@
--- Forms by their symbols: going backwards, each form takes the place of those behind it.
+-- Forms by their symbols: going backwards, each form replaces those after it.
 use Rattle.std.proofs.Common.{◌≡◌, ℕ, ◌+◌, ◌<◌, ◌≤◌, ◌^◌, ◌==◌, Bool, true, false, cond, List, [], ◌∷◌, length, map, get_or, drop, All}
 use Rattle.std.proofs.Common.{Option, Some, None, IfSome, refl, sym, ap, ◌∙◌, subst, arith}
 use Rattle.std.proofs.lemmas.List.{drop_all}
@@ -15,14 +15,14 @@ use Rattle.cert_types.specs.Sizes.{form_found, IsShort}
 use Rattle.cert_types.specs.Views.{form_of}
 use Rattle.cert_types.proofs.Rules.{form-next}
 
--- behind the last form there is none
+-- after the last form there is none
 pub forms-none : (fs : List Form) (i : ℕ) (empty : BTreeMap ℕ (Bor Form)) → length fs ≤ i
     → ((a : ℕ) → get nat_cmp empty a ≡ None) → HasForms (drop i fs) empty
 forms-none fs i empty l h = record {
   each = λ a. ap form_found (h a) ∙ sym (ap (λ (gs : List Form). rank_form (map form_of gs) (Some a)) (drop_all i fs l));
 }
 
--- a form that is entered is the first at its symbol among it and those behind it
+-- a form that is entered is the first at its symbol among it and those after it
 pub forms-more : (fs : List Form) (i : ℕ) (r : Bor Form) (old new : BTreeMap ℕ (Bor Form)) → i < length fs
     → r.now ≡ get_or fs i r.now → HasForms (drop (i + 1) fs) old
     → ((a : ℕ) → get nat_cmp new a ≡ cond (is_at (nat_cmp r.now.symbol) a) (Some r) (get nat_cmp old a))
@@ -51,7 +51,7 @@ short-form (f ∷ fs) h (Some a) = go (f.symbol == a) (All-head IsShort f fs h) 
     go true k m = k
     go false k m = m
 
--- so has a form that was found
+-- a form that was found is short
 pub found-short : (fs : List Form) → All IsShort fs → (found : Option (Bor Form)) (o : Option ℕ)
     → form_found found ≡ rank_form (map form_of fs) o → IfSome found (λ f. IsShort f.now)
 found-short fs h None o e = tt

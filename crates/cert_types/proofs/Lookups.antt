@@ -10,11 +10,11 @@ use Rattle.cert_types.specs.declared.fact.Fact.{Fact}
 use Rattle.cert_types.specs.Views.{fact_of, facts_of}
 use Rattle.cert_types.specs.Lookups.{time_by_fact, size_by_fact}
 
--- the facts that are left: the next one, then those behind it
+-- the facts of the remaining list: the next one, then those after it
 facts_of-drop : (fs : List Fact) (i : ℕ) (f : Fact) → i < length fs → f ≡ get_or fs i f → facts_of (drop i fs) ≡ fact_of f ∷ facts_of (drop (i + 1) fs)
 facts_of-drop fs i f h e = ap facts_of (drop_more fs i f h) ∙ ap (λ (g : Fact). fact_of g ∷ facts_of (drop (i + 1) fs)) (sym e)
 
--- a fact that is the time decides; one that isn't leaves it to those behind
+-- a fact that is the time decides; if it isn't, the facts after it decide
 time_here : (f : facts.Fact) (fs : List facts.Fact) (t : ℕ) (b : plain.Bound) → Some b ≡ time_by_fact f t → Some b ≡ time_in (f ∷ fs) t
 time_here (Time u c) fs t b h = go (u == t) refl
   where
@@ -45,7 +45,7 @@ time_later (Time u c) fs t h = go (u == t) refl
 time_later (Size u i c) fs t h = refl
 time_later (Cost u c) fs t h = refl
 
--- the same of sizes
+-- a fact that is the size decides; if it isn't, the facts after it decide
 size_here : (f : facts.Fact) (fs : List facts.Fact) (t i : ℕ) (b : plain.Bound) → Some b ≡ size_by_fact f t i → Some b ≡ size_in (f ∷ fs) t i
 size_here (Size u j c) fs t i b h = go ((u == t) && (j == i)) refl
   where
@@ -82,7 +82,7 @@ module _ (fs : List Fact) (i : ℕ) (t : ℕ) where
       → Some b ≡ time_in (facts_of fs) t
   time_found f b low e kept h = time_here (fact_of f) (facts_of (drop (i + 1) fs)) t b h ∙ (sym (ap (λ (gs : List facts.Fact). time_in gs t) (facts_of-drop fs i f low e)) ∙ kept)
 
-  -- a fact that isn't the time leaves it to the facts behind
+  -- if a fact isn't the time, the facts after it decide
   pub time_passed : (f : Fact) → i < length fs → f ≡ get_or fs i f → time_in (facts_of (drop i fs)) t ≡ time_in (facts_of fs) t → None ≡ time_by_fact (fact_of f) t
       → time_in (facts_of (drop (i + 1) fs)) t ≡ time_in (facts_of fs) t
   time_passed f low e kept h = sym (time_later (fact_of f) (facts_of (drop (i + 1) fs)) t h) ∙ (sym (ap (λ (gs : List facts.Fact). time_in gs t) (facts_of-drop fs i f low e)) ∙ kept)
@@ -91,12 +91,12 @@ module _ (fs : List Fact) (i : ℕ) (t : ℕ) where
   pub time_none : length fs ≤ i → time_in (facts_of (drop i fs)) t ≡ time_in (facts_of fs) t → None ≡ time_in (facts_of fs) t
   time_none low kept = sym (ap (λ (gs : List Fact). time_in (facts_of gs) t) (drop_all i fs low)) ∙ kept
 
-  -- and for a size
+  -- a size is found
   pub size_found : (j : ℕ) (f : Fact) (b : plain.Bound) → i < length fs → f ≡ get_or fs i f → size_in (facts_of (drop i fs)) t j ≡ size_in (facts_of fs) t j → Some b ≡ size_by_fact (fact_of f) t j
       → Some b ≡ size_in (facts_of fs) t j
   size_found j f b low e kept h = size_here (fact_of f) (facts_of (drop (i + 1) fs)) t j b h ∙ (sym (ap (λ (gs : List facts.Fact). size_in gs t j) (facts_of-drop fs i f low e)) ∙ kept)
 
-  -- a fact that isn't the size leaves it to the facts behind
+  -- if a fact isn't the size, the facts after it decide
   pub size_passed : (j : ℕ) (f : Fact) → i < length fs → f ≡ get_or fs i f → size_in (facts_of (drop i fs)) t j ≡ size_in (facts_of fs) t j → None ≡ size_by_fact (fact_of f) t j
       → size_in (facts_of (drop (i + 1) fs)) t j ≡ size_in (facts_of fs) t j
   size_passed j f low e kept h = sym (size_later (fact_of f) (facts_of (drop (i + 1) fs)) t j h) ∙ (sym (ap (λ (gs : List facts.Fact). size_in gs t j) (facts_of-drop fs i f low e)) ∙ kept)

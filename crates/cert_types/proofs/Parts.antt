@@ -113,7 +113,7 @@ pushed xs new x size c den out b n en ex es er within =
     made = ex ∙ (ap (λ (p : plain.Bound). ProductOf (both_parts (Constant n) p)) es
         ∙ ap (λ (m : ℕ). ProductOf (both_parts (Constant m) b)) er)
 
--- and none where it is 0, or the place is a member
+-- no part is pushed if the coefficient is 0 or the place is a member
 pub not_pushed : (ps : Parts) (c : ℤ) (den : ℕ) (out : Bool) (b : plain.Bound) → true ≡ is_zero c || out
     → ps ≡ joined ps (place_part c den out b)
 not_pushed ps c den out b h = sym (ap (joined ps) (ap (λ (v : Bool). cond v NoParts (Part (ProductOf (both_parts (Constant (rounded_up (nat_abs c) den)) b)) NoParts)) (sym h))
@@ -123,7 +123,7 @@ not_pushed ps c den out b h = sym (ap (joined ps) (ap (λ (v : Bool). cond v NoP
 pub out_by_zero : (c : ℤ) (v : Bool) → c ≡ pos 0 → true ≡ is_zero c || v
 out_by_zero c v e = sym (ap (λ (z : ℤ). is_zero z || v) e)
 
--- a place whose coefficient isn't 0 is left out exactly where it is a member
+-- a place whose coefficient isn't 0 is left out exactly if it is a member
 pub out_by_member : (c : ℤ) (u v : Bool) → c ≢ pos 0 → u ≡ v → u ≡ is_zero c || v
 out_by_member c u v other e = go (is_zero c) refl
   where

@@ -1,4 +1,4 @@
--- The places that an arm reads, place by place.
+-- The places that a side bound reads, place by place.
 use Rattle.std.proofs.Common.{◌≡◌, ℕ, ◌+◌, Bool, true, false, cond, List, [], ◌∷◌, ◌++◌, filter, Option, refl, sym, ap}
 use Rattle.std.proofs.Common.{◌∙◌, arith}
 use Rattle.std.specs.List.{range_with_len}
@@ -11,7 +11,7 @@ use Rattle.cert_types.specs.Reading.{places_read}
 use Rattle.cert_types.proofs.Numbers.{numbers-more}
 
 module _ (poly : Option Polynomial) (side_bound : SideBound) where
-  -- the places that an arm reads, and one more
+  -- the places that a side bound reads, and one more
   read-more : (t : ℕ) → places_read poly side_bound (t + 1) ≡ places_read poly side_bound t ++ cond (reads poly side_bound t) (t ∷ []) []
   read-more t =
       ap (filter (λ j. reads poly side_bound j)) (numbers-more 0 t)
@@ -24,14 +24,14 @@ module _ (poly : Option Polynomial) (side_bound : SideBound) where
       one true e = rw e refl
       one false e = rw e refl
 
-  -- a place that the arm reads is pushed behind those that it reads so far
+  -- a place that the side bound reads is pushed after those read so far
   pub place_pushed : (t : ℕ) (old new : List ℕ) → old ≡ places_read poly side_bound t → new ≡ old ++ t ∷ []
       → true ≡ reads poly side_bound t → new ≡ places_read poly side_bound (t + 1)
   place_pushed t old new eo en h =
       en ∙ (ap (λ (xs : List ℕ). xs ++ t ∷ []) eo
       ∙ sym (read-more t ∙ ap (λ (v : Bool). places_read poly side_bound t ++ cond v (t ∷ []) []) (sym h)))
 
-  -- a place that the arm doesn't read leaves those that it reads so far as they are
+  -- a place that the side bound doesn't read leaves those read so far as they are
   pub place_passed : (t : ℕ) (old : List ℕ) → old ≡ places_read poly side_bound t → false ≡ reads poly side_bound t
       → old ≡ places_read poly side_bound (t + 1)
   place_passed t old eo h =

@@ -44,7 +44,7 @@ pub source_none : (p : Program) (t : ℕ) → (t ≡ 0) ⊎ (length p.rules.item
 source_none p t (inl e) = sym (ap (λ (n : ℕ). source_of (program_of p) n) e)
 source_none p t (inr l) = sym (ap source_in (rule_past p t l))
 
--- where it leads to
+-- the target of a rule
 target_by_rule : (p : Program) (t : ℕ) → 0 < t → target_of (program_of p) t ≡ target_in (rule_at (program_of p) t)
 target_by_rule p zero n = absurd (omega (arith, n))
 target_by_rule p (suc t) n = refl
@@ -76,7 +76,7 @@ module _ {X Y : Type 0} (view : X → Y) (test : Y → Bool) (xs : List X) (i : 
   any_found x l e kept h =
       sym (sym kept ∙ (any_next x l e ∙ ap (λ (v : Bool). v || list_any test (map view (drop (i + 1) xs))) (sym h)))
 
-  -- one that doesn't pass the test leaves it to those behind
+  -- if an element doesn't pass the test, those after it decide
   pub any_passed : (x : X) → i < length xs → x ≡ get_or xs i x
       → list_any test (map view (drop i xs)) ≡ list_any test (map view xs)
       → false ≡ test (view x) → list_any test (map view (drop (i + 1) xs)) ≡ list_any test (map view xs)
@@ -100,7 +100,7 @@ pub in_found : (n x : ℕ) (xs : List ℕ) (i : ℕ) → i < length xs → x ≡
 in_found n x xs i l e kept h =
     sym (sym kept ∙ (in-next n x xs i l e ∙ ap (λ (v : Bool). v || is_in n (drop (i + 1) xs)) h))
 
--- another number leaves it to those behind whether the sought one is in the list
+-- if a number isn't the sought one, those after it decide
 pub in_passed : (n x : ℕ) (xs : List ℕ) (i : ℕ) → i < length xs → x ≡ get_or xs i x → is_in n (drop i xs) ≡ is_in n xs
     → (n == x) ≡ false → is_in n (drop (i + 1) xs) ≡ is_in n xs
 in_passed n x xs i l e kept h =
@@ -118,7 +118,7 @@ module _ (p : plain.Program) (set : List ℕ) where
       ∙ (filter-append (enters p set) (range_with_len 0 t) ((0 + t) ∷ [])
       ∙ ap (λ (m : ℕ). filter (enters p set) (range_with_len 0 t) ++ cond (enters p set m) (m ∷ []) []) (let e : 0 + t ≡ t = omega arith in e))
 
-  -- a rule that enters the set is pushed behind the entries so far
+  -- a rule that enters the set is pushed after the entries so far
   pub entry_pushed : (t : ℕ) (old new : List ℕ) → old ≡ filter (enters p set) (range_with_len 0 t) → new ≡ old ++ t ∷ []
       → true ≡ enters p set t → new ≡ filter (enters p set) (range_with_len 0 (t + 1))
   entry_pushed t old new eo en h =
@@ -157,7 +157,7 @@ form_here fs i f a l e kept h =
     sym (sym kept ∙ (form-next fs i f a l e
     ∙ ap (λ (v : Bool). cond v (form_of f).form (rank_form (map form_of (drop (i + 1) fs)) (Some a))) h))
 
--- a form at another symbol leaves it to those behind which is the first
+-- if a form is at another symbol, the forms after it decide which is the first
 pub form_passed : (fs : List Form) (i : ℕ) (f : Form) (a : ℕ) → i < length fs → f ≡ get_or fs i f
     → rank_form (map form_of (drop i fs)) (Some a) ≡ rank_form (map form_of fs) (Some a) → (f.symbol == a) ≡ false
     → rank_form (map form_of (drop (i + 1) fs)) (Some a) ≡ rank_form (map form_of fs) (Some a)

@@ -1,4 +1,4 @@
--- Preconditions of composing sizes: polynomials that may be absent, and arms that can be read as bounds.
+-- Preconditions of composing sizes: polynomials that may be absent, and side bounds that can be read as bounds.
 use Rattle.std.specs.Prelude.{◌≡◌, ℕ, ◌<◌, ◌≤◌, ◌^◌, List, length, map, All, Option, option_map, IfSome}
 use denote.Ref.{Bor}
 use Rattle.poly_terms.specs.model.Bounds.{Bound, MaximumOf}
@@ -27,12 +27,12 @@ HasFewVariables m = All (λ v. v < 2 ^ 31) m.vars.items
 abbrev pub HasFewPlaces : Option (Bor Poly) → Type 0
 HasFewPlaces o = IfSome o (λ q. All HasFewVariables q.now.terms.items)
 
--- a linear arm has a denominator of at least 1, and fewer coefficients than places could be numbered
+-- a linear side bound has a denominator of at least 1, and fewer coefficients than places can be numbered
 abbrev pub IsReadable : SideBound → Type 0
 IsReadable (side_bounds.Linear den coefs constant multipliers) = (1 ≤ den) × (length coefs.items < 2 ^ 31)
 IsReadable side_bounds.Poly = Unit {0}
 
--- both arms of a member at the sizes after rule e
+-- both side bounds of a member at the sizes after rule e
 abbrev pub both_side_bounds : Option Polynomial → nodes.LocalBound → (ℕ → ℕ → Option Bound) → ℕ → Bound
 both_side_bounds q local size e =
     MaximumOf (both_parts (composed_side_bound q local.up (sizes_after size e)) (composed_side_bound q local.low (sizes_after size e)))

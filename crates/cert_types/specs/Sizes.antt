@@ -22,7 +22,7 @@ is_result_variable_of rule place m = (m.result_variable.rule == rule) && (m.resu
 abbrev pub is_result_variable : List Member → ℕ → ℕ → Bool
 is_result_variable members rule place = list_any (is_result_variable_of rule place) members
 
--- so for the places from one on
+-- the members among the places from one on
 abbrev pub members_from : List Member → ℕ → ℕ → ℕ → Bool
 members_from members rule place j = is_result_variable members rule (place + j)
 

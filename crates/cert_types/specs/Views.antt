@@ -31,11 +31,11 @@ fact_of (Cost t b) = facts.Cost t (bound_of b)
 abbrev pub facts_of : List Fact → List facts.Fact
 facts_of fs = map fact_of fs
 
--- a spot as plain data
+-- a result variable as plain data
 abbrev pub result_variable_of : ResultVariable → nodes.ResultVariable
 result_variable_of s = record { rule = s.rule; place = s.place }
 
--- an arm as plain data
+-- a side bound as plain data
 abbrev pub side_bound_of : SideBound → nodes.SideBound
 side_bound_of (side_bounds.Linear den coefs constant multipliers) =
     nodes.Linear den (record { coefs = coefs.items; constant = constant }) multipliers.items

@@ -1,10 +1,10 @@
-//! What a question about emptiness is answered, why a question had no answer, and why a node or a gap is refused.
+//! The answers to questions on feasibility and ranking, the limits hit, and why a node or a gap is refused.
 
 use crate::proof::EmptyNode;
 use farkas_cert::Scaled;
 use linear_forms::LimitCause;
 
-/// What a linear program was asked.
+/// The question of a linear program.
 #[derive(Clone, Copy, Debug, PartialEq, Eq, Hash)]
 pub enum Question {
     /// Whether the rows of the rule have a point.

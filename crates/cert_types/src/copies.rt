@@ -37,7 +37,7 @@ pub fn copied_scaled(alloc: Global, point: &Scaled) -> Result<Scaled, Memory>
     })
 }
 
-// A copy of an arm.
+// A copy of a side bound.
 fn copied_side_bound(alloc: Global, side_bound: &SideBound) -> Result<SideBound, Memory>
     ensures { IfOk result (λ a. side_bound_of a ≡ side_bound_of side_bound.now) }
 {

@@ -9,9 +9,9 @@ use crate::fact::Fact;
 use crate::lookup::{size_in, time_in};
 use bound_expr::Bound;
 
-/// What is known where a node is judged: times of rules, and sizes of places after rules.
+/// The bounds known where a node is checked: times of rules, and sizes of places after rules.
 ///
-/// Its meaning is `table`: the time of each rule, and the size of each place after a rule, where there is one.
+/// Its meaning is `table`: the time of each rule, and the size of each place after a rule, if there is one.
 pub trait Known {
     ghost table: { Self → Table };
 

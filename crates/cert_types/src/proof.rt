@@ -30,7 +30,7 @@ pub enum Proof {
     Cycle(Box<CycleNode>),
     /// A fact with a bound that is not below its own.
     Weaken(Box<Proof>, Bound),
-    /// What the steps by a rule cost together.
+    /// A bound on what all steps by a rule cost together.
     Cost(Box<CostNode>),
 }
 
@@ -82,7 +82,7 @@ pub enum CostBy {
     Empty(Vec<u64>),
     /// The rule never runs.
     Never,
-    /// The cost is at most an arm over the cost rows.
+    /// The cost is at most a side bound over the cost rows.
     SideBound(SideBound),
 }
 

@@ -1,4 +1,4 @@
-//! Which places an arm reads.
+//! The places that a side bound reads.
 
 ghost use Rattle.std.specs.Prelude.{◌≡◌, not, map, IfOk};
 ghost use Rattle.std.specs.List.{list_any};
@@ -62,7 +62,7 @@ fn has_coefficient(coefs: &[i64], position: u32) -> bool
     (position as usize) < coefs.len() && coefs[position as usize] != 0
 }
 
-// Whether an arm reads a place, numbered from 0.
+// Whether a side bound reads a place, numbered from 0.
 fn reads(side_bound: &SideBound, poly: Option<&Poly>, place: u32) -> bool
     ensures { result ≡ reads_of (optional_poly poly.entry) (side_bound_of side_bound.now) place }
 {
@@ -72,8 +72,8 @@ fn reads(side_bound: &SideBound, poly: Option<&Poly>, place: u32) -> bool
     }
 }
 
-/// The places that an arm reads, of so many, ascending and numbered from 0. `poly` is the update, where it has degree 2
-/// or more.
+/// Those of this many places that a side bound reads, ascending and numbered from 0. `poly` is the update, if it has
+/// degree 2 or more.
 ///
 /// # Errors
 ///

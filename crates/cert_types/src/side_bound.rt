@@ -21,14 +21,14 @@ pub enum SideBound {
     Poly,
 }
 
-/// Both sides: the up arm is never below the new value, the low arm never below its negation.
+/// Both sides: the up side bound is never below the new value, the low one never below its negation.
 #[derive(Debug, PartialEq, Eq, Drop)]
 pub struct LocalBound {
     pub up: SideBound,
     pub low: SideBound,
 }
 
-/// A spot with its local bound.
+/// A result variable with its local bound.
 #[derive(Debug, PartialEq, Eq, Drop)]
 pub struct Member {
     pub result_variable: ResultVariable,

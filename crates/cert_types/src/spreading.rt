@@ -108,7 +108,8 @@ fn polynomial_bound<K: Known>(
     }
 }
 
-/// An arm as a bound at the sizes after a rule, but for the places that are members. What isn't known counts as 0.
+/// A side bound as a bound at the sizes after a rule, without the places that are members. An unknown size counts as
+/// 0.
 ///
 /// # Errors
 ///
@@ -137,7 +138,7 @@ pub fn composed_side_bound<K: Known>(
     }
 }
 
-// The maximum of both arms at the sizes after a rule.
+// The maximum of both side bounds at the sizes after a rule.
 fn both_side_bounds<K: Known>(
     alloc: Global,
     local: &LocalBound,
@@ -181,9 +182,9 @@ fn composed_size<K: Known>(
     Ok(Bound::Max(parts))
 }
 
-/// The size that a spread states, rewritten, or how many nodes what is too large has: the maximum, over the rules that
-/// can come before in order, of both arms at the sizes after that rule. `poly` is the polynomial of the update where it
-/// has degree 2 or more. What isn't known counts as 0. It is measured before it is rewritten.
+/// The size that a spread node states, rewritten, or its number of nodes if it is too large: the maximum, over the
+/// rules that can come before in order, of both side bounds at the sizes after that rule. `poly` is the polynomial of
+/// the update, if it has degree 2 or more. An unknown size counts as 0. It is measured before it is rewritten.
 ///
 /// # Errors
 ///

@@ -1,4 +1,4 @@
--- An atom ends in the code where it ends in the written front.
+-- An atom ends in the code where the written one ends.
 use Rattle.std.proofs.Common.{◌≡◌, ℕ, zero, suc, Bool, true, false, not, ◌&&◌, if◌then◌else◌, List, [], ◌∷◌, ◌++◌, refl}
 use Rattle.std.proofs.Common.{ap, sym, subst, ◌∙◌, Option, Some, None, is_some, codes}
 use Rattle.std.proofs.lemmas.List.{map-append}
@@ -51,7 +51,7 @@ named_always n a = capitals (is_same n (codes "TRUE")) (is_same n (codes "true")
     capitals false true e = record { truth = Smalls; same = cc }
     capitals false false e = absurd cc
 
--- a front that is an atom is its word alone
+-- a state that is an atom is its word alone
 abbrev pub word_front : Name → Front
 word_front n = record { outer = []; level = record { sum = NoSum; product = NoProduct; minuses = 0 }; operand = BaseRead (Named n) }
 
@@ -60,7 +60,7 @@ pub record IsWord (e : Front) (a : guards.Atom) : Type 0 where
   pub same : e ≡ word_front word
   pub always : IsAlways a
 
--- a front that is the atom that always holds is its word alone
+-- a state that is the atom that always holds is its word alone
 pub truth_word : (e : Front) (a : guards.Atom) → truth_of e ≡ Some a → IsWord e a
 truth_word e a t = all e.outer e.level.sum e.level.product e.level.minuses e.operand t refl
   where
@@ -87,7 +87,7 @@ ended_terms : (names : List Name) (c : Conjoined) (a : guards.Atom) → atoms_of
 ended_terms names NoAtoms a = refl
 ended_terms names (JointAfter atoms joint) a = map-append limited_atom (guards.atoms_terms names atoms) (atom_term names a ∷ [])
 
--- behind the word of the atom that always holds only an operator and a relation lead on within the atom
+-- after the word of the atom that always holds, only an operator or a relation continues the atom
 word_joins : (c : Conjoined) (n : Name) (p : Piece) → operates p ≡ false → step (LeftSide c (word_front n)) p ≡ joined_only (finish (LeftSide c (word_front n))) p
 word_joins c n (Word m) h = refl
 word_joins c n (Digits ds) h = refl
@@ -100,7 +100,7 @@ word_joins c n Caret h = cc
 word_joins c n (Related sign) h = cc
 word_joins c n (Joining joint) h = refl
 
--- behind a right side that ends only what joins leads on
+-- after a right side that ends only a conjunction sign can follow
 right_joins : (c : Conjoined) (l : Sum) (sign : Sign) (e : Front) (p : Piece) → inner.step e p ≡ None → step (RightSide c l sign e) p ≡ joined_only (finish (RightSide c l sign e)) p
 right_joins c l sign e p h = ap (λ o. within (RightSide c l sign e) o p) h ∙ only p
   where
@@ -125,7 +125,7 @@ rest_false : (a b c : Bool) → a && b && c ≡ false → a ≡ true → b && c 
 rest_false true b c h e = h
 rest_false false b c h e = absurd cc
 
--- the code's tests are those of the written front
+-- the code's tests are those of the written state
 ends_is : (before : List Name) (f : Front) (names : List Name) (e : Expression) (next : Option Piece) → Stands before f names e → not (goes_on e next) ≡ ends_before f next
 ends_is before f names e None stands = refl
 ends_is before f names e (Some p) stands = ap not (goes_on_is before f names e p stands)
@@ -206,7 +206,7 @@ no_step (Some f) h = absurd cc
 before_step : (e : Front) (next : Option Piece) (p : Piece) → ends_before e next ≡ true → next ≡ Some p → inner.step e p ≡ None
 before_step e next p h same = no_step (inner.step e p) (sym (ap (ends_before e) same) ∙ h)
 
--- what `Related` says of a left side
+-- the left side and the relation of a pending atom
 left_is : (names : List Name) (l : Sum) (sign : Sign) (rel : code.Related) → Some (relating_of rel) ≡ Some (record { left = limited (sum_term names l); relation = guards.relation_of sign })
     → relating_of rel ≡ record { left = limited (sum_term names l); relation = guards.relation_of sign }
 left_is names l sign rel e = cc

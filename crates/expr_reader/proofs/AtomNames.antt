@@ -20,15 +20,15 @@ atoms_stay : (names more : List Name) (atoms : Atoms) → Extends names more →
 atoms_stay names more (First a) e h = rw (atom_stays names more a e h) refl
 atoms_stay names more (Joined atoms joint a) e h = rw (atoms_stay names more atoms e h.0, atom_stays names more a e h.1) refl
 
--- the atoms before an atom are the same over any variables that theirs extend to
+-- the atoms before an atom are the same over any extension of their variables
 before_stay : (before names : List Name) (c : Conjoined) → Extends (with_conjoined before c) names → atoms_before names c ≡ atoms_before (with_conjoined before c) c
 before_stay before names NoAtoms e = refl
 before_stay before names (JointAfter atoms joint) e = ap (map limited_atom) (atoms_stay (with_atoms before atoms) names atoms e (atoms_are_read before atoms))
 
--- the atoms before an atom are the same over any two lists of variables to which theirs extend
+-- the atoms before an atom are the same over any two extensions of their variables
 pub before_kept : (before names more : List Name) (c : Conjoined) → Extends (with_conjoined before c) names → Extends (with_conjoined before c) more → atoms_before names c ≡ atoms_before more c
 before_kept before names more c a b = before_stay before names c a ∙ sym (before_stay before more c b)
 
--- and so is an expression
+-- an expression is the same over any two extensions of its variables
 pub sum_kept : (before names more : List Name) (s : Sum) → Extends (with_sum before s) names → Extends (with_sum before s) more → limited (sum_term names s) ≡ limited (sum_term more s)
 sum_kept before names more s a b = ap limited (term_along (with_sum before s) names s a (sum_is_read before s) ∙ sym (term_along (with_sum before s) more s b (sum_is_read before s)))

@@ -1,4 +1,4 @@
--- Whether an expression can end or go on, and what it is where it ends, is as the written front says.
+-- Whether an expression can end or continue, and its term where it ends, agree with the written state.
 use Rattle.std.proofs.Common.{◌≡◌, false, not, ◌&&◌, List, [], ◌∷◌, ◌++◌, refl, ap, sym, subst, ◌∙◌, map, reverse}
 use Rattle.std.proofs.Common.{Option, Some, None, is_some}
 use Rattle.std.specs.Prelude.{⊤}
@@ -22,7 +22,7 @@ last_stands : (levels : List terms.Level) (l : terms.Level) → terms.is_empty (
 last_stands [] l = refl
 last_stands (k ∷ levels) l = refl
 
--- a level comes before an open bracket in both
+-- the same levels come before an open bracket in the code and in the written state
 turned_stands : (names : List Name) (l : Level) (outer : List Level) → terms.is_empty (reverse (map (level_terms names) (l ∷ outer))) ≡ false
 turned_stands names l outer = ap terms.is_empty (reverse_cons (level_terms names l) (map (level_terms names) outer)) ∙ last_stands (reverse (map (level_terms names) outer)) (level_terms names l)
 
@@ -77,7 +77,7 @@ from_goes names outer level (CaretRead b) (Related s) = refl
 from_goes names outer level (CaretRead b) (Joining j) = refl
 from_goes names outer level (ExponentRead b ds) p = behind_goes names outer level (Raised b ds) p
 
--- a piece goes on with the expression where it goes on with the written front
+-- a piece continues the expression exactly if it continues the written state
 pub goes_on_is : (before : List Name) (f : Front) (names : List Name) (e : Expression) (p : Piece) → Stands before f names e
     → terms.goes_on_from (front_of e).outer (front_of e).operand p ≡ goes_on_with f p
 goes_on_is before f names e p stands = ap (λ t. terms.goes_on_from t.outer t.operand p) stands.front_is ∙ from_goes names f.outer f.level f.operand p
@@ -90,12 +90,12 @@ from_ends names [] level (CaretRead b) = refl
 from_ends names [] level (ExponentRead b ds) = refl
 from_ends names (l ∷ outer) level operand = ap (λ v. v && terms.has_factor (operand_terms names operand)) (turned_stands names l outer)
 
--- the expression can end where the written front can
+-- the expression can end where the written state can
 pub can_end_is : (before : List Name) (f : Front) (names : List Name) (e : Expression) → Stands before f names e
     → (terms.is_empty (front_of e).outer && terms.has_factor (front_of e).operand) ≡ is_some (finish f)
 can_end_is before f names e stands = ap (λ t. terms.is_empty t.outer && terms.has_factor t.operand) stands.front_is ∙ from_ends names f.outer f.level f.operand
 
--- the term of what ends
+-- the term of an expression that ends
 abbrev TermAt : List Name → Term → Option Sum → Type 0
 TermAt names t None = ⊤
 TermAt names t (Some s) = t ≡ limited (sum_term names s)
@@ -120,7 +120,7 @@ from_outer [] level (CaretRead b) = tt
 from_outer [] level (ExponentRead b ds) = refl
 from_outer (l ∷ outer) level operand = tt
 
--- the variables once an expression is read are those of the front that it ends
+-- the variables after an expression are those of the state that it ends
 abbrev NamesAt : List Name → List Name → Option Sum → Type 0
 NamesAt before names None = ⊤
 NamesAt before names (Some s) = names ≡ with_sum before s
@@ -132,7 +132,7 @@ from_names before [] level (CaretRead b) = tt
 from_names before [] level (ExponentRead b ds) = sym (sum_names before level (Raised b ds))
 from_names before (l ∷ outer) level operand = tt
 
--- an expression has the variables of the front that it ends
+-- an expression has the variables of the state that it ends
 pub finished_names : (before : List Name) (f : Front) (s : Sum) → finish f ≡ Some s → with_front before f ≡ with_sum before s
 finished_names before f s ends = subst (λ o. NamesAt before (with_front before f) o) ends (from_names before f.outer f.level f.operand)
 

@@ -1,4 +1,4 @@
--- The names of a front are among the variables once it is read: names that come later change none of its terms.
+-- The names of a state are among the variables after it: later names change none of its terms.
 use Rattle.std.proofs.Common.{◌≡◌, ℕ, zero, suc, List, [], ◌∷◌, ◌++◌, refl, ap, sym, subst, map}
 use Rattle.std.specs.Prelude.{⊤}
 use Rattle.model.specs.Programs.{Name}
@@ -73,7 +73,7 @@ operand_extends names (BaseRead b) = sum_extends names (Alone (Single (Plain b))
 operand_extends names (CaretRead b) = sum_extends names (Alone (Single (Plain b)))
 operand_extends names (ExponentRead b ds) = sum_extends names (Alone (Single (Plain b)))
 
--- so all names of a front go to the end of those before it
+-- the variables after a state extend those before it
 pub front_extends : (names : List Name) (f : Front) → Extends names (with_front names f)
 front_extends names f =
     extended names (with_level (with_outer names f.outer) f.level) (with_front names f)
@@ -124,12 +124,12 @@ factored_stay names more (TimesAfter p) h = ap (λ t. terms.TimesAfter (limited 
 pub level_stays : (names more : List Name) (l : Level) → LevelReads names l → level_terms (names ++ more) l ≡ level_terms names l
 level_stays names more l h = rw (summed_stay names more l.sum h.0, factored_stay names more l.product h.1) refl
 
--- nor do the terms of the levels round
+-- later names don't change the terms of the outer levels
 pub outer_stays : (names more : List Name) (outer : List Level) → OuterReads names outer → map (level_terms (names ++ more)) outer ≡ map (level_terms names) outer
 outer_stays names more [] h = refl
 outer_stays names more (l ∷ outer) h = rw (level_stays names more l h.1, outer_stays names more outer h.0) refl
 
--- the variables once a factor is read behind so many `-`, in its product, and in its sum
+-- the variables after a factor with this many `-` before it, after its product, and after its sum
 negated_names : (names : List Name) (n : ℕ) (f : Factor) → with_factor names (negated n f) ≡ with_factor names f
 negated_names names zero f = refl
 negated_names names (suc n) f = negated_names names n (Negated f)

@@ -1,4 +1,5 @@
--- A piece that doesn't go on with a guard's expression leads nowhere, but a relation behind a left side that can end.
+-- A piece that doesn't continue a guard's expression is rejected, unless it is a relation after a left side that can
+-- end.
 use Rattle.std.proofs.Common.{◌≡◌, Bool, true, false, not, ◌&&◌, List, refl, ap, sym, subst, ◌∙◌, map, Option, Some}
 use Rattle.std.proofs.Common.{None, is_some}
 use Rattle.model.specs.Programs.{Name}
@@ -25,7 +26,7 @@ use Rattle.expr_reader.proofs.Standing.{fresh_stands}
 use Rattle.expr_reader.proofs.Endings.{goes_on_is, can_end_is, finished_names, finish_ends}
 use Rattle.expr_reader.proofs.GuardTaking.{no_step, read_unread, unchanged, changed}
 
--- a piece that doesn't go on leads nowhere, but a relation behind a left side that can end
+-- a piece that doesn't continue the expression is rejected, unless it is a relation after a left side that can end
 left_stuck : (c : Conjoined) (e : Front) (p : Piece) → inner.step e p ≡ None → sign_read p ≡ None → (operates p ≡ false → truth_of e ≡ None) → step (LeftSide c e) p ≡ None
 left_stuck c e p none other follows = ap (λ o. within (LeftSide c e) o p) none ∙ by p other follows
   where
@@ -56,7 +57,7 @@ right_stuck c l sign e p none unfinished = ap (λ o. within (RightSide c l sign 
     by Times = refl
     by Caret = refl
 
--- a relation behind a left side that can't end
+-- a relation is rejected after a left side that can't end
 unrelated_step : (c : Conjoined) (e : Front) (sign : Sign) → inner.finish e ≡ None → step (LeftSide c e) (Related sign) ≡ None
 unrelated_step c e sign none = ap (λ o. within (LeftSide c e) o (Related sign)) (related_ends e sign) ∙ ap (λ o. related c sign o) none
 
@@ -85,7 +86,7 @@ module _ (old : List Name) (r : GuardReader) (p : Piece) (unread : is_read r.sta
   fresh_none : (before : List Name) (c : Conjoined) → old ≡ with_conjoined before c → IsFresh r.expression → inner.step beginning p ≡ None
   fresh_none before c names fresh = unstepped (with_conjoined before c) beginning (subst (λ ns. Stands (with_conjoined before c) beginning ns r.expression) (sym names) (fresh_stands (with_conjoined before c) r.expression fresh))
 
-  -- a piece that is no relation and goes on with nothing isn't taken, and nothing changes
+  -- a piece that is no relation and doesn't continue the expression isn't taken, and nothing changes
   pub takes_none : (behind : Option Piece) (new : List Name) (q : GuardReader) → sign_read p ≡ None → new ≡ old → q ≡ r → Takes old r p behind false new q
   takes_none behind new q other names same = record { each = λ before g part_ended modest. unchanged behind before (step g p) old new r q (none before g part_ended) names same }
     where
@@ -95,7 +96,7 @@ module _ (old : List Name) (r : GuardReader) (p : Piece) (unread : is_read r.sta
       none before g (part_ended_right at) = right_none before g at
       none before g (part_ended_end at) = absurd (read_unread r unread at.state_is)
 
--- a relation is taken behind a left side that can end
+-- a relation is taken after a left side that can end
 takes_related : (old new : List Name) (r q : GuardReader) (sign : Sign) (behind : Option Piece) → new ≡ old → IsRelated r sign q → Takes old r (Related sign) behind true new q
 takes_related old new r q sign behind names is = record { each = each }
   where
@@ -151,7 +152,7 @@ sign_is Times sign h = absurd cc
 sign_is Caret sign h = absurd cc
 sign_is (Joining j) sign h = absurd cc
 
--- a relation is taken behind a left side that can end, and elsewhere nothing changes
+-- a relation is taken after a left side that can end, and elsewhere nothing changes
 pub takes_relation : (old new : List Name) (r q : GuardReader) (p : Piece) (sign : Sign) (behind : Option Piece) (taken : Bool) → is_read r.state ≡ false
     → terms.goes_on_from (front_of r.expression).outer (front_of r.expression).operand p ≡ false → Some sign ≡ sign_read p → new ≡ old → Relates r sign taken q → Takes old r p behind taken new q
 takes_relation old new r q p sign behind taken unread stops read names relates =

@@ -1,4 +1,4 @@
--- Each piece of a guard leads in the code where it leads in the written front.
+-- The code's state after each piece of a guard represents the written state after it.
 use Rattle.std.proofs.Common.{◌≡◌, ◌<◌, Bool, true, false, not, ◌&&◌, ◌||◌, if◌then◌else◌, List, [], ◌∷◌, ◌++◌, refl}
 use Rattle.std.proofs.Common.{ap, sym, subst, ◌∙◌, map, Option, Some, None, codes, IsTrue, IsFalse, arith}
 use Rattle.std.specs.Prelude.{⊤}
@@ -80,7 +80,7 @@ read_unread r h e = let t = ap is_read e in cc
 pub unchanged : (behind : Option Piece) (before : List Name) (o : Option GuardFront) (old new : List Name) (r q : GuardReader) → o ≡ None → new ≡ old → q ≡ r → LeadsTo false behind before o old r new q
 unchanged behind before o old new r q none names same = subst (λ o. LeadsTo false behind before o old r new q) (sym none) (names, same)
 
--- a piece leads to a front that the code stands for
+-- the state after a piece represents the written one, given by an equation
 pub changed : (behind : Option Piece) (before : List Name) (o : Option GuardFront) (g : GuardFront) (old new : List Name) (r q : GuardReader) → o ≡ Some g → Reads behind before g new q → LeadsTo true behind before o old r new q
 changed behind before o g old new r q to reads = subst (λ o. LeadsTo true behind before o old r new q) (sym to) reads
 
@@ -101,7 +101,7 @@ truth_leads behind before c old new r q Caret truth follows names state atoms fr
 truth_leads behind before c old new r q (Related s) truth follows names state atoms fresh = absurd cc
 truth_leads behind before c old new r q (Joining j) truth follows names state atoms fresh = absurd cc
 
--- where an atom is wanted, a word of the one that always holds is taken unless an operator follows
+-- where an atom must follow, a word of the one that always holds is taken unless an operator follows
 pub takes_truth : (old new : List Name) (r q : GuardReader) (p : Piece) (behind : Option Piece)
     → is_wanting r.state && names_truth p && not (is_operating behind) ≡ true → new ≡ old → q.state ≡ places.AtomRead → atoms_in q ≡ atoms_in r ++ plain.Always ∷ [] → q.expression ≡ r.expression → Takes old r p behind true new q
 takes_truth old new r q p behind test names state atoms expression = record { each = each }
@@ -121,7 +121,7 @@ takes_truth old new r q p behind test names state atoms expression = record { ea
     each before g (part_ended_right at) modest = absurd (misplaced (ap is_wanting at.right.state_is))
     each before g (part_ended_end at) modest = absurd (misplaced (ap is_wanting at.state_is))
 
--- what joins
+-- a conjunction sign leads to the next atom in both
 joint_leads : (behind : Option Piece) (before : List Name) (atoms : Atoms) (old new : List Name) (r q : GuardReader) → new ≡ with_atoms before atoms → atoms_in r ≡ atoms_of new atoms → IsFresh r.expression → new ≡ old
     → (p : Piece) → (is_joining p ≡ true → q ≡ record { state = places.AtomWanted; atoms = r.atoms; related = r.related; expression = r.expression }) → (is_joining p ≡ false → q ≡ r)
     → LeadsTo (is_joining p) behind before (joined_only (Some atoms) p) old r new q
@@ -145,7 +145,7 @@ joint_leads behind before atoms old new r q names are fresh same Times taken kep
 joint_leads behind before atoms old new r q names are fresh same Caret taken kept = (same, kept refl)
 joint_leads behind before atoms old new r q names are fresh same (Related s) taken kept = (same, kept refl)
 
--- behind an atom only what joins is taken, and then the next atom is wanted
+-- after an atom only a conjunction sign is taken, and then the next atom must follow
 pub takes_joint : (old new : List Name) (r q : GuardReader) (p : Piece) (behind : Option Piece) (b : Bool) → is_read r.state ≡ true → new ≡ old → b ≡ is_joining p
     → (IsTrue b → q ≡ record { state = places.AtomWanted; atoms = r.atoms; related = r.related; expression = r.expression }) → (IsFalse b → q ≡ r) → Takes old r p behind b new q
 takes_joint old new r q p behind b test names is taken kept = record { each = each }
@@ -163,7 +163,7 @@ takes_joint old new r q p behind b test names is taken kept = record { each = ea
     each before g (part_ended_left at) modest = absurd (misplaced (ap is_read at.state_is))
     each before g (part_ended_right at) modest = absurd (misplaced (ap is_read at.right.state_is))
 
--- what is no atom where it is there
+-- an expression that isn't the atom that always holds
 abbrev Untrue : Option Front → Type 0
 Untrue None = ⊤
 Untrue (Some f) = truth_of f ≡ None
@@ -196,7 +196,7 @@ later_untrue e f p begun to = go (truth_of f) refl
         let one : token_count f ≡ 1 = ap token_count is.same in
         absurd (omega (arith, counted, one, begun))
 
--- a piece goes on with the expression of the written front
+-- a piece that continues the expression of a side continues the written guard
 taken_within : (c : Conjoined) (e f : Front) (p : Piece) → inner.step e p ≡ Some f → step (LeftSide c e) p ≡ Some (LeftSide c f)
 taken_within c e f p to = ap (λ o. within (LeftSide c e) o p) to
 
@@ -244,7 +244,7 @@ module _ (old new : List Name) (r q : GuardReader) (p : Piece) (behind : Option 
         expression = holds;
       })
 
-  -- a piece that goes on with the expression of a side is taken
+  -- a piece that continues the expression of a side is taken
   pub takes_more : is_read r.state ≡ false → terms.goes_on_from (front_of r.expression).outer (front_of r.expression).operand p ≡ true → Takes old r p behind true new q
   takes_more unread goes = record { each = each }
     where

@@ -1,4 +1,4 @@
--- An exponent over the limit may count as the one behind it: the first fault is the same.
+-- An exponent over the limit may be replaced by the limit plus one: the first fault is the same.
 use Rattle.std.proofs.Common.{◌≡◌, ℕ, zero, suc, ◌+◌, ◌≤◌, ◌<◌, min, Bool, true, false, ◌||◌, List, [], ◌∷◌, ◌++◌, refl}
 use Rattle.std.proofs.Common.{ap, sym, subst, ◌∙◌, arith, Option, Some, None, nat_lt, if◌then◌else◌, length, pos}
 use Rattle.std.proofs.lemmas.Bool.{ltb-false}
@@ -135,7 +135,7 @@ limited_fault (Exponentiation e n) =
     ∙ (or_else-same (first_fault (limited e)) (first_fault e) _ _ (limited_fault e) (λ none. ap (λ x. first_among (powers x (min n (degree_limit + 1)))) (limited_same e none) ∙ capped e n)
     ∙ sym (first-append (subexpressions e) (powers e n)))
 
--- so do those of an atom
+-- the differences of an atom keep their first fault if exponents are limited
 pub limited_differences : (l : Term) (relation : Relation) (r : Term) → first_of_all (differences (limited l) relation (limited r)) ≡ first_of_all (differences l relation r)
 limited_differences l AtLeast r = ap (λ f. or_else f None) (limited_fault (Subtraction l r))
 limited_differences l MoreThan r = ap (λ f. or_else f None) (limited_fault (Subtraction (Subtraction l r) (Literal (pos 1))))

@@ -5,7 +5,7 @@ use Rattle.model.specs.Limits.{degree_limit, coefficient_limit}
 use Rattle.model.specs.Terms.{Literal}
 use Rattle.expr_text.specs.TermFronts.{Operand, Wanted, BaseRead, CaretRead, ExponentRead, with_number}
 
--- a limit twice is that limit, and a lesser limit behind a greater one is the lesser
+-- a limit applied twice, and a lesser limit after a greater one
 again : (n : ℕ) → min (min n (coefficient_limit + 1)) (coefficient_limit + 1) ≡ min n (coefficient_limit + 1)
 again n = omega arith
 

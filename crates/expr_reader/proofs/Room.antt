@@ -12,7 +12,7 @@ use Rattle.expr_reader.specs.declared.expression.Expression.{Expression}
 use Rattle.expr_reader.specs.Standing.{Stands, IsFresh, HasRoom}
 
 mutual
-  -- what is written behind pieces is longer
+  -- the pieces of an expression after others are at least as many
   sum_longer : (s : Sum) (before : List Piece) → length before ≤ length (sum_behind (λ p. p) s before)
   sum_longer (Alone p) before = product_longer p before
   sum_longer (Added s p) before = let a = sum_longer s before in let b = product_longer p (Plus ∷ sum_behind (λ p. p) s before) in omega (arith, a, b)

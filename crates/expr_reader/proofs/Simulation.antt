@@ -1,4 +1,4 @@
--- Each piece leads from the terms of a written front to the terms of the written front that it leads to.
+-- Each piece leads from the terms of a written state to the terms of the written state after it.
 use Rattle.std.proofs.Common.{◌≡◌, ℕ, min, ◌+◌, ◌≤◌, Bool, true, false, ◌||◌, if◌then◌else◌, List, [], ◌∷◌, ◌++◌, refl}
 use Rattle.std.proofs.Common.{ap, sym, subst, ◌∙◌, map, reverse, arith, add-one, Option, Some, None, pos}
 use Rattle.std.specs.Prelude.{⊤}
@@ -23,7 +23,7 @@ use Rattle.expr_reader.proofs.FrontNames.{OuterReads, LevelReads, outer_is_read,
 use Rattle.expr_reader.proofs.FrontNames.{level_extends, outer_stays, level_stays, product_names, sum_names}
 use Rattle.expr_reader.proofs.TermLaws.{product_of, sum_of, last_is, reverse_cons}
 
--- a part stands for a written front over variables
+-- a state represents a written state over variables
 pub record Holds (before : List Name) (g : Front) (names : List Name) (u : terms.Front) : Type 0 where
   pub names_are : names ≡ with_front before g
   pub front_is : u ≡ front_terms names g
@@ -38,7 +38,7 @@ front_made u o l op is =
     let mk : List terms.Level → terms.Level → terms.Operand → terms.Front = λ o l op. record { outer = o; level = l; operand = op } in
     ap (λ o. mk o u.level u.operand) is.outer_is ∙ (ap (λ l. mk o l u.operand) is.level_is ∙ ap (λ op. mk o l op) is.operand_is)
 
--- a new name has the position behind the others
+-- a new name has the position after the other names
 position_with : (n : Name) (names : List Name) → position_of n (with_name names n) ≡ position_of n names
 position_with n names = go (is_among n names) refl
   where
@@ -56,7 +56,7 @@ position_with n names = go (is_among n names) refl
     go false e = last names e
 
 module _ (before : List Name) (outer : List Level) (level : Level) where
-  -- the variables once all that comes before an operand has been read
+  -- the variables after all parts before an operand
   abbrev names_before : List Name
   names_before = with_level (with_outer before outer) level
 
@@ -95,7 +95,7 @@ module _ (before : List Name) (outer : List Level) (level : Level) where
       smaller : (n : ℕ) → n ≤ coefficient_limit → min n (coefficient_limit + 1) ≡ n
       smaller n h = omega arith
 
-  -- from where an operand is wanted
+  -- from where an operand must follow
   wanted_holds : (p : Piece) (u : terms.Front) → IsModest p → StepsTo names_before (front_terms names_before (record { outer = outer; level = level; operand = Wanted })) p u
       → HoldsAt before (step_from outer level Wanted p) (with_piece names_before p) u
   wanted_holds (Word n) u modest is = word_holds n u is
@@ -196,7 +196,7 @@ close_holds before (l ∷ outer) level f o u same closes =
 abbrev operand_at : List Name → List Level → Level → Operand → terms.Operand
 operand_at before outer level operand = operand_terms (with_front before (record { outer = outer; level = level; operand = operand })) operand
 
--- behind a base
+-- the step after a base
 base_holds : (before : List Name) (outer : List Level) (level : Level) (b : Base) (p : Piece) (u : terms.Front)
     → StepsTo (with_front before (record { outer = outer; level = level; operand = BaseRead b })) (front_terms (with_front before (record { outer = outer; level = level; operand = BaseRead b })) (record { outer = outer; level = level; operand = BaseRead b })) p u
     → HoldsAt before (step_from outer level (BaseRead b) p) (with_piece (with_front before (record { outer = outer; level = level; operand = BaseRead b })) p) u
@@ -211,7 +211,7 @@ base_holds before outer level b Open u is = tt
 base_holds before outer level b (Related s) u is = tt
 base_holds before outer level b (Joining j) u is = tt
 
--- behind an exponent
+-- the step after an exponent
 exponent_holds : (before : List Name) (outer : List Level) (level : Level) (b : Base) (ds : List ℕ) (p : Piece) (u : terms.Front)
     → StepsTo (with_front before (record { outer = outer; level = level; operand = ExponentRead b ds })) (front_terms (with_front before (record { outer = outer; level = level; operand = ExponentRead b ds })) (record { outer = outer; level = level; operand = ExponentRead b ds })) p u
     → HoldsAt before (step_from outer level (ExponentRead b ds) p) (with_piece (with_front before (record { outer = outer; level = level; operand = ExponentRead b ds })) p) u
@@ -226,7 +226,7 @@ exponent_holds before outer level b ds Open u is = tt
 exponent_holds before outer level b ds (Related s) u is = tt
 exponent_holds before outer level b ds (Joining j) u is = tt
 
--- behind a `^`
+-- the step after a `^`
 caret_holds : (before : List Name) (outer : List Level) (level : Level) (b : Base) (p : Piece) (u : terms.Front) → IsModest p
     → StepsTo (with_front before (record { outer = outer; level = level; operand = CaretRead b })) (front_terms (with_front before (record { outer = outer; level = level; operand = CaretRead b })) (record { outer = outer; level = level; operand = CaretRead b })) p u
     → HoldsAt before (step_from outer level (CaretRead b) p) (with_piece (with_front before (record { outer = outer; level = level; operand = CaretRead b })) p) u
@@ -250,7 +250,7 @@ operand_holds before outer level (BaseRead b) p u modest is = base_holds before 
 operand_holds before outer level (CaretRead b) p u modest is = caret_holds before outer level b p u modest is
 operand_holds before outer level (ExponentRead b ds) p u modest is = exponent_holds before outer level b ds p u is
 
--- a piece leads where it leads within the written front
+-- a piece leads from the terms of a written state to those of the state after it
 pub simulated : (before : List Name) (f g : Front) (p : Piece) (old new : List Name) (t u : terms.Front)
     → old ≡ with_front before f → t ≡ front_terms old f → step f p ≡ Some g → IsModest p → StepsTo old t p u → new ≡ with_piece old p → Holds before g new u
 simulated before f g p old new t u names front to modest moves more =

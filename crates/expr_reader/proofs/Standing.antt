@@ -1,4 +1,4 @@
--- What stands for a written front answers as the front does.
+-- The answers of a state that represents a written state are those of the written state.
 use Rattle.std.proofs.Common.{◌≡◌, suc, ◌+◌, List, [], refl, ap, subst, length, arith, Some}
 use Rattle.model.specs.Programs.{Name}
 use Rattle.expr_text.specs.Pieces.{Piece}
@@ -12,7 +12,7 @@ use Rattle.expr_reader.specs.FrontSteps.{StepsTo, with_piece}
 use Rattle.expr_reader.specs.Standing.{Stands, IsFresh, Leads}
 use Rattle.expr_reader.proofs.Simulation.{simulated}
 
--- nothing has been read: the beginning, behind any variables
+-- before any piece, the state represents the beginning, after any variables
 pub fresh_stands : (names : List Name) (e : Expression) → IsFresh e → Stands names beginning names e
 fresh_stands names e fresh = record { names_are = refl; front_is = fresh.front_is; tokens_are = fresh.tokens_are }
 
@@ -20,7 +20,7 @@ fresh_stands names e fresh = record { names_are = refl; front_is = fresh.front_i
 pub token_added : (f g : Front) (p : Piece) → step f p ≡ Some g → token_count g ≡ suc (token_count f)
 token_added f g p to = ap length (subst (λ o. Adds (λ p. p) [] f p o) to (step_adds (λ p. p) f p []))
 
--- a piece that moves the part as it moves terms leads where it leads within the written front
+-- a piece that changes the state as it changes terms leads to a state that represents the written one after it
 pub moves_lead : (old new : List Name) (e d : Expression) (p : Piece) → StepsTo old (front_of e) p (front_of d) → new ≡ with_piece old p → d.tokens ≡ e.tokens + 1 → Leads old e p new d
 moves_lead old new e d p moves names tokens = record {
   each = λ before f g stands to modest.

@@ -1,4 +1,4 @@
--- The terms of what is made of a front are made of the front's terms.
+-- The terms built from the parts of a state are those built from the state's terms.
 use Rattle.std.proofs.Common.{◌≡◌, ℕ, zero, suc, List, [], ◌∷◌, ◌++◌, refl, ap, sym, ◌∙◌, reverse}
 use Rattle.std.proofs.lemmas.List.{reverse-append, reverse-reverse}
 use Rattle.model.specs.Programs.{Name}
@@ -10,7 +10,7 @@ use Rattle.expr_text.specs.Fronts.{NoSum, PlusAfter, MinusAfter, NoProduct, Time
 use Rattle.expr_text.specs.TermFronts as terms
 use Rattle.expr_text.specs.TermFronts.{limited, factored_terms, summed_terms}
 
--- a factor behind so many `-`
+-- a factor after this many `-`
 negated_term : (names : List Name) (n : ℕ) (f : Factor) → limited (factor_term names (written.negated n f)) ≡ terms.negated n (limited (factor_term names f))
 negated_term names zero f = refl
 negated_term names (suc n) f = negated_term names n (Negated f)
@@ -32,7 +32,7 @@ sum_of names l f = go l.sum
     go (PlusAfter s) = ap (λ t. Addition (limited (sum_term names s)) t) (product_of names l.product l.minuses f)
     go (MinusAfter s) = ap (λ t. Subtraction (limited (sum_term names s)) t) (product_of names l.product l.minuses f)
 
--- the last of a list, and what comes before it
+-- the last element of a list, and the elements before it
 pub last_is : {X : Type 0} (xs ys : List X) (x y : X) → xs ++ x ∷ [] ≡ ys ++ y ∷ [] → (x ≡ y) × (xs ≡ ys)
 last_is xs ys x y e = (firsts.0, sym (reverse-reverse xs) ∙ (ap reverse firsts.1 ∙ reverse-reverse ys))
   where

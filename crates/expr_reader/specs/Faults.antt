@@ -36,7 +36,7 @@ is_difference (Addition l r) = false
 is_difference (Multiplication l r) = false
 is_difference (Exponentiation e n) = false
 
--- an expression ends before what doesn't go on with it
+-- an expression ends before what doesn't continue it
 abbrev pub ends_before : Front → Option Piece → Bool
 ends_before e None = true
 ends_before e (Some p) = not (goes_on_with e p)

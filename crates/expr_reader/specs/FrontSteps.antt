@@ -22,14 +22,14 @@ pub record HasParts (f : Front) (outer : List Level) (level : Level) (operand : 
   pub level_is : f.level ≡ level
   pub operand_is : f.operand ≡ operand
 
--- what stands before an operand behind a sum, and behind a product
+-- the parts before an operand after a sum and `+`, and after a product and `*`
 abbrev pub behind_plus : Level → Operand → Level
 behind_plus l o = record { sum = PlusAfter (sum_made l o); product = NoProduct; minuses = 0 }
 
 abbrev pub behind_times : Level → Operand → Level
 behind_times l o = record { sum = l.sum; product = TimesAfter (product_made l o); minuses = 0 }
 
--- a `-` stands before an operand that is wanted, and behind a sum
+-- the parts before an operand after a `-`, at the beginning of an operand and after a sum
 abbrev pub behind_minus : Level → Operand → Level
 behind_minus l Wanted = record { sum = l.sum; product = l.product; minuses = l.minuses + 1 }
 behind_minus l (BaseRead t) = record { sum = MinusAfter (sum_made l (BaseRead t)); product = NoProduct; minuses = 0 }
@@ -42,7 +42,7 @@ pub record Closes (f g : Front) : Type 0 where
   pub outer_is : f.outer ≡ g.outer ++ g.level ∷ []
   pub operand_is : g.operand ≡ BaseRead (sum_made f.level f.operand)
 
--- a part, a piece, and the part that it leads to
+-- the state that a piece leads to
 abbrev pub StepsTo : List Name → Front → Piece → Front → Type 0
 StepsTo names f (Word name) g = HasParts g f.outer f.level (BaseRead (Variable (position_of name names)))
 StepsTo names f (Digits digits) g =

@@ -19,7 +19,7 @@ abbrev pub piece_in : Option code.Piece → Option Piece
 piece_in None = None
 piece_in (Some p) = Some (piece_of p)
 
--- an atom is wanted
+-- an atom must follow
 abbrev pub is_wanting : GuardState → Bool
 is_wanting AtomWanted = true
 is_wanting LeftSide = false
@@ -54,7 +54,7 @@ begun_at LeftSide = LeftSide
 begun_at RightSide = RightSide
 begun_at AtomRead = AtomRead
 
--- what joins atoms
+-- whether a piece is a conjunction sign
 abbrev pub is_joining : Piece → Bool
 is_joining (Joining joint) = true
 is_joining (Word name) = false
@@ -97,7 +97,7 @@ names_truth Caret = false
 names_truth (Related sign) = false
 names_truth (Joining joint) = false
 
--- an expression can end, and a piece goes on with it
+-- whether an expression can end, and whether a piece continues it
 abbrev pub can_end : Expression → Bool
 can_end e = terms.is_empty (front_of e).outer && terms.has_factor (front_of e).operand
 
@@ -119,7 +119,7 @@ pub record IsRelated (old : GuardReader) (sign : Sign) (new : GuardReader) : Typ
   pub cleared : Clears old.expression new.expression
   pub atoms_are : new.atoms ≡ old.atoms
 
--- a relation is taken behind a left side that can end; elsewhere nothing changes
+-- a relation is taken after a left side that can end; elsewhere nothing changes
 pub record IsUnrelated (old new : GuardReader) : Type 0 where
   pub kept : new ≡ old
   pub not_left : is_left old.state && can_end old.expression ≡ false

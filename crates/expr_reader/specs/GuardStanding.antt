@@ -1,4 +1,4 @@
--- Which written front the code's state within a guard represents, over the variables so far.
+-- Which written state the code's state within a guard represents, over the variables so far.
 use Rattle.std.specs.Prelude.{◌≡◌, ◌<◌, Bool, true, false, List, [], ◌∷◌, ◌++◌, map, Option, Some, None}
 use Rattle.poly_terms.specs.Views.{term_of}
 use Rattle.poly_terms.specs.Faults.{Fault}
@@ -32,7 +32,7 @@ limited_atom (plain.Compare l relation r) = plain.Compare (limited l) relation (
 abbrev pub atoms_of : List Name → Atoms → List plain.Atom
 atoms_of names atoms = map limited_atom (atoms_terms names atoms)
 
--- those before an atom
+-- the atoms before an atom, over variables with these names
 abbrev pub atoms_before : List Name → Conjoined → List plain.Atom
 atoms_before names NoAtoms = []
 atoms_before names (JointAfter atoms joint) = atoms_of names atoms
@@ -58,7 +58,7 @@ abbrev pub is_operating : Option Piece → Bool
 is_operating None = false
 is_operating (Some p) = operates p
 
--- an atom is wanted
+-- an atom must follow
 pub record IsWanting (before : List Name) (g : GuardFront) (names : List Name) (r : GuardReader) : Type 0 where
   pub conjoined : Conjoined
   pub front_is : g ≡ LeftSide conjoined beginning
@@ -107,7 +107,7 @@ pub record IsAtTruth (next : Option Piece) (before : List Name) (g : GuardFront)
   pub expression : IsFresh r.expression
   pub follows : is_operating next ≡ false
 
--- the code's part stands for a written front, with the next piece ahead
+-- the code's state represents a written state, with the next piece ahead
 pub data Reads (next : Option Piece) (before : List Name) (g : GuardFront) (names : List Name)
     (r : GuardReader) : Type 0 where
   reading_none : IsWanting before g names r → Reads next before g names r
@@ -115,7 +115,7 @@ pub data Reads (next : Option Piece) (before : List Name) (g : GuardFront) (name
   reading_right : IsInRight before g names r → Reads next before g names r
   reading_truth : IsAtTruth next before g names r → Reads next before g names r
 
--- behind atoms that have ended only what joins leads on
+-- after atoms that have ended, only a conjunction sign can follow
 abbrev pub joined_only : Option Atoms → Piece → Option GuardFront
 joined_only atoms (Joining joint) = joined joint atoms
 joined_only atoms _ = None
@@ -137,7 +137,7 @@ pub record IsOpen (next : Option Piece) (before : List Name) (g : GuardFront) (n
   pub right : IsInRight before g names r
   pub goes_on : ends_before right.read next ≡ true → inner.finish right.read ≡ None
 
--- the same once an atom that ends before the next piece has ended
+-- the code's state represents a written state, after an atom that ends before the next piece has been ended
 pub data IsPartEnded (next : Option Piece) (before : List Name) (g : GuardFront) (names : List Name)
     (r : GuardReader) : Type 0 where
   part_ended_none : IsWanting before g names r → IsPartEnded next before g names r
@@ -145,14 +145,15 @@ pub data IsPartEnded (next : Option Piece) (before : List Name) (g : GuardFront)
   part_ended_right : IsOpen next before g names r → IsPartEnded next before g names r
   part_ended_end : IsEnded next before g names r → IsPartEnded next before g names r
 
--- an atom ends where it ends in the written front, and the fault is that of the atom
+-- an atom ends exactly if the written one ends, and the fault is that of the atom
 pub record EndsPart (next : Option Piece) (old : GuardReader) (fault : Option Fault) (new : GuardReader) : Type 0 where
   pub part_ended : (before : List Name) (g : GuardFront) (names : List Name) → Reads next before g names old
       → IsPartEnded next before g names new
   pub fault_is : (before : List Name) (g : GuardFront) (names : List Name) → Reads next before g names old
       → fault ≡ atom_fault names g next
 
--- where a piece leads: as it does in the written front; where that leads nowhere, nothing changes
+-- the code's state after a piece represents the written state after it; if the written text rejects the piece, nothing
+-- changes
 abbrev pub LeadsTo : Bool → Option Piece → List Name → Option GuardFront → List Name → GuardReader → List Name
     → GuardReader → Type 0
 LeadsTo true behind before None old r new q = ⊥

@@ -1,4 +1,4 @@
--- Which written front the code's state within an expression represents, over the variables so far.
+-- Which written state the code's state within an expression represents, over the variables so far.
 use Rattle.std.specs.Prelude.{◌≡◌, ◌-◌, ◌<◌, ◌≤◌, ◌^◌, List, [], length, Some, IsTrue, ⊤}
 use Rattle.std.specs.List.{list_all}
 use Rattle.std.specs.Char.{is_ascii_digit}
@@ -16,7 +16,8 @@ use Rattle.expr_text.specs.TermFronts.{front_terms, limited}
 use Rattle.expr_reader.specs.declared.expression.Expression.{Expression}
 use Rattle.expr_reader.specs.Views.{front_of}
 
--- the code's part stands for a written front that was read behind variables: `names` are the variables now
+-- the code's state represents a written state that was read after the variables `before`; `names` are the variables
+-- now
 pub record Stands (before : List Name) (f : Front) (names : List Name) (e : Expression) : Type 0 where
   pub names_are : names ≡ with_front before f
   pub front_is : front_of e ≡ front_terms names f
@@ -38,7 +39,7 @@ pub record HasRoom (names : List Name) (e : Expression) : Type 0 where
   pub tokens : e.tokens < 2 ^ 64 - 1
   pub variables : length names < 2 ^ 32
 
--- a piece leads where it leads within the written front
+-- the code's state after a piece represents the written state after it
 pub record Leads (old : List Name) (e : Expression) (p : Piece) (new : List Name) (d : Expression) : Type 0 where
   pub each : (before : List Name) (f g : Front) → Stands before f old e → step f p ≡ Some g → IsModest p
       → Stands before g new d

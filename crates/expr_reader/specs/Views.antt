@@ -19,7 +19,7 @@ use Rattle.expr_reader.specs.declared.expression.Operand.{Operand}
 use Rattle.expr_reader.specs.declared.expression.Operand.TheVariants.{Wanted, BaseRead, CaretRead, ExponentRead}
 use Rattle.expr_reader.specs.declared.expression.Expression.{Expression}
 
--- what comes before a product, and before a factor
+-- the parts before a product, and before a factor
 abbrev pub summed_of : Summed → terms.Summed
 summed_of NoSum = terms.NoSum
 summed_of (PlusAfter e) = terms.PlusAfter (term_of e)
@@ -29,11 +29,11 @@ abbrev pub factored_of : Factored → terms.Factored
 factored_of NoProduct = terms.NoProduct
 factored_of (TimesAfter e) = terms.TimesAfter (term_of e)
 
--- what comes before an operand
+-- the parts before an operand
 abbrev pub level_of : Level → terms.Level
 level_of l = record { sum = summed_of l.sum; product = factored_of l.product; minuses = l.minuses }
 
--- what was read last
+-- the part of an operand that was read last
 abbrev pub operand_of : Operand → terms.Operand
 operand_of Wanted = terms.Wanted
 operand_of (BaseRead e) = terms.BaseRead (term_of e)

@@ -1,4 +1,4 @@
--- What was worked out by hand: differences of relations, faults of atoms, and what single signs do.
+-- Worked values: differences of relations, faults of atoms, and the effects of single signs.
 use Rattle.std.specs.Prelude.{◌≡◌, List, [], ◌∷◌, pos, Some, None}
 use Rattle.model.specs.Programs.{Name, AtLeast, MoreThan, AtMost, LessThan, EqualTo}
 use Rattle.model.specs.Terms.{Literal, Variable, Subtraction}
@@ -39,7 +39,7 @@ pub record Differences : Type 0 where
   pub equal : differences (Variable 0) EqualTo (Variable 1)
       ≡ Subtraction (Variable 0) (Variable 1) ∷ Subtraction (Variable 1) (Variable 0) ∷ []
 
--- `1 >= A ^ 9` has a fault where it ends, and none before `^` and behind it, where it goes on, or within its left side
+-- `1 >= A ^ 9` has a fault where it ends, and none before `^`, after it, where it continues, or within its left side
 pub record AtomFaults : Type 0 where
   pub at_the_end : atom_fault names (read_to AtLeastSign (ExponentRead a (57 ∷ []))) None ≡ Some HighDegree
   pub before_joint : atom_fault names (read_to AtLeastSign (ExponentRead a (57 ∷ []))) (Some (Joining Ampersands))

@@ -5,7 +5,7 @@ use Rattle.expr_text.specs.TermFronts.{Level, Wanted, BaseRead, CaretRead, Expon
 use Rattle.expr_text.specs.TermFronts.{NoProduct, TimesAfter, with_number, with_digits, with_caret}
 use Rattle.expr_reader.specs.FrontSteps.{behind_plus, behind_minus, behind_times}
 
--- the variable numbered 0 stands before a `*`, within a sum behind the variable numbered 1, and one `-` behind it
+-- before the operand: the variable numbered 1 and `+`, the variable numbered 0 and `*`, and one `-`
 abbrev pub within : Level
 within = record { sum = PlusAfter (Variable 1); product = TimesAfter (Variable 0); minuses = 1 }
 
@@ -17,17 +17,17 @@ pub record NumbersAreTold : Type 0 where
   pub literal : with_number Wanted 10 ≡ BaseRead (Literal (pos 10))
   pub greatest : with_number Wanted (2 ^ 63 - 1) ≡ BaseRead (Literal (pos (2 ^ 63 - 1)))
   pub too_great : with_number Wanted (2 ^ 64) ≡ BaseRead (Literal (pos (2 ^ 63)))
-  -- behind a base and behind an exponent too it is a literal
+  -- after a base and after an exponent a number is a literal too
   pub behind_base : with_number (BaseRead (Variable 0)) 2 ≡ BaseRead (Literal (pos 2))
   pub behind_exponent : with_number (ExponentRead (Variable 0) 3) 2 ≡ BaseRead (Literal (pos 2))
   -- digits are the number that they write
   pub digits : with_digits (CaretRead (Variable 0)) (codes "07") ≡ ExponentRead (Variable 0) 7
-  -- a `^` counts behind a base alone
+  -- a `^` has an effect only after a base
   pub caret : with_caret (BaseRead (Variable 0)) ≡ CaretRead (Variable 0)
   pub caret_twice : with_caret (CaretRead (Variable 0)) ≡ CaretRead (Variable 0)
   pub caret_first : with_caret Wanted ≡ Wanted
 
--- signs behind the variable numbered 2 within a product
+-- signs after the variable numbered 2 within a product
 pub record SignsAreTold : Type 0 where
   pub plus : behind_plus within (BaseRead (Variable 2)) ≡ record {
     sum = PlusAfter (Addition (Variable 1) (Multiplication (Variable 0) (Negation (Variable 2))));
@@ -39,7 +39,7 @@ pub record SignsAreTold : Type 0 where
     product = NoProduct;
     minuses = 0;
   }
-  -- a product goes on within its sum
+  -- a product continues within its sum
   pub times : behind_times within (BaseRead (Variable 2)) ≡ record {
     sum = PlusAfter (Variable 1);
     product = TimesAfter (Multiplication (Variable 0) (Negation (Variable 2)));

@@ -1,4 +1,4 @@
-//! The state of parsing an expression: a stack with what comes before each open bracket.
+//! The state of parsing an expression: a stack with the parts before each open bracket.
 
 ghost use Rattle.std.specs.Prelude.{◌≡◌, ◌-◌, ◌^◌, ◌<◌, ◌&&◌, IfOk, OnOk, IsTrue, length};
 ghost use Rattle.std.specs.List.{list_all};
@@ -22,7 +22,7 @@ use poly_terms::Expr;
 use std::alloc::Global;
 use text_core::value_up_to;
 
-/// What comes before a product inside its brackets.
+/// The part before a product inside its brackets.
 #[derive(Drop)]
 pub enum Summed {
     NoSum,
@@ -30,14 +30,14 @@ pub enum Summed {
     MinusAfter(Expr),
 }
 
-/// What comes before a factor in its product.
+/// The part before a factor in its product.
 #[derive(Drop)]
 pub enum Factored {
     NoProduct,
     TimesAfter(Expr),
 }
 
-/// What comes before an operand inside its brackets: a sum, a product, and a number of `-`.
+/// The parts before an operand inside its brackets: a sum, a product, and a number of `-`.
 #[derive(Drop)]
 pub struct Level {
     pub sum: Summed,
@@ -45,7 +45,7 @@ pub struct Level {
     pub minuses: u32,
 }
 
-/// What was read last: what an operand can follow, a base, its `^`, or a base and its exponent.
+/// The part of an operand that was read last: nothing, a base, its `^`, or a base and its exponent.
 #[derive(Drop)]
 pub enum Operand {
     Wanted,
@@ -57,7 +57,7 @@ pub enum Operand {
 /// The part of an expression that has been read.
 #[derive(Drop)]
 pub struct Expression {
-    /// What comes before each open bracket, the innermost last.
+    /// The parts before each open bracket, the innermost last.
     pub outer: Vec<Level>,
     pub level: Level,
     pub operand: Operand,
@@ -111,7 +111,7 @@ impl Expression {
         self.outer.is_empty() && self.has_factor()
     }
 
-    /// Whether a piece goes on with the expression.
+    /// Whether a piece continues the expression.
     pub fn goes_on_with(&self, piece: Piece<'_>) -> bool
         ensures { result
             ≡ terms.goes_on_from (front_of self.now).outer (front_of self.now).operand (piece_of piece.entry) }
@@ -127,7 +127,7 @@ impl Expression {
         }
     }
 
-    // Whether a piece goes on behind a factor.
+    // Whether a piece continues the expression after a factor.
     fn goes_on_behind(&self, piece: Piece<'_>) -> bool
         ensures { result ≡ terms.goes_on_behind (front_of self.now).outer (piece_of piece.entry) }
     {
@@ -138,7 +138,7 @@ impl Expression {
         }
     }
 
-    /// One piece more, where it goes on with the expression.
+    /// Takes the next piece, if it continues the expression.
     ///
     /// # Errors
     ///
@@ -206,7 +206,7 @@ impl Expression {
         Ok(())
     }
 
-    // Digits, as a lexer finds them.
+    // Takes digits as bytes of the text.
     fn take_number(&mut self, digits: &[u8])
         ensures operand { IsTrue (list_all is_ascii_digit digits.now)
             → operand_of self.new.operand ≡ terms.with_digits (operand_of self.old.operand) digits.now }
@@ -218,7 +218,7 @@ impl Expression {
         }
     }
 
-    // Digits: an exponent behind `^`, and elsewhere a number.
+    // Takes digits: an exponent after `^`, and elsewhere a number.
     fn take_digits(&mut self, digits: &[u8])
         requires { IsTrue (list_all is_ascii_digit digits.now) }
         ensures operand { operand_of self.new.operand ≡ terms.with_digits (operand_of self.old.operand) digits.now }

@@ -30,7 +30,7 @@ use std::mem;
 /// What was read last.
 #[derive(Clone, Copy, Debug, PartialEq, Eq)]
 pub enum GuardState {
-    /// Nothing, or what joins; an atom is wanted.
+    /// Nothing, or a conjunction sign; an atom must follow.
     AtomWanted,
     /// Some of an atom's left side.
     LeftSide,
@@ -63,7 +63,7 @@ pub(crate) fn is_truth(word: &[u8]) -> bool
     word == b"TRUE".as_slice() || word == b"true".as_slice()
 }
 
-// What a sign says.
+// The relation that a sign denotes.
 fn relation_of(sign: Sign) -> Rel
     ensures { relation_view result ≡ relation_signed (sign_of sign) }
 {
@@ -207,7 +207,7 @@ impl GuardReader {
         self.state == GuardState::AtomWanted && is_truth_word(piece) && !operates(behind)
     }
 
-    /// One piece more, with the one behind it. False where it can't follow.
+    /// Takes the next piece, given the one after it. False if it can't follow.
     ///
     /// # Errors
     ///
@@ -261,7 +261,7 @@ impl GuardReader {
         Ok(())
     }
 
-    // What joins, behind an atom.
+    // Takes a conjunction sign after an atom.
     fn take_joint(&mut self, piece: Piece<'_>) -> bool
         ensures joins { result ≡ is_joining (piece_of piece.entry) }
         ensures taken { IsTrue result → self.new ≡ record {
@@ -281,7 +281,7 @@ impl GuardReader {
         }
     }
 
-    // A piece that goes on with the expression.
+    // Takes a piece that continues the expression.
     fn take_more<'a>(
         &mut self,
         alloc: Global,
@@ -300,7 +300,7 @@ impl GuardReader {
         Ok(())
     }
 
-    // A relation, behind a left side that can end.
+    // Takes a relation, if the left side can end.
     fn take_relation(&mut self, alloc: Global, sign: Sign) -> Result<bool, Memory>
         ensures { IfOk result (λ taken. Relates self.old (sign_of sign) taken self.new) }
     {

@@ -2,8 +2,8 @@
 
 ghost use Rattle.expr_reader.specs.Worked.{WorkedValues};
 
-/// The differences of each relation, where an atom has a fault, and what single signs and numbers make of an expression
-/// are what was worked out by hand. It has no code: its contract is the law.
+/// Worked values: the differences of each relation, where an atom has a fault, and the effects of single signs and
+/// numbers on an expression. It has no code: its contract is the law.
 pub fn worked_values_hold()
     ensures { WorkedValues }
 {}

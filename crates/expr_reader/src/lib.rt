@@ -1,9 +1,8 @@
-//! Parses expressions and guards piece by piece, without recursion, while a reader of a larger text goes through its
-//! tokens.
+//! Parses expressions and guards piece by piece, without recursion, for a reader of a larger text.
 //!
-//! Builds on `expr_text`, which says what is written, and on `poly_terms` and `its_model`, whose expressions and atoms
-//! are made. Main guarantee: the state of parsing always represents the written front of `expr_text`, so what is made
-//! is the term of the pieces that were read.
+//! Builds on `expr_text`, which defines the written texts, and on `poly_terms` and `its_model`, whose expressions and
+//! atoms it builds. Main guarantee: the state of parsing always represents the written state of `expr_text`, so the
+//! result is the term of the pieces that were read.
 #![tactic(auto)]
 
 mod expansion;

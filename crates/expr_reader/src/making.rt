@@ -10,7 +10,7 @@ use crate::expression::{Factored, Level, Operand, Summed};
 use poly_terms::Expr;
 use std::alloc::Global;
 
-/// A level before which nothing stands.
+/// A level with no part before its operand.
 pub fn empty_level() -> Level
     ensures { level_of result ≡ terms.empty_level }
 {
@@ -21,7 +21,7 @@ pub fn empty_level() -> Level
     }
 }
 
-/// An expression behind so many `-`.
+/// An expression negated this many times.
 ///
 /// # Errors
 ///

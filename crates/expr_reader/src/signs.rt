@@ -1,5 +1,5 @@
-//! What single signs make of an expression while it is read: each of these functions can be called wherever the
-//! expression stands, whether the sign can follow there or not. None of them counts a token.
+//! The effects of single signs on an expression that is being read: each of these functions can be called in any
+//! state, also where the sign can't follow. None of them counts a token.
 
 ghost use Rattle.std.specs.Prelude.{◌≡◌, ◌-◌, ◌^◌, ◌<◌, ◌∷◌, ◌++◌, [], map, IfOk, OnOk, IsTrue, IsFalse, length};
 ghost use Rattle.model.specs.Terms.{Variable};
@@ -27,7 +27,7 @@ impl Expression {
         self.operand = Operand::BaseRead(Expr::Var(number));
     }
 
-    /// A `-`: before the operand where one is wanted, and else behind the sum that ends here.
+    /// Takes a `-`: before the operand where one must follow, and else after the sum that ends here.
     ///
     /// # Errors
     ///
@@ -62,7 +62,7 @@ impl Expression {
         self.level.minuses += 1;
     }
 
-    // A `-` behind a sum.
+    // Takes a `-` after a sum.
     fn subtract(&mut self, alloc: Global) -> Result<(), Memory>
         ensures tokens { OnOk result (self.new.tokens ≡ self.old.tokens) }
         ensures level { OnOk result (level_of self.new.level
@@ -75,7 +75,7 @@ impl Expression {
         Ok(())
     }
 
-    /// A `+` behind the sum that ends here; an operand is wanted behind it.
+    /// Takes a `+` after the sum that ends here; an operand must follow.
     ///
     /// # Errors
     ///
@@ -92,7 +92,7 @@ impl Expression {
         Ok(())
     }
 
-    /// A `*` behind the product that ends here; an operand is wanted behind it.
+    /// Takes a `*` after the product that ends here; an operand must follow.
     ///
     /// # Errors
     ///
@@ -109,8 +109,8 @@ impl Expression {
         Ok(())
     }
 
-    /// A number: an exponent behind `^`, and elsewhere a literal. One over the limit on degrees, or on coefficients,
-    /// counts as the number behind that limit.
+    /// Takes a number: an exponent after `^`, and elsewhere a literal. One over the limit on degrees, or on
+    /// coefficients, is replaced by the limit plus one.
     pub fn take_value(&mut self, value: u128)
         ensures operand { operand_of self.new.operand ≡ terms.with_number (operand_of self.old.operand) value }
         ensures level { self.new.level ≡ self.old.level }
@@ -125,7 +125,7 @@ impl Expression {
         };
     }
 
-    /// A `^` behind a base; elsewhere nothing is changed.
+    /// Takes a `^` after a base; elsewhere nothing changes.
     pub fn take_caret(&mut self)
         ensures tokens { self.new.tokens ≡ self.old.tokens }
         ensures operand { operand_of self.new.operand ≡ terms.with_caret (operand_of self.old.operand) }
@@ -199,7 +199,7 @@ impl Expression {
         }
     }
 
-    // The product that the factor ends; an operand is wanted behind it.
+    // The product that the factor ends; an operand must follow.
     fn product_made(&mut self, alloc: Global) -> Result<Expr, Memory>
         ensures tokens { OnOk result (self.new.tokens ≡ self.old.tokens) }
         ensures made { IfOk result (λ made.
@@ -217,7 +217,7 @@ impl Expression {
         product_with(alloc, product, factor)
     }
 
-    /// The sum that the factor ends; nothing stands before the operand that is wanted behind it.
+    /// The sum that the factor ends; an operand must follow, with no part before it.
     ///
     /// # Errors
     ///

@@ -1,4 +1,4 @@
--- Each front of an expression and of a guard can be completed, within any text whose fronts follow them.
+-- Each state of an expression and of a guard can be completed, within any text whose states follow them.
 use Rattle.std.specs.Prelude.{◌≡◌, ℕ, List, [], ◌∷◌, Some, refl}
 use Rattle.std.proofs.Common.{ap}
 use Rattle.expr_text.specs.Pieces.{Piece, Digits, Close, Sign, EqualSign, Related}
@@ -11,8 +11,8 @@ use Rattle.expr_text.specs.GuardFronts as guards
 use Rattle.expr_text.proofs.Ending.{related_step}
 use Rattle.expr_text.specs.GuardFronts.{Conjoined, GuardFront, LeftSide, RightSide, atoms_with}
 
--- a text is at an expression's front behind some pieces; it can be completed where it can be completed behind one piece
--- more, and where the expression has ended
+-- a text is in an expression's state after some pieces; it can be completed, if it can be completed after one more
+-- piece of the expression, and if it can be completed where the expression ends
 module _ {P : Type 0} (into : Piece → P) (At : List P → Front → Type 0) (Goes : List P → Type 0)
     (steps : (done : List P) (e g : Front) (p : Piece) → At done e → step e p ≡ Some g → At (into p ∷ done) g)
     (back : (p : P) (done : List P) → Goes (p ∷ done) → Goes done)
@@ -39,11 +39,11 @@ module _ {P : Type 0} (into : Piece → P) (At : List P → Front → Type 0) (G
       (steps done (record { outer = outer; level = level; operand = CaretRead b }) (record { outer = outer; level = level; operand = ExponentRead b (49 ∷ []) }) (Digits (49 ∷ [])) h refl))
   from_operand outer level (ExponentRead b ds) done h = behind_exponent outer level b ds done h
 
-  -- each front of an expression can be completed
+  -- each state of an expression can be completed
   pub expression_completed : (e : Front) (done : List P) → At done e → Goes done
   expression_completed e done h = from_operand e.outer e.level e.operand done h
 
--- a text is at a guard's front behind some pieces
+-- a text is in a guard's state after some pieces
 module _ {P : Type 0} (into : Piece → P) (At : List P → GuardFront → Type 0) (Goes : List P → Type 0)
     (steps : (done : List P) (g h : GuardFront) (p : Piece) → At done g → guards.step g p ≡ Some h → At (into p ∷ done) h)
     (back : (p : P) (done : List P) → Goes (p ∷ done) → Goes done)
@@ -66,7 +66,7 @@ module _ {P : Type 0} (into : Piece → P) (At : List P → GuardFront → Type 
       back (into (Related EqualSign)) done (right_completed c s EqualSign beginning (into (Related EqualSign) ∷ done)
       (steps done (LeftSide c e) (RightSide c s EqualSign beginning) (Related EqualSign) h (related_step c e s EqualSign same)))
 
-  -- each front of a guard can be completed
+  -- each state of a guard can be completed
   pub guard_completed : (g : GuardFront) (done : List P) → At done g → Goes done
   guard_completed (LeftSide c e) done h = expression_completed into (λ behind f. At behind (LeftSide c f)) Goes (left_steps c) back (left_ends c) e done h
   guard_completed (RightSide c l sign e) done h = right_completed c l sign e done h

@@ -1,4 +1,4 @@
--- What doesn't go on with an expression.
+-- Which pieces don't continue an expression.
 use Rattle.std.specs.Prelude.{◌≡◌, ℕ, zero, suc, List, [], ◌∷◌, Option, Some, None, ⊤, refl}
 use Rattle.std.proofs.Common.{◌∙◌, ap, subst}
 use Rattle.its_model.specs.model.Programs.{Name}
@@ -27,15 +27,15 @@ joining_from outer level (BaseRead b) joint = refl
 joining_from outer level (CaretRead b) joint = refl
 joining_from outer level (ExponentRead b ds) joint = refl
 
--- what joins atoms ends an expression
+-- a conjunction sign ends an expression
 pub joining_ends : (e : Front) (joint : Joint) → step e (Joining joint) ≡ None
 joining_ends e joint = joining_from e.outer e.level e.operand joint
 
--- behind a left side that can end a relation leads to the right side
+-- after a left side that can end, a relation leads to the right side
 pub related_step : (c : Conjoined) (e : Front) (l : Sum) (sign : Sign) → finish e ≡ Some l → guards.step (LeftSide c e) (Related sign) ≡ Some (RightSide c l sign beginning)
 related_step c e l sign same = ap (λ o. guards.within (LeftSide c e) o (Related sign)) (related_ends e sign) ∙ ap (λ o. guards.related c sign o) same
 
--- behind atoms that can end what joins leads to the next atom
+-- after atoms that can end, a conjunction sign leads to the next atom
 pub joining_step : (g : GuardFront) (atoms : Atoms) (joint : Joint) → guards.finish g ≡ Some atoms → guards.step g (Joining joint) ≡ Some (LeftSide (JointAfter atoms joint) beginning)
 joining_step (LeftSide c e) atoms joint same = ap (λ o. guards.within (LeftSide c e) o (Joining joint)) (joining_ends e joint) ∙ ap (λ o. guards.joined joint o) same
 joining_step (RightSide c l sign e) atoms joint same = ap (λ o. guards.within (RightSide c l sign e) o (Joining joint)) (joining_ends e joint) ∙ ap (λ o. guards.joined joint o) same
@@ -59,15 +59,15 @@ close_stops [] level (CaretRead b) = tt
 close_stops [] level (ExponentRead b ds) = refl
 close_stops (l ∷ outer) level operand = tt
 
--- no name goes on with an expression that can end
+-- no name continues an expression that can end
 pub word_ends : (e : Front) (s : Sum) (name : Name) → finish e ≡ Some s → step e (Word name) ≡ None
 word_ends e s name same = subst (λ o. Stops (Word name) e.outer e.level e.operand o) same (word_stops name e.outer e.level e.operand)
 
--- no closing bracket goes on with an expression that can end
+-- no closing bracket continues an expression that can end
 pub close_ends : (e : Front) (s : Sum) → finish e ≡ Some s → step e Close ≡ None
 close_ends e s same = subst (λ o. Stops Close e.outer e.level e.operand o) same (close_stops e.outer e.level e.operand)
 
--- nor is the word of the atom that always holds
+-- no such piece continues the word of the atom that always holds
 abbrev pub TruthStops : Piece → List Level → Level → Operand → Option Atom → Type 0
 TruthStops p outer level operand None = ⊤
 TruthStops p outer level operand (Some a) = step_from outer level operand p ≡ None
@@ -91,7 +91,7 @@ truth_stops p behind [] (PlusAfter s) factors n operand = tt
 truth_stops p behind [] (MinusAfter s) factors n operand = tt
 truth_stops p behind (l ∷ outer) sum factors n operand = tt
 
--- a guard that can end isn't gone on with by such a piece
+-- such a piece doesn't continue a guard that can end
 abbrev pub GuardStops : Piece → GuardFront → Option Atoms → Type 0
 GuardStops p g None = ⊤
 GuardStops p g (Some atoms) = step (guards.expression_in g) p ≡ None
@@ -112,7 +112,7 @@ close_guard_stops : (g : GuardFront) → GuardStops Close g (guards.finish g)
 close_guard_stops (LeftSide c e) = left_stops Close c e (guards.truth_of e) (truth_stops Close (λ level other. refl) e.outer e.level.sum e.level.product e.level.minuses e.operand)
 close_guard_stops (RightSide c l sign e) = right_stops Close c l sign e (finish e) (close_stops e.outer e.level e.operand)
 
--- so a name behind a guard that can end leads nowhere within it, and neither does a closing bracket
+-- a piece that continues neither the expression nor the guard is rejected
 within_none : (g : GuardFront) (p : Piece) → guards.step_behind g p ≡ None → step (guards.expression_in g) p ≡ None → guards.step g p ≡ None
 within_none (LeftSide c e) p behind same = ap (λ o. guards.within (LeftSide c e) o p) same ∙ behind
 within_none (RightSide c l sign e) p behind same = ap (λ o. guards.within (RightSide c l sign e) o p) same ∙ behind
@@ -125,10 +125,10 @@ close_behind_none : (g : GuardFront) → guards.step_behind g Close ≡ None
 close_behind_none (LeftSide c e) = refl
 close_behind_none (RightSide c l sign e) = refl
 
--- no name goes on with a guard that can end
+-- no name continues a guard that can end
 pub word_ends_guard : (g : GuardFront) (atoms : Atoms) (name : Name) → guards.finish g ≡ Some atoms → guards.step g (Word name) ≡ None
 word_ends_guard g atoms name same = within_none g (Word name) (word_behind_none g name) (subst (λ o. GuardStops (Word name) g o) same (word_guard_stops name g))
 
--- no closing bracket goes on with a guard that can end
+-- no closing bracket continues a guard that can end
 pub close_ends_guard : (g : GuardFront) (atoms : Atoms) → guards.finish g ≡ Some atoms → guards.step g Close ≡ None
 close_ends_guard g atoms same = within_none g Close (close_behind_none g) (subst (λ o. GuardStops Close g o) same (close_guard_stops g))

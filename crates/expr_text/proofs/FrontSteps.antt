@@ -1,4 +1,4 @@
--- What each piece adds to an expression's front: a token, and a variable where it is a new name.
+-- How each piece changes an expression's state: by a token, and by a variable if it is a new name.
 use Rattle.std.proofs.Common.{◌≡◌, ℕ, zero, suc, Bool, true, false, not, if◌then◌else◌, ◌&&◌, ◌||◌, ◌==◌, is_some, List}
 use Rattle.std.proofs.Common.{[], ◌∷◌, length, codes, Option, Some, None, refl, ap, sym, subst, arith}
 use Rattle.std.specs.Prelude.{⊤}
@@ -23,11 +23,11 @@ use Rattle.expr_text.proofs.StepLaws.{Adds, step_adds, IsWritten, finish_written
 pub token_more : (e f : Front) (p : Piece) → step e p ≡ Some f → token_count f ≡ suc (token_count e)
 token_more e f p same = ap length (subst (λ o. Adds (λ q. q) [] e p o) same (step_adds (λ q. q) e p []))
 
--- an expression has as many tokens as the front that it ends
+-- an expression has as many tokens as the state that it ends
 pub token_ended : (e : Front) (s : Sum) → finish e ≡ Some s → length (sum_behind (λ p. p) s []) ≡ token_count e
 token_ended e s same = ap length (subst (λ o. IsWritten (λ p. p) [] e o) same (finish_written (λ p. p) e []))
 
--- a front without tokens is the beginning
+-- a state without tokens is the beginning
 base_there : (b : Base) (before : List Piece) → ¬ (length (base_behind (λ p. p) b before) ≡ 0)
 base_there (Number ds) before h = omega (arith, h)
 base_there (Named n) before h = omega (arith, h)
@@ -48,7 +48,7 @@ nothing_in outer sum factors n (BaseRead b) h = absurd (base_there b _ h)
 nothing_in outer sum factors n (CaretRead b) h = absurd (omega (arith, h))
 nothing_in outer sum factors n (ExponentRead b ds) h = absurd (omega (arith, h))
 
--- a front of which no token has been read is the beginning
+-- a state of which no token has been read is the beginning
 pub nothing_read : (e : Front) → token_count e ≡ 0 → e ≡ beginning
 nothing_read e h = nothing_in e.outer e.level.sum e.level.product e.level.minuses e.operand h
 
@@ -59,7 +59,7 @@ ended_there e s same h = none (subst (λ f. finish f ≡ Some s) (nothing_read e
     none : None ≡ Some s → ⊥
     none k = cc
 
--- what goes on with nothing begins an expression
+-- a piece that can come first begins an expression
 begins_from : (p : Piece) (f : Front) → step beginning p ≡ Some f → begins_expression p ≡ true
 begins_from (Word n) f same = refl
 begins_from (Digits ds) f same = refl
@@ -76,7 +76,7 @@ begins_from (Joining joint) f same = cc
 pub first_begins : (e f : Front) (p : Piece) → token_count e ≡ 0 → step e p ≡ Some f → begins_expression p ≡ true
 first_begins e f p h same = begins_from p f (subst (λ g. step g p ≡ Some f) (nothing_read e h) same)
 
--- the variables once a factor is read behind this many `-`, in its product, and in its sum
+-- the variables after a factor with this many `-` before it, after its product, and after its sum
 negated_names : (names : List Name) (n : ℕ) (f : Factor) → with_factor names (negated n f) ≡ with_factor names f
 negated_names names zero f = refl
 negated_names names (suc n) f = negated_names names n (Negated f)
@@ -175,7 +175,7 @@ module _ (names : List Name) where
   names_more e f p same =
       subst (λ o. NamesAdd names (with_front names e) p o) same (names_from e.outer e.level e.operand p)
 
-  -- the variables of an expression are those of the front that it ends
+  -- the variables of an expression are those of the state that it ends
   abbrev EndsNamed : List Name → Option Sum → Type 0
   EndsNamed read None = ⊤
   EndsNamed read (Some s) = with_sum names s ≡ read
@@ -189,7 +189,7 @@ module _ (names : List Name) where
   ended_from [] level (ExponentRead b ds) = sum_names names level (Raised b ds)
   ended_from (l ∷ outer) level operand = tt
 
-  -- the variables of an expression are those of the front that it ends
+  -- the variables of an expression are those of the state that it ends
   pub names_ended : (e : Front) (s : Sum) → finish e ≡ Some s → with_sum names s ≡ with_front names e
   names_ended e s same = subst (λ o. EndsNamed (with_front names e) o) same (ended_from e.outer e.level e.operand)
 
@@ -225,7 +225,7 @@ named_truth name = go (is_same name (codes "TRUE")) (is_same name (codes "true")
     go false true = refl
     go false false = refl
 
--- a name that comes first can be that atom
+-- a name that comes first can be the atom that always holds
 abbrev pub begins_truth : Front → Piece → Bool
 begins_truth e (Word name) = (token_count e == 0) && truth_worded name
 begins_truth e (Digits ds) = false
@@ -325,11 +325,11 @@ truth_from outer level (CaretRead b) (Joining joint) = tt
 truth_from outer level (ExponentRead b ds) p =
     behind_truth (record { outer = outer; level = level; operand = ExponentRead b ds }) outer level (Raised b ds) p
 
--- a front is that atom's exactly where a name came first that is its word
+-- a state is the atom that always holds exactly if its only piece is the word of that atom
 pub truth_more : (e f : Front) (p : Piece) → step e p ≡ Some f → is_some (truth_of f) ≡ begins_truth e p
 truth_more e f p same = subst (λ o. TellsTruth e p o) same (truth_from e.outer e.level e.operand p)
 
--- what goes on with that atom's word is an operator
+-- only an operator continues the word of that atom
 and_false : (v : Bool) → (v && false) ≡ false
 and_false true = refl
 and_false false = refl
@@ -359,7 +359,7 @@ goes_from [] (PlusAfter s) factors n operand p f same = refl
 goes_from [] (MinusAfter s) factors n operand p f same = refl
 goes_from (l ∷ outer) sum factors n operand p f same = refl
 
--- only an operator goes on with the word of the atom that always holds
+-- only an operator continues the word of the atom that always holds
 pub truth_goes_on : (e f : Front) (p : Piece) → step e p ≡ Some f → (is_some (truth_of e) && not (operates p)) ≡ false
 truth_goes_on e f p same = goes_from e.outer e.level.sum e.level.product e.level.minuses e.operand p f same
 
@@ -397,6 +397,6 @@ truth_tokens [] (PlusAfter s) factors n operand a same = cc
 truth_tokens [] (MinusAfter s) factors n operand a same = cc
 truth_tokens (l ∷ outer) sum factors n operand a same = cc
 
--- a front that is an atom by itself has one token, and the atom is the one that always holds
+-- a state that is an atom by itself has one token, and the atom is the one that always holds
 pub truth_is_one : (e : Front) (a : Atom) → truth_of e ≡ Some a → (token_count e ≡ 1) × IsAlways a
 truth_is_one e a same = truth_tokens e.outer e.level.sum e.level.product e.level.minuses e.operand a same

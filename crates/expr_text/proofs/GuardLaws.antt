@@ -1,4 +1,4 @@
--- Each piece of a guard that is read is written last in the new front.
+-- Each piece of a guard that is read is written last in the new state.
 use Rattle.std.specs.Prelude.{◌≡◌, ℕ, zero, suc, Bool, true, false, if◌then◌else◌, codes, List, [], ◌∷◌, Option, Some}
 use Rattle.std.specs.Prelude.{None, ⊤, refl}
 use Rattle.std.proofs.Common.{sym, ◌∙◌, ap}
@@ -19,7 +19,7 @@ use Rattle.expr_text.specs.GuardFronts.{step}
 use Rattle.expr_text.proofs.StepLaws.{step_adds, finish_written, Adds, IsWritten}
 
 module _ {P : Type 0} (into : Piece → P) where
-  -- a guard that a piece leads to is written with the piece behind
+  -- the pieces of the state after a piece are those before and this one
   abbrev pub GuardAdds : List P → GuardFront → Piece → Option GuardFront → Type 0
   GuardAdds before g p None = ⊤
   GuardAdds before g p (Some h) = guard_behind into h before ≡ into p ∷ guard_behind into g before
@@ -29,7 +29,7 @@ module _ {P : Type 0} (into : Piece → P) where
   AreWritten before g None = ⊤
   AreWritten before g (Some atoms) = atoms_behind into atoms before ≡ guard_behind into g before
 
-  -- an atom is written as what was read
+  -- an atom is written as the pieces read
   abbrev pub AtomWritten : List P → List P → Option Atom → Type 0
   AtomWritten before written None = ⊤
   AtomWritten before written (Some a) = atom_behind into a before ≡ written
@@ -64,7 +64,7 @@ module _ {P : Type 0} (into : Piece → P) where
       all [] (MinusAfter s) product n operand = tt
       all (l ∷ outer) sum product n operand = tt
 
-  -- the atoms that an atom completes are written behind those before it
+  -- the atoms that an atom completes are written after the atoms before it
   with_written : (c : Conjoined) (a : Atom) (before : List P) → atoms_behind into (atoms_with c a) before ≡ atom_behind into a (conjoined_behind into c before)
   with_written NoAtoms a before = refl
   with_written (JointAfter atoms joint) a before = refl
@@ -78,7 +78,7 @@ module _ {P : Type 0} (into : Piece → P) where
   compared_written l sign None e before w = tt
   compared_written l sign (Some r) e before w = w
 
-  -- a guard that ends is written as what was read of it
+  -- a guard that ends is written as the pieces read
   pub guard_finish_written : (g : GuardFront) (before : List P) → AreWritten before g (finish g)
   guard_finish_written (LeftSide c e) before = ended_written c (truth_of e) before _ (truth_written e (conjoined_behind into c before)) (LeftSide c e) refl
   guard_finish_written (RightSide c l sign e) before =
@@ -123,6 +123,6 @@ module _ {P : Type 0} (into : Piece → P) where
   within_adds (LeftSide c e) None p before w = step_behind_adds (LeftSide c e) p before
   within_adds (RightSide c l sign e) None p before w = step_behind_adds (RightSide c l sign e) p before
 
-  -- each piece of a guard that is read is written last in the new front
+  -- each piece of a guard that is read is written last in the new state
   pub guard_step_adds : (g : GuardFront) (p : Piece) (before : List P) → GuardAdds before g p (step g p)
   guard_step_adds g p before = within_adds g (inner.step (expression_in g) p) p before (λ base. step_adds into (expression_in g) p base)

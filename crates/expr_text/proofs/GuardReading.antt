@@ -1,4 +1,4 @@
--- Each guard can be read: its pieces lead from front to front, within any text whose fronts follow a guard's.
+-- Each guard can be read: its pieces lead from state to state, within any text whose states follow a guard's.
 use Rattle.std.specs.Prelude.{◌≡◌, List, [], ◌∷◌, Some, refl}
 use Rattle.std.proofs.Common.{ap}
 use Rattle.expr_text.specs.Pieces.{Piece, Word, Related, Joining}
@@ -12,7 +12,7 @@ use Rattle.expr_text.specs.GuardFronts.{atoms_with, compared, ended, finish, wit
 use Rattle.expr_text.proofs.Ending.{related_step, joining_step}
 use Rattle.expr_text.proofs.Reading.{behind_sum, sum_finish, expression_is_read}
 
--- the front behind an atom, and behind atoms
+-- the state after an atom, and after atoms
 abbrev pub behind_atom : Conjoined → Atom → GuardFront
 behind_atom c (Always t) = LeftSide c (inner.read [] empty_level (Named (truth_word t)))
 behind_atom c (Compared l sign r) = RightSide c l sign (behind_sum [] r)
@@ -26,12 +26,12 @@ atom_finish c (Always Capitals) = refl
 atom_finish c (Always Smalls) = refl
 atom_finish c (Compared l sign r) = ap (λ o. ended c (compared l sign o)) (sum_finish r)
 
--- the guard can end behind them
+-- the guard can end after its atoms
 pub atoms_finish : (atoms : Atoms) → finish (behind_atoms atoms) ≡ Some atoms
 atoms_finish (First a) = atom_finish NoAtoms a
 atoms_finish (Joined atoms joint a) = atom_finish (JointAfter atoms joint) a
 
--- a text is at a guard's front behind some pieces, and each piece that continues the guard leads to such a front
+-- a text is in a guard's state after some pieces, and each piece that continues the guard leads to such a state
 module _ {P : Type 0} (into : Piece → P) (At : List P → GuardFront → Type 0)
     (steps : (done : List P) (g h : GuardFront) (p : Piece) → At done g → step g p ≡ Some h → At (into p ∷ done) h) where
   atom_from : (c : Conjoined) (a : Atom) (done : List P) → At done (LeftSide c beginning) → At (atom_behind into a done) (behind_atom c a)

@@ -1,5 +1,5 @@
--- An exponent over the limit on degrees counts as the one behind it: that changes no refusal, since a power with either fails
--- at that one, and it changes no expression that can be expanded.
+-- An exponent over the limit on degrees may be replaced by the limit plus one: that changes no refusal, since a power
+-- with either is refused alike, and it changes no expression that can be expanded.
 use Rattle.std.proofs.Common.{◌≡◌, ℕ, zero, suc, ◌≤◌, min, Bool, true, false, if◌then◌else◌, ◌||◌, nat_lt, List, []}
 use Rattle.std.proofs.Common.{◌∷◌, ◌++◌, length, Option, Some, None, refl, ap, sym, subst, ◌∙◌, inl, inr, arith}
 use Rattle.std.specs.Prelude.{◌⊎◌}
@@ -44,7 +44,7 @@ binary C parts lim d e hd he = subst (Holds (C d e)) (sym (parts d e)) (go (firs
         ∙ (ap (λ a. or_else a (or_else (first_fault (limited e)) (fault_of (C (limited d) (limited e))))) (ap first_fault hd ∙ p)
         ∙ ap (λ b. or_else b (fault_of (C (limited d) (limited e)))) he))
 
--- a power with the exponent behind the limit has a fault
+-- a power with the limit plus one as exponent has a fault
 nine_in : (p : Polynomial) → (y : Fault) × (fault_in p 9 ≡ Some y)
 nine_in p = go (has_large p) (nat_lt 64 (length p))
   where
@@ -129,6 +129,6 @@ limited_fault t = go (first_fault t) refl (holds t)
 pub limited_itself : (t : Term) → first_fault t ≡ None → limited t ≡ t
 limited_itself t is = subst (Holds t) is (holds t)
 
--- limiting its exponents changes neither how an expression is refused nor one that isn't refused
+-- limiting the exponents of an expression changes neither its refusal nor an expression that isn't refused
 pub limited_alike : LimitedAlike
 limited_alike = record { refused = limited_fault; itself = limited_itself }

@@ -16,11 +16,11 @@ Extends names more = (new : List Name) × (more ≡ names ++ new)
 pub extends_self : (names : List Name) → Extends names names
 extends_self names = ([], sym (append-nil names))
 
--- the names of an expression are among those that its own extend to, and so its term is what it was
+-- the names of an expression are among those of an extension, so its term is unchanged
 pub sum_along : (names more : List Name) (s : Sum) → Extends names more → SumReads names s → SumReads more s
 sum_along names more s e h = subst (λ ns. SumReads ns s) (sym e.1) (sum_reads_more names e.0 s h)
 
--- the term of an expression is the same over any names to which its own extend
+-- the term of an expression is the same over an extension of its names
 pub term_along : (names more : List Name) (s : Sum) → Extends names more → SumReads names s
     → sum_term more s ≡ sum_term names s
 term_along names more s e h = ap (λ ns. sum_term ns s) e.1 ∙ sum_term_stays names e.0 s h

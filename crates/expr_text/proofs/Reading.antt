@@ -1,4 +1,4 @@
--- Each expression can be read: its pieces lead from front to front, within any text whose fronts follow an expression's.
+-- Each expression can be read: its pieces lead from state to state, within any text whose states follow its states.
 use Rattle.std.specs.Prelude.{◌≡◌, ℕ, suc, List, [], ◌∷◌, Option, Some, refl}
 use Rattle.expr_text.specs.Pieces.{Piece, Word, Digits, Open, Close, Plus, Minus, Times, Caret}
 use Rattle.expr_text.specs.Trees.{Sum, Alone, Added, Subtracted, Product, Single, Multiplied, Factor, Plain, Raised}
@@ -12,13 +12,13 @@ use Rattle.expr_text.specs.Steps.{wanted, read, step_behind, step, finish}
 abbrev pub at_level : Summed → Factored → ℕ → Level
 at_level sum product n = record { sum = sum; product = product; minuses = n }
 
--- the front behind a factor, with this many `-` before it
+-- the state after a factor, with this many `-` before it
 abbrev pub behind_factor : List Level → Summed → Factored → ℕ → Factor → Front
 behind_factor outer sum product n (Plain b) = record { outer = outer; level = at_level sum product n; operand = BaseRead b }
 behind_factor outer sum product n (Raised b digits) = record { outer = outer; level = at_level sum product n; operand = ExponentRead b digits }
 behind_factor outer sum product n (Negated f) = behind_factor outer sum product (suc n) f
 
--- the front behind a product and behind a sum
+-- the state after a product and after a sum
 abbrev pub behind_product : List Level → Summed → Product → Front
 behind_product outer sum (Single f) = behind_factor outer sum NoProduct 0 f
 behind_product outer sum (Multiplied p f) = behind_factor outer sum (TimesAfter p) 0 f
@@ -28,7 +28,7 @@ behind_sum outer (Alone p) = behind_product outer NoSum p
 behind_sum outer (Added s p) = behind_product outer (PlusAfter s) p
 behind_sum outer (Subtracted s p) = behind_product outer (MinusAfter s) p
 
--- what a piece does behind a factor doesn't ask for its exponent
+-- the step from after a factor doesn't depend on the factor's exponent
 abbrev pub goes_behind : List Level → Summed → Factored → ℕ → Factor → Piece → Option Front
 goes_behind outer sum product n f p = step_behind outer (at_level sum product n) f p
 
@@ -62,7 +62,7 @@ finish_behind sum product n (Plain b) = refl
 finish_behind sum product n (Raised b digits) = refl
 finish_behind sum product n (Negated f) = finish_behind sum product (suc n) f
 
--- the same behind a product and a sum
+-- after a product, and after a sum, `*` leads to the same state as after their last factor
 product_times : (outer : List Level) (sum : Summed) (p : Product) → step (behind_product outer sum p) Times ≡ Some (wanted outer sum (TimesAfter p))
 product_times outer sum (Single f) = times_behind outer sum NoProduct 0 f
 product_times outer sum (Multiplied p f) = times_behind outer sum (TimesAfter p) 0 f
@@ -98,18 +98,18 @@ sum_close level outer (Alone p) = product_close level outer NoSum p
 sum_close level outer (Added s p) = product_close level outer (PlusAfter s) p
 sum_close level outer (Subtracted s p) = product_close level outer (MinusAfter s) p
 
--- the expression can end behind it
+-- the expression can end after a sum
 pub sum_finish : (s : Sum) → finish (behind_sum [] s) ≡ Some s
 sum_finish (Alone p) = product_finish NoSum p
 sum_finish (Added s p) = product_finish (PlusAfter s) p
 sum_finish (Subtracted s p) = product_finish (MinusAfter s) p
 
--- a text is at an expression's front behind some pieces, and each piece that continues the expression leads to such a
--- front
+-- a text is in an expression's state after some pieces, and each piece that continues the expression leads to such a
+-- state
 module _ {P : Type 0} (into : Piece → P) (At : List P → Front → Type 0)
     (steps : (done : List P) (e g : Front) (p : Piece) → At done e → step e p ≡ Some g → At (into p ∷ done) g) where
   mutual
-    -- the pieces of a sum lead behind it
+    -- the pieces of a sum lead to the state after it
     sum_from : (s : Sum) (outer : List Level) (done : List P) → At done (wanted outer NoSum NoProduct) → At (sum_behind into s done) (behind_sum outer s)
     sum_from (Alone p) outer done h = product_from p outer NoSum done h
     sum_from (Added s p) outer done h =

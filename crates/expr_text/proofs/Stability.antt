@@ -19,7 +19,7 @@ among_more n (m ∷ names) more h = go (is_same n m) h (λ e. among_more n names
     go true e others = refl
     go false e others = others e
 
--- and it is at the same position
+-- a name keeps its position in an extension
 pub position_stays : (n : Name) (names more : List Name) → is_among n names ≡ true → position_of n (names ++ more) ≡ position_of n names
 position_stays n [] more h = cc
 position_stays n (m ∷ names) more h = go (is_same n m) refl h (λ e. position_stays n names more e)
@@ -54,7 +54,7 @@ name_extends names n = go (is_among n names)
     go true = ([], sym (append-nil names))
     go false = (n ∷ [], refl)
 
--- one extension behind another
+-- an extension of an extension
 pub extended : (names middle last : List Name) → (a : (new : List Name) × (middle ≡ names ++ new)) → (b : (new : List Name) × (last ≡ middle ++ new)) → (new : List Name) × (last ≡ names ++ new)
 extended names middle last a b = (a.0 ++ b.0, b.1 ∙ (ap (λ ns. ns ++ b.0) a.1 ∙ append_assoc names a.0 b.0))
 
@@ -125,7 +125,7 @@ mutual
   base_reads_more names more (Named n) h = among_more n names more h
   base_reads_more names more (Bracketed s) h = sum_reads_more names more s h
 
--- what is among names is among those that they extend to
+-- the names of an expression are among those of an extension
 sum_reads_with : (names middle last : List Name) (s : Sum) → (e : (new : List Name) × (last ≡ middle ++ new)) → SumReads middle s → SumReads last s
 sum_reads_with names middle last s e h = subst (λ ns. SumReads ns s) (sym e.1) (sum_reads_more middle e.0 s h)
 

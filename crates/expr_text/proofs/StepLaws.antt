@@ -1,4 +1,4 @@
--- Each piece that is read is written last in the new front, so a front is written as exactly the pieces that were read.
+-- Each piece that is read is written last in the new state, so a state is written as exactly the pieces that were read.
 use Rattle.std.specs.Prelude.{◌≡◌, ℕ, zero, suc, List, [], ◌∷◌, Option, Some, None, ⊤, refl}
 use Rattle.std.proofs.Common.{ap}
 use Rattle.expr_text.specs.Pieces.{Piece, Word, Digits, Open, Close, Plus, Minus, Times, Caret, Related, Joining}
@@ -10,7 +10,7 @@ use Rattle.expr_text.specs.Fronts.{product_with, sum_made}
 use Rattle.expr_text.specs.Steps.{closed, step_behind, step_from, step, finish_from, finish}
 
 module _ {P : Type 0} (into : Piece → P) where
-  -- the pieces of a factor behind this many `-`
+  -- the pieces of a factor after this many `-`
   pub negated_pieces : (n : ℕ) (f : Factor) (before : List P) → factor_behind into (negated n f) before ≡ factor_behind into f (minuses_behind into n before)
   negated_pieces zero f before = refl
   negated_pieces (suc n) f before = negated_pieces n (Negated f) before
@@ -29,17 +29,17 @@ module _ {P : Type 0} (into : Piece → P) where
   sum_pieces (PlusAfter s) product n f before = product_pieces product n f (into Plus ∷ sum_behind into s before)
   sum_pieces (MinusAfter s) product n f before = product_pieces product n f (into Minus ∷ sum_behind into s before)
 
-  -- a front that a piece leads to is written with the piece behind
+  -- the pieces of the state after a piece are those before and this one
   abbrev pub Adds : List P → Front → Piece → Option Front → Type 0
   Adds before f p None = ⊤
   Adds before f p (Some g) = front_behind into g before ≡ into p ∷ front_behind into f before
 
-  -- an expression is written as the front that it ends
+  -- an expression is written as the pieces of the state that it ends
   abbrev pub IsWritten : List P → Front → Option Sum → Type 0
   IsWritten before f None = ⊤
   IsWritten before f (Some s) = sum_behind into s before ≡ front_behind into f before
 
-  -- what is written of a front with a factor
+  -- the pieces of a state with a factor
   abbrev pub factor_pieces : List Level → Level → Factor → List P → List P
   factor_pieces outer level f before = factor_behind into f (level_behind into level (outer_behind into outer before))
 
@@ -63,7 +63,7 @@ module _ {P : Type 0} (into : Piece → P) where
   step_behind_adds outer level f (Related sign) before = tt
   step_behind_adds outer level f (Joining joint) before = tt
 
-  -- each piece that is read is written last in the new front
+  -- each piece that is read is written last in the new state
   step_from_adds : (outer : List Level) (level : Level) (operand : Operand) (p : Piece) (before : List P) →
       Adds before (record { outer = outer; level = level; operand = operand }) p (step_from outer level operand p)
   step_from_adds outer level Wanted (Digits ds) before = refl
@@ -98,7 +98,7 @@ module _ {P : Type 0} (into : Piece → P) where
   step_from_adds outer level (CaretRead b) (Joining joint) before = tt
   step_from_adds outer level (ExponentRead b ds) p before = step_behind_adds outer level (Raised b ds) p before
 
-  -- a front that a piece leads to is written as the front before it with the piece behind
+  -- the pieces of the state after a piece are those before and this one
   pub step_adds : (f : Front) (p : Piece) (before : List P) → Adds before f p (step f p)
   step_adds f p before = step_from_adds f.outer f.level f.operand p before
 
@@ -110,6 +110,6 @@ module _ {P : Type 0} (into : Piece → P) where
   finish_from_written [] level (ExponentRead b ds) before = sum_pieces level.sum level.product level.minuses (Raised b ds) before
   finish_from_written (l ∷ outer) level operand before = tt
 
-  -- an expression that ends is written as what was read of it
+  -- an expression that ends is written as the pieces read
   pub finish_written : (f : Front) (before : List P) → IsWritten before f (finish f)
   finish_written f before = finish_from_written f.outer f.level f.operand before

@@ -1,4 +1,4 @@
--- The variables of what has been read, and the number of its tokens.
+-- The variables among the pieces read so far, and the number of their tokens.
 use Rattle.std.specs.Prelude.{ℕ, Bool, true, false, ◌||◌, codes, List, [], ◌∷◌, length, Option, Some, None}
 use Rattle.its_model.specs.model.Programs.{Name}
 use Rattle.its_model.specs.text_core.Names.{is_same}
@@ -61,11 +61,11 @@ abbrev pub is_front : Option Front → Bool
 is_front None = false
 is_front (Some f) = true
 
--- whether a piece goes on with an expression
+-- whether a piece continues an expression
 abbrev pub goes_on_with : Front → Piece → Bool
 goes_on_with f p = is_front (inner.step f p)
 
--- whether a piece stands for an operator or a relation, so that the word before it is a name
+-- whether a piece is an operator or a relation, so that the word before it is a name
 abbrev pub operates : Piece → Bool
 operates Plus = true
 operates Minus = true

@@ -4,38 +4,38 @@ use Rattle.expr_text.specs.Pieces.{Piece, Digits, Open, Plus, Minus, Times, Care
 use Rattle.expr_text.specs.Trees.{Sum, Alone, Added, Subtracted, Product, Single, Multiplied, Factor, Negated, Base}
 use Rattle.expr_text.specs.Trees.{sum_behind, product_behind, base_behind}
 
--- what comes before a product inside its brackets: nothing, or a sum and its operator
+-- the part before a product inside its brackets: nothing, or a sum and its operator
 pub data Summed : Type 0 where
   NoSum : Summed
   PlusAfter : Sum → Summed
   MinusAfter : Sum → Summed
 
--- what comes before a factor in its product: nothing, or a product and a `*`
+-- the part before a factor in its product: nothing, or a product and a `*`
 pub data Factored : Type 0 where
   NoProduct : Factored
   TimesAfter : Product → Factored
 
--- what comes before an operand inside its brackets: a sum, a product, and a number of `-`
+-- the parts before an operand inside its brackets: a sum, a product, and a number of `-`
 pub record Level : Type 0 where
   pub sum : Summed
   pub product : Factored
   pub minuses : ℕ
 
--- what was read last: what an operand can follow, a base, its `^`, or its exponent
+-- the part of an operand that was read last: nothing, a base, its `^`, or its exponent
 pub data Operand : Type 0 where
   Wanted : Operand
   BaseRead : Base → Operand
   CaretRead : Base → Operand
   ExponentRead : Base → List ℕ → Operand
 
--- the state of parsing an expression: what comes before each open bracket, the innermost first; what comes before the
+-- the state of parsing an expression: the parts before each open bracket, the innermost first; the parts before the
 -- operand; and the part of the operand that was read last
 pub record Front : Type 0 where
   pub outer : List Level
   pub level : Level
   pub operand : Operand
 
--- nothing comes before an operand
+-- no part comes before an operand
 abbrev pub empty_level : Level
 empty_level = record { sum = NoSum; product = NoProduct; minuses = 0 }
 
@@ -43,7 +43,7 @@ empty_level = record { sum = NoSum; product = NoProduct; minuses = 0 }
 abbrev pub beginning : Front
 beginning = record { outer = []; level = empty_level; operand = Wanted }
 
--- the pieces of each part behind those that come before it, the last one first
+-- the pieces of each part after those before it, the last one first
 module _ {P : Type 0} (into : Piece → P) where
   abbrev pub summed_behind : Summed → List P → List P
   summed_behind NoSum before = before
@@ -74,7 +74,7 @@ module _ {P : Type 0} (into : Piece → P) where
   abbrev pub front_behind : Front → List P → List P
   front_behind f before = operand_behind f.operand (level_behind f.level (outer_behind f.outer before))
 
--- a factor behind this many `-`
+-- a factor after this many `-`
 abbrev pub negated : ℕ → Factor → Factor
 negated zero f = f
 negated (suc n) f = negated n (Negated f)

@@ -9,7 +9,7 @@ use Rattle.expr_text.specs.Fronts.{front_behind}
 use Rattle.expr_text.specs.Steps as inner
 use Rattle.expr_text.specs.Guards.{Capitals, Smalls, Atom, Always, Compared, Atoms, First, Joined, atoms_behind}
 
--- what comes before an atom: nothing, or atoms and a conjunction sign
+-- the part before an atom: nothing, or atoms and a conjunction sign
 pub data Conjoined : Type 0 where
   NoAtoms : Conjoined
   JointAfter : Atoms → Joint → Conjoined
@@ -24,7 +24,7 @@ abbrev pub no_atoms : GuardFront
 no_atoms = LeftSide NoAtoms beginning
 
 module _ {P : Type 0} (into : Piece → P) where
-  -- the pieces behind those that come before, the last one first
+  -- the pieces after those before them, the last one first
   abbrev pub conjoined_behind : Conjoined → List P → List P
   conjoined_behind NoAtoms before = before
   conjoined_behind (JointAfter atoms joint) before = into (Joining joint) ∷ atoms_behind into atoms before
@@ -72,24 +72,24 @@ abbrev pub finish : GuardFront → Option Atoms
 finish (LeftSide c e) = ended c (truth_of e)
 finish (RightSide c l sign e) = ended c (compared l sign (inner.finish e))
 
--- the next atom is wanted behind atoms, where those can end
+-- the state after atoms and a conjunction sign, if the atoms can end there
 abbrev pub joined : Joint → Option Atoms → Option GuardFront
 joined joint None = None
 joined joint (Some atoms) = Some (LeftSide (JointAfter atoms joint) beginning)
 
--- the right side is wanted behind the left one, where that can end
+-- the state after a left side and a relation, if the left side can end there
 abbrev pub related : Conjoined → Sign → Option Sum → Option GuardFront
 related c sign None = None
 related c sign (Some l) = Some (RightSide c l sign beginning)
 
--- where a piece leads that doesn't go on with the expression
+-- the state after a piece that doesn't continue the expression
 abbrev pub step_behind : GuardFront → Piece → Option GuardFront
 step_behind (LeftSide c e) (Related sign) = related c sign (inner.finish e)
 step_behind (RightSide c l sign e) (Related other) = None
 step_behind g (Joining joint) = joined joint (finish g)
 step_behind g _ = None
 
--- where a piece leads: within the expression, where it goes on with it
+-- the state after a piece that continues the expression, or doesn't
 abbrev pub within : GuardFront → Option Front → Piece → Option GuardFront
 within (LeftSide c e) (Some more) p = Some (LeftSide c more)
 within (RightSide c l sign e) (Some more) p = Some (RightSide c l sign more)
@@ -100,6 +100,6 @@ abbrev pub expression_in : GuardFront → Front
 expression_in (LeftSide c e) = e
 expression_in (RightSide c l sign e) = e
 
--- where a piece leads
+-- the state after a piece
 abbrev pub step : GuardFront → Piece → Option GuardFront
 step g p = within g (inner.step (expression_in g) p) p

@@ -17,7 +17,7 @@ pub data Atom : Type 0 where
   Always : Truth → Atom
   Compared : Sum → Sign → Sum → Atom
 
--- one atom or more, with what joins them, from the left
+-- one atom or more, with conjunction signs between them, from the left
 pub data Atoms : Type 0 where
   First : Atom → Atoms
   Joined : Atoms → Joint → Atom → Atoms
@@ -28,12 +28,12 @@ truth_word Capitals = codes "TRUE"
 truth_word Smalls = codes "true"
 
 module _ {P : Type 0} (into : Piece → P) where
-  -- the pieces of an atom behind those that come before it, the last one first
+  -- the pieces of an atom after those that come before it, the last one first
   abbrev pub atom_behind : Atom → List P → List P
   atom_behind (Always t) before = into (Word (truth_word t)) ∷ before
   atom_behind (Compared l sign r) before = sum_behind into r (into (Related sign) ∷ sum_behind into l before)
 
-  -- the pieces of atoms behind those that come before them, the last one first
+  -- the pieces of atoms after those that come before them, the last one first
   abbrev pub atoms_behind : Atoms → List P → List P
   atoms_behind (First a) before = atom_behind a before
   atoms_behind (Joined atoms joint a) before = atom_behind a (into (Joining joint) ∷ atoms_behind atoms before)
@@ -43,7 +43,7 @@ abbrev pub count_of : Atoms → ℕ
 count_of (First a) = 1
 count_of (Joined atoms joint a) = suc (count_of atoms)
 
--- what a sign says
+-- the relation that a sign denotes
 abbrev pub relation_of : Sign → Relation
 relation_of AtLeastSign = AtLeast
 relation_of MoreThanSign = MoreThan

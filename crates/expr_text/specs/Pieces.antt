@@ -16,7 +16,7 @@ pub data Joint : Type 0 where
   Ampersands : Joint
   Wedge : Joint
 
--- a piece: a name, a row of digits, a bracket, an operator, a relation, or what joins atoms
+-- a piece: a name, a row of digits, a bracket, an operator, a relation, or a conjunction sign
 pub data Piece : Type 0 where
   Word : Name → Piece
   Digits : List ℕ → Piece

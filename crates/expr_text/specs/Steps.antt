@@ -6,7 +6,7 @@ use Rattle.expr_text.specs.Fronts.{Summed, PlusAfter, MinusAfter, Factored, NoPr
 use Rattle.expr_text.specs.Fronts.{Wanted, BaseRead, CaretRead, ExponentRead, Front, empty_level, product_made}
 use Rattle.expr_text.specs.Fronts.{sum_made}
 
--- an operand is wanted behind a sum and a product
+-- the state that expects an operand, after a sum and a product
 abbrev pub wanted : List Level → Summed → Factored → Front
 wanted outer sum product =
     record { outer = outer; level = record { sum = sum; product = product; minuses = 0 }; operand = Wanted }
@@ -15,12 +15,12 @@ wanted outer sum product =
 abbrev pub read : List Level → Level → Base → Front
 read outer level b = record { outer = outer; level = level; operand = BaseRead b }
 
--- the innermost bracket closes behind an expression
+-- the state after the innermost bracket closes on an expression
 abbrev pub closed : List Level → Sum → Option Front
 closed [] s = None
 closed (level ∷ outer) s = Some (read outer level (Bracketed s))
 
--- where a piece leads behind a factor
+-- the state after a piece that follows a factor
 abbrev pub step_behind : List Level → Level → Factor → Piece → Option Front
 step_behind outer level f Times = Some (wanted outer level.sum (TimesAfter (product_made level f)))
 step_behind outer level f Plus = Some (wanted outer (PlusAfter (sum_made level f)) NoProduct)
@@ -28,7 +28,7 @@ step_behind outer level f Minus = Some (wanted outer (MinusAfter (sum_made level
 step_behind outer level f Close = closed outer (sum_made level f)
 step_behind outer level f _ = None
 
--- where a piece leads from an operand
+-- the state after a piece, by the part of the operand that was read last
 abbrev pub step_from : List Level → Level → Operand → Piece → Option Front
 step_from outer level Wanted (Digits digits) = Some (read outer level (Number digits))
 step_from outer level Wanted (Word name) = Some (read outer level (Named name))
@@ -51,7 +51,7 @@ step_from outer level (CaretRead b) (Digits digits) =
 step_from outer level (CaretRead b) _ = None
 step_from outer level (ExponentRead b digits) p = step_behind outer level (Raised b digits) p
 
--- where a piece leads
+-- the state after a piece
 abbrev pub step : Front → Piece → Option Front
 step f p = step_from f.outer f.level f.operand p
 

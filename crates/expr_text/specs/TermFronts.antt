@@ -9,8 +9,8 @@ use Rattle.expr_text.specs.Terms.{number_of, sum_term, product_term, base_term}
 use Rattle.expr_text.specs.Fronts as written
 use Rattle.expr_text.specs.FrontNames.{begins_expression}
 
--- an exponent over the limit on degrees counts as the one behind it: no program has one, and each is refused as that
--- one is
+-- an exponent over the limit on degrees is replaced by the limit plus one: no program has such an exponent, and both
+-- are refused alike
 abbrev pub limited : Term → Term
 limited (Literal z) = Literal z
 limited (Variable i) = Variable i
@@ -20,7 +20,7 @@ limited (Subtraction d e) = Subtraction (limited d) (limited e)
 limited (Multiplication d e) = Multiplication (limited d) (limited e)
 limited (Exponentiation e n) = Exponentiation (limited e) (min n (degree_limit + 1))
 
--- what stands before a product, and before a factor
+-- the parts before a product, and before a factor
 pub data Summed : Type 0 where
   NoSum : Summed
   PlusAfter : Term → Summed
@@ -35,21 +35,21 @@ pub record Level : Type 0 where
   pub product : Factored
   pub minuses : ℕ
 
--- what was read last
+-- the part of an operand that was read last
 pub data Operand : Type 0 where
   Wanted : Operand
   BaseRead : Term → Operand
   CaretRead : Term → Operand
   ExponentRead : Term → ℕ → Operand
 
--- the part that has been read: what stands before each open bracket, the innermost last, what stands before the
--- operand, and the operand
+-- the state of parsing: the parts before each open bracket, the innermost last; the parts before the operand; and the
+-- operand
 pub record Front : Type 0 where
   pub outer : List Level
   pub level : Level
   pub operand : Operand
 
--- what a written front is as terms over variables with these names
+-- a written state as terms over variables with these names
 module _ (names : List Name) where
   abbrev pub summed_terms : written.Summed → Summed
   summed_terms written.NoSum = NoSum
@@ -78,7 +78,7 @@ module _ (names : List Name) where
         operand = operand_terms f.operand;
       }
 
--- a term behind so many `-`
+-- a term after this many `-`
 abbrev pub negated : ℕ → Term → Term
 negated zero t = t
 negated (suc n) t = negated n (Negation t)
@@ -107,19 +107,19 @@ product_made l o = product_with l.product (negated l.minuses (factor_in o))
 abbrev pub sum_made : Level → Operand → Term
 sum_made l o = sum_with l.sum (product_made l o)
 
--- nothing stands before an operand
+-- no part comes before an operand
 abbrev pub empty_level : Level
 empty_level = record { sum = NoSum; product = NoProduct; minuses = 0 }
 
--- what a number makes of an operand: an exponent behind `^`, and elsewhere a literal, where a number over the limit on
--- degrees, or on coefficients, counts as the one behind it
+-- the operand after a number: an exponent after `^`, and elsewhere a literal; a number over the limit on degrees, or
+-- on coefficients, is replaced by the limit plus one
 abbrev pub with_number : Operand → ℕ → Operand
 with_number (CaretRead t) n = ExponentRead t (min n (degree_limit + 1))
 with_number Wanted n = BaseRead (Literal (pos (min n (coefficient_limit + 1))))
 with_number (BaseRead t) n = BaseRead (Literal (pos (min n (coefficient_limit + 1))))
 with_number (ExponentRead t k) n = BaseRead (Literal (pos (min n (coefficient_limit + 1))))
 
--- what digits or a `^` make of it
+-- the operand after digits or a `^`
 abbrev pub with_digits : Operand → List ℕ → Operand
 with_digits operand digits = with_number operand (number_of digits)
 
@@ -141,7 +141,7 @@ abbrev pub is_empty : List Level → Bool
 is_empty [] = true
 is_empty (l ∷ levels) = false
 
--- whether a piece goes on behind a factor, and from an operand
+-- whether a piece continues the expression after a factor, and after any part of an operand
 abbrev pub goes_on_behind : List Level → Piece → Bool
 goes_on_behind outer Plus = true
 goes_on_behind outer Minus = true

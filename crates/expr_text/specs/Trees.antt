@@ -15,7 +15,7 @@ mutual
     Single : Factor → Product
     Multiplied : Product → Factor → Product
 
-  -- a base, a base with an exponent, or a factor behind a `-`
+  -- a base, a base with an exponent, or a factor after a `-`
   pub data Factor : Type 0 where
     Plain : Base → Factor
     Raised : Base → List ℕ → Factor
@@ -30,24 +30,24 @@ mutual
 -- an expression among the pieces of a larger text: `into` maps each of its pieces to one of the larger text
 module _ {P : Type 0} (into : Piece → P) where
   abbrev mutual
-    -- the pieces of an expression behind those that come before it, the last one first
+    -- the pieces of an expression after those that come before it, the last one first
     pub sum_behind : Sum → List P → List P
     sum_behind (Alone p) before = product_behind p before
     sum_behind (Added s p) before = product_behind p (into Plus ∷ sum_behind s before)
     sum_behind (Subtracted s p) before = product_behind p (into Minus ∷ sum_behind s before)
 
-    -- those of a product
+    -- the pieces of a product, put before others
     pub product_behind : Product → List P → List P
     product_behind (Single f) before = factor_behind f before
     product_behind (Multiplied p f) before = factor_behind f (into Times ∷ product_behind p before)
 
-    -- those of a factor
+    -- the pieces of a factor, put before others
     pub factor_behind : Factor → List P → List P
     factor_behind (Plain b) before = base_behind b before
     factor_behind (Raised b digits) before = into (Digits digits) ∷ into Caret ∷ base_behind b before
     factor_behind (Negated f) before = factor_behind f (into Minus ∷ before)
 
-    -- those of a base
+    -- the pieces of a base, put before others
     pub base_behind : Base → List P → List P
     base_behind (Number digits) before = into (Digits digits) ∷ before
     base_behind (Named name) before = into (Word name) ∷ before

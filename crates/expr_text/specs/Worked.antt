@@ -23,11 +23,11 @@ abbrev pub ended : Option Front → Option Sum
 ended None = None
 ended (Some f) = expression.finish f
 
--- what pieces are as an expression, where they are one
+-- the expression of these pieces, if they are one
 abbrev pub read_as : List Piece → Option Term
 read_as ps = term_alone (ended (walk expression.step (Some beginning) ps))
 
--- what pieces are as a guard, where they are one
+-- the guard of these pieces, if they are one
 abbrev pub atoms_alone : Option Atoms → Option (List plain.Atom)
 atoms_alone None = None
 atoms_alone (Some atoms) = Some (atoms_terms (with_atoms [] atoms) atoms)

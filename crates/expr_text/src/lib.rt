@@ -1,9 +1,9 @@
 //! How expressions and guards are written: the pieces of their texts, their trees, the terms of `model` that these
-//! mean, and the state of parsing behind each piece.
+//! denote, and the state of parsing after each piece.
 //!
-//! Builds on `its_model`. Main guarantee: small texts are as worked out by hand (`worked_values_hold`), and limiting
-//! exponents changes no refusal (`limited_alike`); the lemmas of `proofs` show that each expression and each guard can
-//! be read, that what was read is what is written, and that each beginning can be completed.
+//! Builds on `its_model`. Main guarantee: small texts have the values worked out by hand (`worked_values_hold`), and
+//! limiting exponents changes no refusal (`limited_alike`); the lemmas of `proofs` show that each expression and each
+//! guard can be read, that what was read is what is written, and that each beginning can be completed.
 #![tactic(auto)]
 
 mod law;

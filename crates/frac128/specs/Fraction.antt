@@ -16,7 +16,7 @@ abbrev pub IsExactOrRange : Result Frac Range → List ℤ → ℤ → ℤ → T
 IsExactOrRange result numbers over under =
     MatchResult result (λ f. AreNarrow numbers × IsFraction f over under) (λ _. ¬ AreNarrow numbers)
 
--- the same for a comparison: the order of left and right where both are within the limit
+-- the call compares: it answers the order of left and right if both are within the limit, and Range if one isn't
 abbrev pub IsOrderOrRange : Result Ordering Range → ℤ → ℤ → Type 0
 IsOrderOrRange result left right =
     MatchResult result (λ order. AreNarrow (left ∷ right ∷ []) × (order ≡ int_cmp left right))

@@ -23,12 +23,12 @@ zero_is_lowest k divides_zero divides_one = eq-one_of_dvd-one divides_one
 pub zero : Frac
 zero = record { num = pos 0; den = pos 1; narrow = zero_is_narrow; positive = one_is_positive; lowest = zero_is_lowest }
 
--- its numerator is 0
+-- the numerator of 0 is 0
 pub zero-num : zero.num ≡ pos 0
 unfolding zero
 zero-num = refl
 
--- its denominator is 1
+-- the denominator of 0 is 1
 pub zero-den : zero.den ≡ pos 1
 unfolding zero
 zero-den = refl

@@ -155,7 +155,7 @@ small-numbers n f h = record { coefs = each f.coefs h.coefs; constant = omega (a
     each [] k = All-nil (λ (x : ℤ). nat_abs x < row_limit)
     each (x ∷ xs) k = All-cons (λ (a : ℤ). nat_abs a < row_limit) x xs (omega (arith, k.0)) (each xs k.1)
 
--- the same for all small forms of a list
+-- each small form of a list has numbers below 2^63
 all-numbers : (n : ℕ) (fs : List Form) → AllByRecursion (IsSmallForm n) fs → All HasRowNumbers fs
 all-numbers n [] h = All-nil HasRowNumbers
 all-numbers n (f ∷ fs) h = All-cons HasRowNumbers f fs (small-numbers n f h.0) (all-numbers n fs h.1)

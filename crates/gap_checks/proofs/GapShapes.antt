@@ -32,7 +32,7 @@ module _ (p : Program) (prepared_rules : List RuleRows) (rows : AreRowsOf prepar
     pub shape-set : HasGapShape p (forms_at p) (gap_of g) → IsGapSet p (gap_of g)
     shape-set h = record { ascending = h.ascending; rules = in-each (IsRule p) g.set.items h.rules; inside = h.inside }
 
-    -- and so are the points
+    -- where the shape is right, so are the points: the moves, the kept points and the floor
     pub shape-moves : HasGapShape p (forms_at p) (gap_of g) → HaveGapPoints prepared_rules g.set.items g.moves.items
     shape-moves h = (
       sym (length-map g.moves.items scaled_of) ∙ h.one_move,

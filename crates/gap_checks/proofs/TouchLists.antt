@@ -95,7 +95,7 @@ module _ (rule : ℕ → RuleForms) (set : List ℕ) where
   touches-count (suc n) i = omega (arith, touches-count n (i + 1))
 
   module _ (ts : List Touch) (h : AreTouches rule set ts) where
-    -- the same for those in order
+    -- each element of the list in order is of a rule of the set
     pub touch-real : (k : ℕ) (d : Touch) → k < length ts → IsTouchOf rule set (get_or ts k d)
     touch-real k d l =
         All-get_or (IsTouchOf rule set) ts k d l

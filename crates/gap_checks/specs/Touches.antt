@@ -21,7 +21,7 @@ AreRules p set = (t : ℕ) → is_in t set ≡ true → IsRule p t
 abbrev pub rule_in : List ℕ → ℕ → ℕ
 rule_in set i = slice_index_or set i 0
 
--- its point, among those of the rules of the set
+-- the point at a position, among those of the rules of a set
 abbrev pub point_in : List ScaledPoint → ℕ → ScaledPoint
 point_in zs i = slice_index_or zs i (record { parts = []; den = 0 })
 

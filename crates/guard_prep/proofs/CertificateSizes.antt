@@ -1,4 +1,4 @@
--- The rows of a rule are what certificates on them ask for.
+-- The rows of a rule meet the conditions of certificates on them.
 use Rattle.std.proofs.Common.{ℕ, ◌<◌, ◌≤◌, List, [], ◌∷◌, arith}
 use Rattle.std.specs.Prelude.{ℤ, nat_abs}
 use Rattle.std.specs.List.{All, AllByRecursion}
@@ -20,7 +20,7 @@ small-numbers n f h = record { coefs = each f.coefs h.coefs; constant = omega (a
     each [] k = All-nil (λ (x : ℤ). nat_abs x < row_limit)
     each (x ∷ xs) k = All-cons (λ (a : ℤ). nat_abs a < row_limit) x xs (omega (arith, k.0)) (each xs k.1)
 
--- the same for all small forms of a list
+-- all small forms of a list meet the condition on their numbers
 all-numbers : (n : ℕ) (rows : List Form) → AllByRecursion (IsSmallForm n) rows → All HasRowNumbers rows
 all-numbers n [] h = All-nil HasRowNumbers
 all-numbers n (f ∷ rows) h = All-cons HasRowNumbers f rows (small-numbers n f h.0) (all-numbers n rows h.1)

@@ -45,7 +45,7 @@ divisor-more g h xs a d e = record {
   greatest = λ k l. let two = divides-front k xs (a ∷ []) l in e.2 k (d.greatest k two.0) two.1.0;
 }
 
--- the test says whether a number that isn't 0 divides each
+-- the test is true only if a number other than 0 divides each coefficient
 each-from_test : (d : ℕ) (coefs : List ℤ) → divides_all d coefs ≡ true → DividesEach d coefs
 each-from_test d [] h = tt
 each-from_test d (a ∷ coefs) h = go (nat_eq (nat_abs a % d) 0) refl h (each-from_test d coefs)
@@ -64,7 +64,7 @@ test-from_each d (a ∷ coefs) h = ap (λ (b : Bool). b && divides_all d coefs) 
     rest : nat_abs a % d ≡ 0 → nat_eq (nat_abs a % d) 0 ≡ true
     rest e = grind (arith, nat_tests)
 
--- what is found divides each
+-- the divisor found divides each coefficient
 upto-divides : (n : ℕ) (coefs : List ℤ) → 0 < divisor_upto n coefs → DividesEach (divisor_upto n coefs) coefs
 upto-divides zero coefs h = absurd (omega arith)
 upto-divides (suc n) coefs h = go (divides_all (suc n) coefs) refl h (upto-divides n coefs)
@@ -112,7 +112,7 @@ divisor-bounds g (a ∷ coefs) l h = split (cases_eq (nat_abs a) 0) (divisor-bou
         let b = le_of_dvd p h.0 in
         (pos_of_dvd_of_pos h.0 p, omega (arith, b))
 
--- a common divisor is at most what bounds the coefficients, where some isn't 0
+-- a common divisor is at most a bound on the coefficients, if one of them isn't 0
 pub divisor-small : (g n : ℕ) (coefs : List ℤ) → AllByRecursion (λ a. nat_abs a ≤ n) coefs → 0 < total_size coefs → DividesEach g coefs → g ≤ n
 divisor-small g n [] b l h = absurd (omega arith)
 divisor-small g n (a ∷ coefs) b l h = split (cases_eq (nat_abs a) 0) (divisor-small g n coefs b.1)
@@ -179,7 +179,7 @@ divisor-zero coefs h = split (cases_eq (total_size coefs) 0)
 pub divisor-none-left : (coefs : List ℤ) (g : ℕ) → total_size coefs ≡ 0 → IsDivisorOf g coefs → g ≡ 0
 divisor-none-left coefs g e h = sym (divisor-is g coefs h) ∙ divisor-of-zeros coefs e
 
--- what holds of each coefficient holds of the one at i
+-- a property of each coefficient holds of the one at i
 pub all-at : (P : ℤ → Type 0) (xs : List ℤ) (i : ℕ) (d : ℤ) → AllByRecursion P xs → i < length xs → P (get_or xs i d)
 all-at P [] i d h l = absurd (omega arith)
 all-at P (x ∷ xs) zero d h l = h.0

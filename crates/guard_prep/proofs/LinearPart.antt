@@ -1,4 +1,4 @@
--- At integers the rows of a rule say what the linear part of its guard says.
+-- At integers the rows of a rule hold exactly if the linear part of its guard holds.
 use Rattle.std.proofs.Common.{◌≡◌, ℕ, zero, suc, ◌+◌, ◌≤◌, List, [], ◌∷◌, ◌++◌, Bool, length, sym, subst, arith}
 use Rattle.std.proofs.Common.{if◌then◌else◌}
 use Rattle.std.specs.Prelude.{ℤ, pos, ◌-ℤ◌, neg_ℤ, ◌≤ℤ◌, ◌<ℤ◌}
@@ -29,7 +29,7 @@ met-behind : (z : ℕ → ℤ) (xs ys : List Form) → AreMet z (xs ++ ys) → A
 met-behind z [] ys h = h
 met-behind z (x ∷ xs) ys h = met-behind z xs ys h.1
 
--- rows are met where what is left of them is
+-- rows are met if their tightened rows are
 met-before : (z : ℕ → ℤ) (rows : List Form) → AreMet z (all_tightened rows) → AreMet z rows
 met-before z [] h = tt
 met-before z (f ∷ rows) h = (

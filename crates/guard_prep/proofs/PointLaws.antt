@@ -1,4 +1,4 @@
--- Where a guard holds, the values of the variables and of the bent updates are a point of the rows.
+-- Where a guard holds, the values of the variables and of the nonlinear updates are a point of the rows.
 use Rattle.std.proofs.Common.{◌≡◌, ℕ, zero, suc, ◌+◌, ◌<◌, ◌≤◌, List, [], ◌∷◌, ◌++◌, Bool, true, false, length, map}
 use Rattle.std.proofs.Common.{get_or, refl, ap, sym, ◌∙◌, subst, arith, if◌then◌else◌}
 use Rattle.std.specs.Prelude.{ℤ, pos, ◌+ℤ◌, ◌-ℤ◌, ◌*ℤ◌, neg_ℤ, ◌≤ℤ◌, ◌<ℤ◌}
@@ -70,7 +70,7 @@ opposite-value f z d = both _ _ _ _ (dot f.coefs z) (neg-mul_ℤ f.constant d)
     dot [] z = refl
     dot (a ∷ coefs) z = both _ _ _ _ (neg-mul_ℤ a (z 0)) (dot coefs (λ k. z (suc k)))
 
--- a difference reads what its sides do
+-- a difference reads the variables of its sides
 pub reads-difference : (n : ℕ) (d : Term) (r : Relation) (e : Term) → ReadsBelow n d → ReadsBelow n e → ReadsBelow n (difference_of d r e)
 reads-difference n d AtLeast e h k = (h, k)
 reads-difference n d MoreThan e h k = ((h, k), tt)
@@ -105,11 +105,11 @@ rows-hold d EqualTo e env f z h v = (from _ _ _ v h, (opposite _ _ _ _ (opposite
     opposite : (u w x y : ℤ) → u ≡ neg_ℤ w → w ≡ x -ℤ y → x ≡ y → pos 0 ≤ℤ u
     opposite u w x y g e l = omega (arith, ints, g, e, l)
 
--- a polynomial that isn't bent has degree at most 1
+-- a linear polynomial has degree at most 1
 not-nonlinear : (p : Polynomial) → is_nonlinear p ≡ false → degree_of p ≤ 1
 not-nonlinear p e = grind (arith, nat_tests)
 
--- the linear form of an expression that isn't bent has the expression's value, also where further values follow
+-- the linear form of a linear expression has the expression's value, also if further values follow
 pub form-value : (w : ℕ) (t : Term) (env more : List ℤ) → length env ≤ w → ReadsBelow (length env) t → is_nonlinear (expanded t) ≡ false
     → form_value (linear_form w (expanded t)) (at (env ++ more)) (pos 1) ≡ value t env
 form-value w t env more l h b =
@@ -137,7 +137,8 @@ guard-met w env more (a ∷ atoms) l v h =
     met-append (at (env ++ more)) (rows_of_atom w a) (rows_of_guard w atoms) (atom-met w env more a l v.0 (h 0 a (omega arith)))
     (guard-met w env more atoms l v.1 (λ k d i. h (suc k) d (omega arith)))
 
--- the new values at the point are the values of the updates: `front` holds the values before those of the bent updates left
+-- the new values at the point are the values of the updates: `front` holds the values before those of the remaining
+-- nonlinear updates
 new_values-values : (w k : ℕ) (us : List Term) (env front : List ℤ) (z : List ℤ)
     → ((t : Term) → ReadsBelow (length env) t → value t z ≡ value t env) → AllByRecursion (IsValidTerm (length env)) us
     → z ≡ front ++ nonlinear_values us env → length front ≡ k → length env ≤ w → k + count_true (map is_nonlinear (map expanded us)) ≤ w
@@ -171,7 +172,7 @@ new_values-values w k (u ∷ us) env front z same v e l m n = go (is_nonlinear (
         (length-append front (value u env ∷ []) ∙ (let g : length front + 1 ≡ suc k = omega (arith, l) in g)) m (omega (arith, c)) i
     go false b f c ih = λ i. linear b i ∷ ih k front f l m c i
 
--- how many unknowns the bent updates have
+-- the number of unknowns of the nonlinear updates
 pub nonlinear-length : (us : List Term) (env : List ℤ) → length (nonlinear_values us env) ≡ count_true (map is_nonlinear (map expanded us))
 nonlinear-length [] env = refl
 nonlinear-length (u ∷ us) env = go (is_nonlinear (expanded u)) (nonlinear-length us env)

@@ -166,7 +166,7 @@ few-tightened : (rows : List Form) → length (all_tightened rows) ≤ length ro
 few-tightened [] = omega arith
 few-tightened (f ∷ rows) = omega (arith, length-append (tightened f) (all_tightened rows), one-left f, few-tightened rows)
 
--- how many places are bent
+-- the number of nonlinear places is at most that of places
 pub count-at-most : (bs : List Bool) → count_true bs ≤ length bs
 count-at-most [] = omega arith
 count-at-most (true ∷ bs) = omega (arith, count-at-most bs)

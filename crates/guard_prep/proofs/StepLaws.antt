@@ -36,7 +36,7 @@ preparable p t r v e =
 pub rules-are-preparable : ValidRulesArePreparable
 rules-are-preparable = record { each = preparable }
 
--- where a preparable rule leads is a point of its rows
+-- a step of a preparable rule is a point of its rows
 pub leads-point : (r : Rule) (c d : Config) (free : List ℤ) → IsPreparable r → Leads r c free d → IsPointOfStep r c d (point_of r (c.values ++ free))
 leads-point r c d free h leads =
     let env = c.values ++ free in

@@ -28,7 +28,7 @@ exact a g h = mul_comm_ℤ (pos g) (int_div a (pos g)) ∙ from_sum _ _ a (quot-
     rest (pos a) h = ap pos (mod-eq-zero_of_dvd g h)
     rest (negsuc a) h = ap (λ (n : ℕ). neg_ℤ (pos n)) (mod-eq-zero_of_dvd g h)
 
--- coefficients times a point are the divisor times what they are divided
+-- coefficients times a point are the divisor times the divided coefficients
 dot-divided : (g : ℕ) (coefs : List ℤ) (z : ℕ → ℤ) → DividesEach g coefs → list_dot coefs z ≡ pos g *ℤ list_dot (map (λ a. int_div a (pos g)) coefs) z
 dot-divided g [] z h = nothing (pos g)
   where
@@ -64,7 +64,7 @@ floor-rest (negsuc a) k = (k - a % suc k, omega arith, whole)
         down : (q r a k : ℕ) → q * suc k + r ≡ a → r ≤ k → negsuc a ≡ pos (suc k) *ℤ negsuc q +ℤ pos (k - r)
         down q r a k e l = omega (arith, ints, e, l)
 
--- a multiple of k + 1 with a rest of at most k is at least 0 exactly where the multiple is
+-- a multiple of k + 1 with a rest of at most k is at least 0 exactly if the multiple is
 least : (k r : ℕ) (m : ℤ) → r ≤ k → pos 0 ≤ℤ (pos (suc k) *ℤ m +ℤ pos r) → pos 0 ≤ℤ m
 least k r (pos m) l h = omega (arith, ints)
 least k r (negsuc m) l h = absurd (below (mul-le-mul_ℤ (pos (suc k)) (negsuc m) (negsuc 0) (omega (arith, ints)) (omega (arith, ints))))
@@ -123,7 +123,7 @@ meets-one f z d h = record { each = one }
 first-meets : (f : Form) (fs : List Form) (z : ℕ → ℤ) (d : ℤ) → Meets (f ∷ fs) z d → pos 0 ≤ℤ form_value f z d
 first-meets f fs z d m = m.each 0 f (omega arith)
 
--- a row has the same integer solutions when it is tightened
+-- tightening keeps the integer solutions of a row
 pub tightened-keeps : (f : Form) (z : ℕ → ℤ) → (pos 0 ≤ℤ form_value f z (pos 1)) ↔ Meets (tightened f) z (pos 1)
 tightened-keeps f z = go (divisor_of f.coefs) refl
   where
@@ -177,7 +177,7 @@ set-front f xs i v l e =
     next (x ∷ xs) zero l = refl
     next (x ∷ xs) (suc i) l = ap (λ (ys : List ℤ). f x ∷ ys) (next xs i (omega arith))
 
--- those behind are as they were
+-- the elements after a position are unchanged
 pub get-behind : (f : ℤ → ℤ) (xs : List ℤ) (i : ℕ) (d : ℤ) → get_or (map f (take i xs) ++ drop i xs) i d ≡ get_or xs i d
 get-behind f xs zero d = refl
 get-behind f [] (suc i) d = refl
@@ -203,7 +203,7 @@ front-length f xs zero = refl
 front-length f [] (suc i) = refl
 front-length f (x ∷ xs) (suc i) = ap suc (front-length f xs i)
 
--- a row divided by the divisor of its coefficients, where that isn't 0, is what is left of it
+-- a row divided by the nonzero divisor of its coefficients is the tightened row
 pub divided-is : (f g : Form) (d : ℤ) → d ≡ pos (divisor_of f.coefs) → d ≢ pos 0 → g.coefs ≡ map (λ a. int_div a d) f.coefs
     → g.constant ≡ int_div_euclid f.constant d → g ∷ [] ≡ tightened f
 divided-is f g d e n c k = go (divisor_of f.coefs) e

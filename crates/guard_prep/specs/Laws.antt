@@ -28,21 +28,21 @@ pub record IsPreparable (r : Rule) : Type 0 where
 pub record ValidRulesArePreparable : Type 0 where
   pub each : (p : Program) (t : ℕ) (r : Rule) → IsValid p → rule_at p t ≡ Some r → IsPreparable r
 
--- a row and what is left of it when it is tightened have the same integer solutions
+-- a row and the tightened row have the same integer solutions
 pub record TighteningKeepsWholeSolutions : Type 0 where
   pub each : (f : Form) (z : ℕ → ℤ) → (pos 0 ≤ℤ form_value f z (pos 1)) ↔ Meets (tightened f) z (pos 1)
 
--- the values of the bent updates, in order of places
+-- the values of the nonlinear updates, in order of places
 abbrev pub nonlinear_values : List Term → List ℤ → List ℤ
 nonlinear_values [] env = []
 nonlinear_values (u ∷ us) env = if is_nonlinear (expanded u) then value u env ∷ nonlinear_values us env else nonlinear_values us env
 
--- the values of all unknowns: those of the variables, then those of the bent updates
+-- the values of all unknowns: those of the variables, then those of the nonlinear updates
 abbrev pub point_of : Rule → List ℤ → List ℤ
 point_of r env = env ++ nonlinear_values r.updates env
 
--- at the values of its variables that meet its guard, with the values of the bent updates, the rows of a rule have a
--- point with denominator 1, and the new values there are the values of the updates
+-- where a guard holds, the values of the variables and of the nonlinear updates are a point of the rule's rows with
+-- denominator 1, and the new values there are the values of the updates
 pub record GuardsGivePoints : Type 0 where
   pub point : (r : Rule) (env : List ℤ) → IsPreparable r → length env ≡ r.left + r.free → GuardHolds env r.guard
       → IsPoint (rows_of r) (at (point_of r env)) (pos 1)
@@ -58,14 +58,14 @@ IsLinear (Compare d r e) = is_nonlinear (expanded (difference_of d r e)) ≡ fal
 abbrev pub LinearPartHolds : List ℤ → List Atom → Type 0
 LinearPartHolds env atoms = All (λ a. IsLinear a → AtomHolds env a) atoms
 
--- at integers, the rows of a rule say exactly what the linear part of its guard says of the variables, whatever numbers
--- follow these
+-- at integers, the rows of a rule hold exactly if the linear atoms of its guard hold of the variables, whatever
+-- numbers follow these
 pub record RowsAreTheLinearPart : Type 0 where
   pub each : (r : Rule) (env more : List ℤ) → IsPreparable r → length env ≡ r.left + r.free
       → IsPoint (rows_of r) (at (env ++ more)) (pos 1) ↔ LinearPartHolds env r.guard
 
--- from c the rule leads to d at the point: a point of its rows with denominator 1, whose first unknowns are the values
--- of c, and where the new values are those of d
+-- a step of the rule from c to d gives the point z: a point of its rows with denominator 1, whose first unknowns are
+-- the values of c, and at which the new values are those of d
 pub record IsPointOfStep (r : Rule) (c d : Config) (z : List ℤ) : Type 0 where
   pub unknowns : length z ≡ unknowns_of r
   pub point : IsPoint (rows_of r) (at z) (pos 1)
@@ -77,7 +77,7 @@ pub record StepsArePoints : Type 0 where
   pub each : (p : Program) (c d : Config) (s : Step) → IsValid p → (i : IsStep p c s d)
       → IsPointOfStep i.rule c d (point_of i.rule (c.values ++ s.free))
 
--- at these values of the variables, with that of the cost where it is bent, the rows of the cost rule of a rule have a
+-- at these values of the variables, with that of the cost if it is nonlinear, the rows of a rule's cost rule have a
 -- point with denominator 1, and its one new value there is the cost k
 pub record IsPointOfCost (r : Rule) (k : Term) (env : List ℤ) : Type 0 where
   pub point : IsPoint (rows_of (cost_rule r k)) (at (point_of (cost_rule r k) env)) (pos 1)
@@ -111,8 +111,8 @@ pub record RowsAreSmall : Type 0 where
   pub few_rows : (r : Rule) → IsPreparable r → length (rows_of r) ≤ 128
   pub few_unknowns : (r : Rule) → IsPreparable r → unknowns_of r ≤ 96
 
--- the rows of a rule are what certificates on them, and points of them, ask for: their numbers are below 2^63 in
--- absolute value, their columns add up to little enough, and there are at most 128 unknowns
+-- the rows of a rule meet the conditions of certificates on them and of their points: their numbers are below 2^63 in
+-- absolute value, their columns have bounded sums, and there are at most 128 unknowns
 pub record RowsSuitCertificates : Type 0 where
   pub numbers : (r : Rule) → IsPreparable r → All HasRowNumbers (rows_of r)
   pub sums : (r : Rule) → IsPreparable r → AreSmall (rows_of r)

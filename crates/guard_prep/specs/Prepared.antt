@@ -1,4 +1,4 @@
--- The linear rows of a rule, its new values, bent places and polynomials.
+-- The linear rows of a rule, its new values, nonlinear places and polynomials.
 use Rattle.std.specs.Prelude.{ℕ, suc, ◌+◌, Bool, true, false, if◌then◌else◌, nat_lt, List, [], ◌∷◌, ◌++◌, map}
 use Rattle.std.specs.Prelude.{neg_ℤ}
 use Rattle.poly_terms.specs.model.Programs.{Relation, AtLeast, MoreThan, AtMost, LessThan, EqualTo, Atom, Always}
@@ -28,7 +28,7 @@ count_true [] = 0
 count_true (true ∷ bs) = suc (count_true bs)
 count_true (false ∷ bs) = count_true bs
 
--- the unknowns of a rule: its left variables, its free ones, and one for each bent place, in order of places
+-- the unknowns of a rule: its left variables, its free ones, and one for each nonlinear place, in order of places
 abbrev pub unknowns_of : Rule → ℕ
 unknowns_of r = r.left + r.free + count_true (nonlinear_of r)
 
@@ -44,7 +44,7 @@ rows_by AtMost f = f ∷ []
 rows_by LessThan f = f ∷ []
 rows_by EqualTo f = f ∷ opposite_form f ∷ []
 
--- the rows of a comparison over this many unknowns by its expanded difference: none where that has degree 2 or more
+-- the rows of a comparison over this many unknowns, from its expanded difference: none if that has degree 2 or more
 abbrev pub rows_of_difference : ℕ → Relation → Polynomial → List Form
 rows_of_difference width r p = if is_nonlinear p then [] else rows_by r (linear_form width p)
 
@@ -67,7 +67,7 @@ all_tightened (f ∷ rows) = tightened f ++ all_tightened rows
 abbrev pub rows_of : Rule → List Form
 rows_of r = all_tightened (rows_of_guard (unknowns_of r) r.guard)
 
--- the new values over this many unknowns: that of a bent place is an unknown of its own, the first of which has the
+-- the new values over this many unknowns: a nonlinear place has an unknown of its own, of which the first one has the
 -- number k
 abbrev pub new_values_from : ℕ → ℕ → List Polynomial → List Form
 new_values_from width k [] = []
@@ -79,7 +79,7 @@ new_values_from width k (p ∷ ps) =
 abbrev pub new_values_of : Rule → List Form
 new_values_of r = new_values_from (unknowns_of r) (r.left + r.free) (polys_of r)
 
--- what is prepared of a rule
+-- a prepared rule
 pub record Prepared : Type 0 where
   pub left : ℕ
   pub unknowns : ℕ

@@ -19,8 +19,8 @@ divisor_upto (suc n) coefs = if divides_all (suc n) coefs then suc n else diviso
 unfoldable pub divisor_of : List ℤ → ℕ
 divisor_of coefs = divisor_upto (total_size coefs) coefs
 
--- a row divided by the greatest common divisor g of its coefficients: the constant is rounded down; where all
--- coefficients are 0 the row says nothing, or it is -1 >= 0
+-- a row divided by the greatest common divisor g of its coefficients, its constant rounded down; a row without
+-- coefficients is dropped if it always holds, and else becomes -1 >= 0
 abbrev pub tightened_by : ℕ → Form → List Form
 tightened_by zero f = if int_le (pos 0) f.constant then [] else record { coefs = f.coefs; constant = negsuc 0 } ∷ []
 tightened_by (suc k) f =
@@ -29,6 +29,6 @@ tightened_by (suc k) f =
       constant = int_div_euclid f.constant (pos (suc k));
     } ∷ []
 
--- what is left of a row that is tightened: it has the same integer solutions
+-- the tightened row: none if it always holds; it has the same integer solutions
 abbrev pub tightened : Form → List Form
 tightened f = tightened_by (divisor_of f.coefs) f

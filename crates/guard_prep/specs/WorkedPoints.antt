@@ -51,8 +51,8 @@ worked_source = record { at = 0; values = pos 3 ∷ [] }
 abbrev pub worked_target : Config
 worked_target = record { at = 1; values = pos 1 ∷ pos 9 ∷ [] }
 
--- with B = 2 the rule leads from l0(3) to l1(1, 9) at (3, 2, 9), but not where the square, the free variable or the
--- left one is another, nor without an unknown for the square; at (0, 0, 0) the row of the rule fails
+-- with B = 2 the rule leads from l0(3) to l1(1, 9) at (3, 2, 9), but not if the square, the free or the left variable
+-- has another value, nor without an unknown for the square; at (0, 0, 0) the row of the rule fails
 pub record StepPointsAreWorkedOut : Type 0 where
   pub squares : nonlinear_values worked_rule.updates (pos 3 ∷ pos 2 ∷ []) ≡ pos 9 ∷ []
   pub point : point_of worked_rule (pos 3 ∷ pos 2 ∷ []) ≡ pos 3 ∷ pos 2 ∷ pos 9 ∷ []

@@ -83,9 +83,9 @@ pub record GuardsHaveRows : Type 0 where
   pub cancelled : rows_of (with_free [] (Compare (Addition square (Variable 0)) AtLeast square ∷ []))
       ≡ two (pos 1) (pos 0) (pos 0) ∷ []
 
--- new values of A + 1, A*B and A: the second place is bent, and has the third unknown, so the row of A >= B has three
--- coefficients; the first of two bent places has the third unknown and the second one the fourth; A*A + B - A*A isn't
--- bent
+-- new values A + 1, A*B and A: the second place is nonlinear and has the third unknown, so the row of A >= B has three
+-- coefficients; of two nonlinear places the first one has the third unknown and the second one the fourth; A*A + B -
+-- A*A is linear
 pub record UpdatesHaveForms : Type 0 where
   pub new_values : new_values_of (with_free (successor ∷ product ∷ Variable 0 ∷ []) [])
       ≡ three (pos 1) (pos 0) (pos 0) (pos 1) ∷ three (pos 0) (pos 0) (pos 1) (pos 0)

@@ -16,13 +16,13 @@ pub fn tightening_keeps_whole_solutions()
     ensures { TighteningKeepsWholeSolutions }
 {}
 
-/// Where the guard holds, the values of the variables and of the bent updates are a point with denominator 1, and the
-/// new values there are the values of the updates.
+/// Where the guard holds, the values of the variables and of the nonlinear updates are a point with denominator 1, and
+/// the new values there are the values of the updates.
 pub fn guards_give_points()
     ensures { GuardsGivePoints }
 {}
 
-/// At integers the rows of a rule say exactly what those atoms of its guard say whose difference has degree at most 1.
+/// At integers the rows of a rule hold exactly if those atoms of its guard hold whose difference has degree at most 1.
 pub fn rows_are_the_linear_part()
     ensures { RowsAreTheLinearPart }
 {}
@@ -48,7 +48,7 @@ pub fn rows_suit_certificates()
     ensures { RowsSuitCertificates }
 {}
 
-/// Worked values of rows, new values and bent places.
+/// Worked values of rows, new values and nonlinear places.
 pub fn rows_are_as_worked_out()
     ensures { RowsAreWorkedOut }
 {}

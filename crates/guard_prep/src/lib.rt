@@ -1,9 +1,9 @@
-//! Turns a rule into linear inequalities ("rows"): those of its guard's linear atoms, its new values as affine forms,
-//! and the polynomials of its nonlinear updates ("bent" places).
+//! Prepares a rule as linear inequalities ("rows"): those of its guard's linear atoms, its new values as affine forms,
+//! and the polynomials of its nonlinear updates.
 //!
 //! Builds on `its_model` (programs), `poly_terms` (polynomials), `farkas_cert` and `int_laws`. Main guarantee: `rows`
-//! gives exactly the rows, new values, bent places and polynomials of the plain rule (`prepared`), and each step of a
-//! valid program is a point of its rule's rows.
+//! gives exactly the rows, new values, nonlinear places and polynomials of the plain rule (`prepared`), and each step
+//! of a valid program is a point of its rule's rows.
 #![tactic(auto)]
 
 mod laws;

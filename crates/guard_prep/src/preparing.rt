@@ -101,7 +101,7 @@ fn count_of(nonlinear: &[bool]) -> u32
     count
 }
 
-// The new values: that of a bent place is an unknown of its own, the first of which has the number `own`.
+// The new values: a nonlinear place has an unknown of its own, of which the first one has the number `own`.
 fn new_values_of(alloc: Global, polys: &[Poly], own: u32, unknowns: u32) -> Result<Vec<Row>, Memory>
     requires ascending { AllByRecursion IsAscending (map poly_of polys.now) }
     requires in_range { AllByRecursion (HasVariablesBelow unknowns) (map poly_of polys.now) }

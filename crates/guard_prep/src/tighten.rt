@@ -26,7 +26,7 @@ pub(crate) fn push_tightened(rows: &mut Vec<Row>, row: Row) -> Result<(), Memory
     }
 }
 
-// Appends a row without coefficients, unless it says nothing.
+// Appends a row without coefficients, unless it always holds.
 fn push_constant(rows: &mut Vec<Row>, row: Row) -> Result<(), Memory>
     ensures { OnOk result (map form_of rows.new.items ≡ map form_of rows.old.items ++ tightened_by 0 (form_of row)) }
 {

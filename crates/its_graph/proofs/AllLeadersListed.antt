@@ -13,7 +13,7 @@ use Rattle.its_graph.specs.Groups.{Joins}
 use Rattle.its_graph.specs.Orders.{IsLeader, AreLeadersInOrder, AreOrderable, IsMarked, Waits, IsSorting}
 use Rattle.its_graph.proofs.Elements.{Contains-cons_cases, Contains-first, Contains-later, none_in_empty, Decided, decided}
 
--- an element that a test finds is one of the list
+-- an element that a test finds is in the list
 found-element : (q : ℕ) (xs : List ℕ) → list_any (eqb q) xs ≡ true → Contains xs q
 found-element q [] h = absurd (different h)
   where
@@ -63,7 +63,7 @@ module _ (needs : List (Vec ℕ Global)) (leaders : List ℕ) (s : Sorting) (o :
     within : (x : ℕ) → Contains (first ∷ others) x → x < length leaders
     reached : (x : ℕ) → Contains (first ∷ others) x → Path (Joins needs) x first
 
-  -- what a leader that isn't listed waits for
+  -- an unlisted leader waits for another one
   waits_for : (c : ℕ) → IsLeader leaders c → ¬ (IsMarked s.is_listed.items c) → Waits s.waiting.items s.is_listed.items c
   waits_for c leads unmarked = go (f.placed c leads unmarked)
     where

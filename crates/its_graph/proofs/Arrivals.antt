@@ -16,7 +16,7 @@ use Rattle.its_graph.specs.declared.graph.Graph.{Graph}
 use Rattle.its_graph.specs.Graphs.{IsGraphOf}
 use Rattle.its_graph.proofs.PairLists.{Pair}
 
--- what arrives at a symbol is what leads to it
+-- the arrivals at a symbol are the rules that lead to it
 arrivals-filter : (f : ℕ → Option ℕ) (s i : ℕ) (rules : List Rule) → ((k : ℕ) (r : Rule) → slice_get rules k ≡ Some r → f (i + k) ≡ Some r.target)
     → values_of (arrivals_from i (map ends_of rules)) s ≡ filter (λ e. same_symbol (f e) (Some s)) (range_with_len i (length rules))
 arrivals-filter f s i [] h = refl
@@ -42,7 +42,7 @@ arrivals-filter f s i (r ∷ rules) h = go (r.target == s) refl (arrivals-filter
     go true e ih = rw (here, next) (rw e (ap (λ (xs : List ℕ). i ∷ xs) ih))
     go false e ih = rw (here, next) (rw e ih)
 
--- the arrivals at a rule's source are what can come just before the rule
+-- the arrivals at a rule's source are the rules that can come just before it
 pub arrivals-pre : (p : Program) (t s : ℕ) → source_of p t ≡ Some s → values_of (arrivals p.start (map ends_of p.rules)) s ≡ pre p t
 arrivals-pre p t s source =
     go (p.start == s) refl (arrivals-filter (target_of p) s 1 p.rules (λ k r e. ap (target_of p) (next k) ∙ ap target_in e))
@@ -85,7 +85,7 @@ rule-at-link p links (suc k) link same pos low at = go p.rules refl
           sym (at ∙ (ap (λ (i : ℕ). get_or links i link) back ∙ (ap (λ (xs : List Pair). get_or xs k link) same ∙ get_or-map ends_of p.rules k q link in_rules))),
         )
 
--- where a rule comes from is within
+-- the source of a rule is a symbol of the graph
 pub symbol-within : (g : Graph) (p : Program) → IsGraphOf g p → (t : ℕ) (link : Pair) → 0 < t → t ≤ length g.links.items → link ≡ get_or g.links.items (t - 1) link → link.0 < length g.arriving.items
 symbol-within g p h t link pos low at =
     let within : (link.0 < g.symbols) × (link.1 < g.symbols) = subst (λ (e : Pair). (e.0 < g.symbols) × (e.1 < g.symbols)) (sym at) (h.links_within (t - 1) link (omega arith)) in

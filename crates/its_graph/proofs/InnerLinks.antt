@@ -1,4 +1,4 @@
--- A program has a cycle exactly where a listed component holds both ends of a link.
+-- A program has a cycle exactly if a listed component holds both ends of a link.
 use Rattle.std.proofs.Common.{◌≡◌, ℕ, ◌+◌, ◌<◌, List, ◌∷◌, ◌++◌, take, drop, Contains, sym, ◌∙◌, ap}
 use Rattle.std.proofs.lemmas.List.{take-append-drop, drop_more}
 use Rattle.std.specs.List.{All}
@@ -12,7 +12,7 @@ use Rattle.its_graph.proofs.Routes.{path-map, mutual-turned, mutual-join, one_ed
 use Rattle.its_graph.proofs.Numbering.{edge-pair}
 
 module _ (Edge : ℕ → ℕ → Type 0) (n : ℕ) (cs : List (List ℕ)) (l : IsListing Edge n cs) where
-  -- a listed component is what comes next behind some
+  -- a listed component comes next after some components
   next-of : (c : List ℕ) → Contains cs c → (before : List (List ℕ)) × IsNext Edge n before c
   next-of c (k, low, e) =
       let rest : drop k cs ≡ c ∷ drop (k + 1) cs = drop_more cs k c low
@@ -27,7 +27,7 @@ module _ (Edge : ℕ → ℕ → Type 0) (n : ℕ) (cs : List (List ℕ)) (l : I
       let next = (next-of c h).1 in
       mutual-join Edge a next.least b (mutual-turned Edge next.least a ((next.members a).0 ha)) ((next.members b).0 hb)
 
-  -- it holds what is mutual with one of them
+  -- a component has all nodes that are mutual with one of its own
   mutual-inside : (c : List ℕ) → Contains cs c → (a b : ℕ) → Contains c a → IsMutual Edge a b → Contains c b
   mutual-inside c h a b ha m =
       let next = (next-of c h).1 in
@@ -64,6 +64,6 @@ module _ (p : Program) (n : ℕ) (cs : List (List ℕ)) (l : IsListing (IsPair (
             path-map (IsPair (links_of p)) (HasEdge p any_rule) (λ a b. (edge-pair p a b).1) i.to i.from m.back;
       }
 
--- a program has a cycle exactly where a component of its links has a link inside
+-- a program has a cycle exactly if a component of its links has a link inside
 pub cycles_are_inner_links : CyclesAreInnerLinks
 cycles_are_inner_links = λ p n cs within l. (λ c. inner-link p n cs l within c, λ i. inner-cycle p n cs l i)

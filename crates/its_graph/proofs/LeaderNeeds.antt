@@ -13,11 +13,11 @@ use Rattle.its_graph.proofs.PairLists.{Pair, AreWithin, joins-pairs, need-from, 
 use Rattle.its_graph.proofs.Routes.{join, edge_then}
 
 module _ (Edge : ℕ → ℕ → Type 0) (leaders : List ℕ) (l : AreLeaders Edge (length leaders) leaders) where
-  -- the leader of a node leads
+  -- the leader of a node is the leader of its component
   pub leads-itself : (a : ℕ) → a < length leaders → IsLeader leaders (get_or leaders a 0)
   leads-itself a low = (l.within a low, sym (l.same a (get_or leaders a 0) low (l.within a low) (l.own a low)))
 
-  -- a path leads from what is needed
+  -- a path leads from a needed leader to the one that needs it
   pub need-path : (c d : ℕ) → Needs Edge leaders c d → Path Edge d c
   need-path c d n =
       let from = l.own n.from n.from_within in
@@ -25,12 +25,12 @@ module _ (Edge : ℕ → ℕ → Type 0) (leaders : List ℕ) (l : AreLeaders Ed
       join Edge d n.from c (subst (λ (x : ℕ). Path Edge x n.from) n.need from.back)
       (edge_then Edge n.from n.to c n.edge (subst (λ (x : ℕ). Path Edge n.to x) n.leader to.onward))
 
-  -- both lead
+  -- both are leaders
   pub need-leads : (c d : ℕ) → Needs Edge leaders c d → IsLeader leaders c × IsLeader leaders d
   need-leads c d n =
       (subst (λ (x : ℕ). IsLeader leaders x) n.leader (leads-itself n.to n.to_within), subst (λ (x : ℕ). IsLeader leaders x) n.need (leads-itself n.from n.from_within))
 
-  -- the table of what leaders need can be put in order
+  -- the table of the leaders' needs can be put in order
   pub orderable : (needs : List (Vec ℕ Global)) → length needs ≡ length leaders → ((c d : ℕ) → Joins needs c d ↔ Needs Edge leaders c d) → AreOrderable leaders needs
   orderable needs size same = record {
     size = size;
@@ -60,7 +60,7 @@ module _ (Edge : ℕ → ℕ → Type 0) (leaders : List ℕ) (l : AreLeaders Ed
     all = o.all;
   }
 
--- the table of the listed needs has what leaders need
+-- the table of the listed needs has the needs of the leaders
 pub needs-table : (leaders : List ℕ) (edges : List Pair) (needs : List (Vec ℕ Global)) → AreWithin (length leaders) edges
     → ((a : ℕ) → values_in needs a ≡ values_of (needs_among leaders edges) a) → (c d : ℕ) → Joins needs c d ↔ Needs (IsPair edges) leaders c d
 needs-table leaders edges needs within same c d =

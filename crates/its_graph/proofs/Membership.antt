@@ -65,7 +65,7 @@ numbered-from positions i (l ∷ ls) k b h = go (pair-cases (get_or positions l 
         let next : b - i ≡ suc (b - suc i) = omega (arith, rest.0) in
         (omega (arith, rest.0), omega (arith, rest.1), ap (λ (x : ℕ). get_or positions (get_or (l ∷ ls) x 0) 0) next ∙ rest.2)
 
--- and is listed with it
+-- each leader is listed with its number
 numbered-listed : (positions : List ℕ) (i : ℕ) (ls : List ℕ) (j : ℕ) → j < length ls → Contains (numbered positions i ls) (get_or positions (get_or ls j 0) 0, i + j)
 numbered-listed positions i [] j low = absurd (omega arith)
 numbered-listed positions i (l ∷ ls) zero low = (zero, omega arith, same_pair (get_or positions l 0, i) (get_or positions l 0) (i + 0) refl (omega arith))
@@ -171,7 +171,7 @@ module _ (edges : List Pair) (n : ℕ) (leaders order : List ℕ) (l : AreLeader
   one-leader : (a b : ℕ) → a < length leaders → b < length leaders → get_or leaders a 0 ≡ get_or leaders b 0 → IsMutual Edge a b
   one-leader a b la lb e = mutual-join Edge a (get_or leaders a 0) b (l.own a la) (subst (λ (x : ℕ). IsMutual Edge x b) (sym e) (mutual-turned Edge b (get_or leaders b 0) (l.own b lb)))
 
-  -- the k-th component comes next behind those before it
+  -- the k-th component comes next after those before it
   next-component : (k : ℕ) → k < length order → IsNext Edge n (take k cs) (get_or cs k [])
   next-component k low = record {
     least = c;
@@ -193,7 +193,7 @@ module _ (edges : List Pair) (n : ℕ) (leaders order : List ℕ) (l : AreLeader
       unlisted : ¬ (IsListed (take k cs) (get_or order k 0))
       unlisted h = at.unlisted (subst (λ (x : ℕ). Contains (take k order) x) at.leads.1 (listed-leader k c (omega arith) h).1)
 
-      -- what the first leaders need is among them
+      -- the needs of the first leaders are among them
       closed_before : (x d : ℕ) → Contains (take k order) x → Needs Edge leaders x d → Contains (take k order) d
       closed_before x d (j, inside, e) need =
           let before : j < k = omega (arith, length-take k order) in

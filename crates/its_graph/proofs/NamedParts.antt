@@ -1,4 +1,4 @@
--- A rule is in the part with a name exactly where it stays in the component with this least symbol.
+-- A rule is in the part with a name exactly if it stays in the component with this least symbol.
 use Rattle.std.proofs.Common.{◌≡◌, ℕ, zero, suc, ◌<◌, ◌≤◌, List, ◌∷◌, length, map, Option, Some, None, Bool, get_or}
 use Rattle.std.proofs.Common.{refl, sym, ◌∙◌, ap, subst, arith}
 use Rattle.std.specs.Prelude.{slice_get}
@@ -19,7 +19,7 @@ use Rattle.its_graph.proofs.SharedLeaders.{HasLeader, has-leader, leader-shared,
 module _ (p : Program) (is_untimed : ℕ → Bool) (n : ℕ) (leaders : List ℕ)
     (l : AreLeaders (HasEdge p is_untimed) n leaders)
     (edges : (a b : ℕ) → HasEdge p is_untimed a b → b < n) where
-  -- what a component's nodes lead to has a leader
+  -- a node in one component with a node of the graph is one of the graph
   mutual-below : (a b : ℕ) → a < n → IsMutual (HasEdge p is_untimed) a b → b < n
   mutual-below a b low m = path-within (HasEdge p is_untimed) n edges a b low m.onward
 
@@ -51,7 +51,7 @@ module _ (p : Program) (is_untimed : ℕ → Bool) (n : ℕ) (leaders : List ℕ
       own : (a : ℕ) → a < n → get_or leaders a 0 ≡ m → IsMutual (HasEdge p is_untimed) a m
       own a low e = subst (λ (x : ℕ). IsMutual (HasEdge p is_untimed) a x) e (l.own a low)
 
-  -- and a rule that stays in a component is in the part
+  -- a rule that stays in a component is in the part of that component
   stays-named : (links : List Pair) → links ≡ map ends_of p.rules → All (λ (e : Pair). (e.0 < n) × (e.1 < n)) links
       → (t m : ℕ) → StaysIn p is_untimed t m → get_or (None ∷ map (shared_leader leaders) links) t None ≡ Some m
   stays-named links same within t m s = go t s.leaves s.leads

@@ -11,7 +11,7 @@ use Rattle.its_graph.specs.Components.{IsMutual}
 use Rattle.its_graph.proofs.Elements.{Contains-cons_cases, none_in_empty, Decided, decided}
 use Rattle.its_graph.proofs.Routes.{path-within, mutual-turned, mutual-join}
 
--- as many names as before
+-- naming keeps the number of names
 pub named-size : (name : ℕ) (bs names : List ℕ) → length (named name bs names) ≡ length names
 named-size name [] names = refl
 named-size name (b ∷ bs) names = named-size name bs (set names b name) ∙ length-set names b name

@@ -1,4 +1,4 @@
--- Numbers of components, and what they say of cycles.
+-- Numbers of components, and how they decide about cycles.
 use Rattle.std.proofs.Common.{◌≡◌, ◌↔◌, ◌⊎◌, inl, inr, ℕ, zero, suc, ◌+◌, ◌<◌, ◌≤◌, List, [], ◌∷◌, ◌++◌, length, map}
 use Rattle.std.proofs.Common.{take, drop, Contains, Vec, get_or, Some, None, refl, sym, ◌∙◌, ap, subst, arith}
 use Rattle.std.specs.Prelude.{slice_get}
@@ -53,7 +53,7 @@ values-past (v ∷ lists) zero b h = omega arith
 values-past (v ∷ lists) (suc k) b h = omega (arith, values-past lists k b h)
 
 module _ (Edge : ℕ → ℕ → Type 0) (n : ℕ) (lists : List (Vec ℕ Global)) (edges_within : (a b : ℕ) → Edge a b → b < n) (l : IsListing Edge n (map items_of lists)) where
-  -- what each component is
+  -- each component comes next after those before it
   next-at : (k : ℕ) → k < length lists → IsNext Edge n (take k (map items_of lists)) (values_in lists k)
   next-at k low =
       let cs = map items_of lists in
@@ -111,7 +111,7 @@ module _ (Edge : ℕ → ℕ → Type 0) (n : ℕ) (lists : List (Vec ℕ Global
               let in_lists : k < length lists = omega (arith, length-map lists items_of) in
               (k, subst (λ (c : List ℕ). Contains c a) (sym (sym (component-at lists k in_lists) ∙ (get_or_default (map items_of lists) k [] h.component inside ∙ e))) h.member)
 
-  -- nodes have the same number exactly where they are mutual
+  -- nodes have the same number exactly if they are mutual
   pub same-number : (numbers : List ℕ) → AreNumbers lists numbers → (a b : ℕ) → a < n → b < n → (get_or numbers a 0 ≡ get_or numbers b 0) ↔ IsMutual Edge a b
   same-number numbers h a b la lb = (λ e. back e, λ m. same m)
     where
@@ -173,7 +173,7 @@ pub links-ends : (rules : List Rule) → map link_of rules ≡ map ends_of (map 
 links-ends [] = refl
 links-ends (r ∷ rules) = ap (λ (xs : List Pair). link_of r ∷ xs) (links-ends rules)
 
--- the same for the edges of a program of the code
+-- the edges of a program of the code are its links
 pub edge-link : (p : Program) (a b : ℕ) → HasEdge (program_of p) any_rule a b ↔ IsPair (map link_of p.rules.items) a b
 edge-link p a b = subst (λ (es : List Pair). HasEdge (program_of p) any_rule a b ↔ IsPair es a b) (sym (links-ends p.rules.items)) (edge-pair (program_of p) a b)
 
@@ -181,7 +181,7 @@ edge-link p a b = subst (λ (es : List Pair). HasEdge (program_of p) any_rule a 
 pub links-within : (n : ℕ) (rules : List Rule) → LeadBelow n rules → All (λ (e : Pair). (e.0 < n) × (e.1 < n)) (map link_of rules)
 links-within n rules h = All-map (λ (e : Pair). (e.0 < n) × (e.1 < n)) link_of rules h
 
--- a program has a cycle exactly where some link leads to a node of the same component
+-- a program has a cycle exactly if some link leads to a node of the same component
 pub cycle-inside : (p : Program) (n : ℕ) (lists : List (Vec ℕ Global)) (numbers : List ℕ) → LeadBelow n p.rules.items
     → IsListing (IsPair (map link_of p.rules.items)) n (map items_of lists) → AreNumbers lists numbers
     → HasInside numbers (map link_of p.rules.items) ↔ HasCycle (program_of p)

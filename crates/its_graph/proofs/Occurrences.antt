@@ -1,4 +1,4 @@
--- Without a cycle each rule occurs at most once: once it has occurred, no path leads on to where it comes from.
+-- Without a cycle each rule occurs at most once: once it has occurred, no path leads on to its source.
 use Rattle.std.proofs.Common.{◌≡◌, ◌≢◌, ℕ, zero, suc, ◌+◌, ◌*◌, ◌≤◌, List, [], ◌∷◌, true, false, ℤ, Some, refl, sym}
 use Rattle.std.proofs.Common.{◌∙◌, ap, subst, inl, inr, ◌⊎◌, arith, ◌==◌}
 use Rattle.std.specs.Prelude.{⊤}
@@ -30,12 +30,13 @@ HasLevel p t c (suc l) = ⊤
 abbrev one_each : ℕ → ℕ
 one_each e = 1
 
--- from level k a step leads to a level that is lower by 1 where it is by rule t
+-- from level k a step leads to a level that is lower by 1 if it is by rule t
 abbrev LeadsOn : Program → ℕ → Step → Config → ℕ → Type 0
 LeadsOn p t s c k = (l : ℕ) × HasLevel p t c l
     × (l + 1 * one_if_same s.rule t ≤ k + 1 * allowance one_each (0 ∷ []) s.rule)
 
--- without a cycle each step does: by rule t it leads to 0, and never from there; by any other rule the level stays
+-- without a cycle each step falls as required: rule t leads to level 0 and never occurs at that level; any other rule
+-- keeps the level
 falls : (p : Program) → ¬ (HasCycle p) → (t : ℕ) (b : Config) (s : Step) (c : Config) → IsStep p b s c → (k : ℕ)
     → HasLevel p t b k → LeadsOn p t s c k
 falls p acyclic t b s c step k level = go (eqb_tells s.rule t) k level

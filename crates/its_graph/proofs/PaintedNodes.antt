@@ -1,4 +1,5 @@
--- What painting nodes does: nothing found is lost, each node of the list gets the new colour, and what gets it is found.
+-- The effect of painting nodes: no found node is lost, each node of the list gets the new colour, and each node that
+-- gets it is found.
 use Rattle.std.proofs.Common.{◌≡◌, ◌≢◌, ℕ, ◌+◌, ◌<◌, ◌≤◌, List, [], ◌∷◌, ◌++◌, length, All, Contains, refl, sym, ◌∙◌}
 use Rattle.std.proofs.Common.{ap, subst, inl, inr, ◌⊎◌, arith, get_or, set, get_or-set_other, get_or-set_same}
 use Rattle.std.proofs.Common.{length-append, ◌==◌, cond}
@@ -39,7 +40,7 @@ fewer_left old new colors b low h ne =
     is_none (inl (test, same)) = absurd (ne same)
     is_none (inr (test, other)) = rw test refl
 
--- what painting nodes changes
+-- the effect of painting nodes
 pub record Paints (old new : ℕ) (bs : List ℕ) (m n : Painting) : Type 0 where
   pub size : length n.colors ≡ length m.colors
   pub front : (k : ℕ) → k < length m.found → get_or n.found k 0 ≡ get_or m.found k 0

@@ -14,7 +14,7 @@ use Rattle.its_graph.proofs.Elements.{Contains-cons_cases, Contains-first, Conta
 abbrev pub Pair : Type 0
 Pair = ℕ × ℕ
 
--- pairs with the same parts
+-- pairs with equal parts are equal
 pub same_pair : (e : Pair) (a b : ℕ) → e.0 ≡ a → e.1 ≡ b → e ≡ (a, b)
 same_pair e a b p q = ap (λ (x : ℕ). let r : Pair = (x, e.1) in r) p ∙ ap (λ (x : ℕ). let r : Pair = (a, x) in r) q
 
@@ -38,7 +38,7 @@ value-listed (e ∷ pairs) a b h = go (decided e.0 a) (pair-cases e pairs (a, b)
     go (inr (test, other)) (inl is) ih = absurd (other (ap (λ (p : Pair). p.0) is))
     go (inr (test, other)) (inr later) ih = rw test (ih later)
 
--- and only such are
+-- each value in the table comes from a pair
 pub value-from : (pairs : List Pair) (a b : ℕ) → Contains (values_of pairs a) b → Contains pairs (a, b)
 value-from [] a b (k, low, e) = absurd (omega arith)
 value-from (e ∷ pairs) a b h = go (decided e.0 a) (λ later. value-from pairs a b later)
@@ -51,7 +51,7 @@ value-from (e ∷ pairs) a b h = go (decided e.0 a) (λ later. value-from pairs 
         first (inl is) = (zero, omega arith, same_pair e a b same (sym is))
         first (inr later) = pair-later e pairs (a, b) (ih later)
 
--- a table of the values of pairs joins what the pairs do
+-- a table of the values of pairs has the edges of the pairs
 pub joins-pairs : (lists : List (Vec ℕ Global)) (pairs : List Pair) → ((a : ℕ) → values_in lists a ≡ values_of pairs a) → (a b : ℕ) → Joins lists a b ↔ IsPair pairs a b
 joins-pairs lists pairs same a b =
     (λ h. value-from pairs a b (subst (λ (xs : List ℕ). Contains xs b) (same a) h), λ h. subst (λ (xs : List ℕ). Contains xs b) (sym (same a)) (value-listed pairs a b h))
@@ -65,7 +65,7 @@ swap-listed (e ∷ pairs) a b h = go (pair-cases e pairs (a, b) h) (λ later. sw
     go (inl is) ih = (zero, omega arith, ap swap is)
     go (inr later) ih = pair-later (swap e) (map swap pairs) (b, a) (ih later)
 
--- a pair that is listed turned round comes from a pair of the list
+-- a reversed pair in the mapped list comes from a pair of the list
 pub swap-from : (pairs : List Pair) (a b : ℕ) → Contains (map swap pairs) (b, a) → Contains pairs (a, b)
 swap-from [] a b (k, low, e) = absurd (omega arith)
 swap-from (e ∷ pairs) a b h = go (pair-cases (swap e) (map swap pairs) (b, a) h) (λ later. swap-from pairs a b later)
@@ -121,7 +121,7 @@ need-listed leaders (e ∷ edges) a b h ne = go (decided (get_or leaders e.0 0) 
     go (inr (test, other)) (inl is) ih = rw test (zero, omega arith, same_pair (get_or leaders e.1 0, get_or leaders e.0 0) (get_or leaders b 0) (get_or leaders a 0) (ap (λ (p : Pair). get_or leaders p.1 0) is) (ap (λ (p : Pair). get_or leaders p.0 0) is))
     go (inr (test, other)) (inr later) ih = rw test (pair-later (get_or leaders e.1 0, get_or leaders e.0 0) (needs_among leaders edges) (get_or leaders b 0, get_or leaders a 0) (ih later))
 
--- the pair that stands for none
+-- the pair that represents none
 abbrev pub no_pair : Pair
 no_pair = (0, 0)
 

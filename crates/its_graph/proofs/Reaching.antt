@@ -26,7 +26,7 @@ known-flag (c ∷ colors) zero = go (decided c 2)
         different x = cc
 known-flag (c ∷ colors) (suc b) = known-flag colors b
 
--- a flood through all nodes finds what is reached
+-- a flood through all nodes finds exactly the reached nodes
 pub flood-reaches : (next : List (Vec ℕ Global)) (n start : ℕ) (after found : List ℕ) → Fills (Joins next) (replicate n 0) after start 0 2 found
     → (b : ℕ) → (get_or (map (λ color. color == 2) after) b false ≡ true) ↔ Path (Joins next) start b
 flood-reaches next n start after found f b = (
@@ -51,7 +51,7 @@ flood-reaches next n start after found f b = (
         go (inr h) = h
         go (inl same) = absurd (omega (arith, e, same, no_color b))
 
--- paths by edges that are the same are the same
+-- equal edges give equal paths
 pub same-paths : (E F : ℕ → ℕ → Type 0) → ((a b : ℕ) → E a b ↔ F a b) → (a b : ℕ) → Path E a b ↔ Path F a b
 same-paths E F same a b = (λ p. path-map E F (λ x y. (same x y).0) a b p, λ p. path-map F E (λ x y. (same x y).1) a b p)
 
@@ -59,6 +59,6 @@ same-paths E F same a b = (λ p. path-map E F (λ x y. (same x y).0) a b p, λ p
 pub both-ways : {A B C : Type 0} → A ↔ B → B ↔ C → A ↔ C
 both-ways f g = (λ a. g.0 (f.0 a), λ c. f.1 (g.1 c))
 
--- paths by edges that are the same, turned round
+-- reversed edges give reversed paths
 pub turned-paths : (E F : ℕ → ℕ → Type 0) → ((a b : ℕ) → E a b ↔ F b a) → (a b : ℕ) → Path E a b ↔ Path F b a
 turned-paths E F same a b = (λ p. turned E F (λ x y. (same x y).0) a b p, λ p. turned F E (λ x y. (same y x).1) b a p)

@@ -23,7 +23,7 @@ pub record MemberBy (untimed seen : List Bool) (rule t : ℕ) (links : List Pair
   pub number : e ≡ t + position
   pub member : is_member untimed seen rule e (get_or links position (0, 0)) ≡ true
 
--- what is counted is a member
+-- each listed number is that of a member
 pub members-from : (untimed seen : List Bool) (rule t : ℕ) (links : List Pair) (e : ℕ) → Contains (members_from untimed seen rule t links) e → MemberBy untimed seen rule t links e
 members-from untimed seen rule t [] e h = absurd (none_in_empty e h)
 members-from untimed seen rule t (l ∷ links) e h = go (is_member untimed seen rule t l) refl (λ later. more (members-from untimed seen rule (suc t) links e later))
@@ -55,7 +55,7 @@ members-listed untimed seen rule t (l ∷ links) (suc k) low is =
     go true e h = rw e (Contains-later t (members_from untimed seen rule (suc t) links) (suc t + k) h)
     go false e h = rw e h
 
--- it ascends
+-- the list of members ascends
 pub members-ascending : (untimed seen : List Bool) (rule t : ℕ) (links : List Pair) → IsStrictlyIncreasing (members_from untimed seen rule t links) × All (λ y. t ≤ y) (members_from untimed seen rule t links)
 members-ascending untimed seen rule t [] = (λ j low. absurd (omega (arith, low)), All-nil (λ (y : ℕ). t ≤ y))
 members-ascending untimed seen rule t (l ∷ links) = go (is_member untimed seen rule t l) refl (members-ascending untimed seen rule (suc t) links)
@@ -68,7 +68,7 @@ members-ascending untimed seen rule t (l ∷ links) = go (is_member untimed seen
       All-cons (λ (y : ℕ). t ≤ y) t (members_from untimed seen rule (suc t) links) (omega arith) (All-weaker (λ (y : ℕ). suc t ≤ y) (λ (y : ℕ). t ≤ y) (λ y h. omega (arith, h)) (members_from untimed seen rule (suc t) links) above),
     )
 
--- a rule is in the set of another exactly where the test says so
+-- a rule is in the set of another exactly if the test is true
 pub in-set : (p : Program) (untimed seen : List Bool) (rule source : ℕ) → get_or untimed 0 false ≡ false → source_of p rule ≡ Some source
     → ((b : ℕ) → (get_or seen b false ≡ true) ↔ Path (HasEdge p (flagged untimed)) b source) → get_or untimed rule false ≡ true → (own : Rule) → rule_at p rule ≡ Some own
     → (e : ℕ) → Contains (members_from untimed seen rule 1 (map ends_of p.rules)) e ↔ IsInSet p (flagged untimed) rule e
@@ -129,7 +129,7 @@ in-set p untimed seen rule source entry leaves reach is_untimed own numbered e =
         itself (inr (t, other)) = absurd (other refl)
     into (inr m) = back e m.untimed m.leads
       where
-        -- the number of an untimed rule that leads somewhere is that of a rule
+        -- the number of an untimed rule with a target is that of a rule
         back : (t : ℕ) → get_or untimed t false ≡ true → target_of p t ≡ Some m.from → Contains (members_from untimed seen rule 1 (map ends_of p.rules)) t
         back zero u leads = absurd (different (sym entry ∙ u))
           where

@@ -78,7 +78,7 @@ parts-below Edge n k leaders links l within few t m e =
     let low = (All-get_or (λ (x : Pair). (x.0 < n) × (x.1 < n)) links (t - 1) (0, 0) position within).0 in
     omega (arith, l.within (get_or links (t - 1) (0, 0)).0 low, h.from, few)
 
--- a rule leads from and to symbols of one leader
+-- source and target of a rule have one leader
 pub record HasLeader (p : Program) (leaders : List ℕ) (n t m : ℕ) : Type 0 where
   pub source : ℕ
   pub leaves : source_of p t ≡ Some source
@@ -89,7 +89,7 @@ pub record HasLeader (p : Program) (leaders : List ℕ) (n t m : ℕ) : Type 0 w
   pub target_within : target < n
   pub target_leader : get_or leaders target 0 ≡ m
 
--- a rule in a part is such a rule
+-- a rule in a part has one leader
 pub has-leader : (p : Program) (leaders : List ℕ) (n : ℕ) (links : List Pair) → links ≡ map ends_of p.rules
     → All (λ (e : Pair). (e.0 < n) × (e.1 < n)) links → (t m : ℕ)
     → get_or (None ∷ map (shared_leader leaders) links) t None ≡ Some m → HasLeader p leaders n t m

@@ -1,4 +1,4 @@
--- Sorting leaders: what settling one and listing one change, and that at the end all are listed.
+-- Sorting leaders: the effects of settling one and of listing one; at the end all are listed.
 use Rattle.std.proofs.Common.{◌≡◌, ◌≢◌, ◌↔◌, ◌⊎◌, inl, inr, ℕ, ◌+◌, ◌<◌, ◌≤◌, List, [], ◌∷◌, ◌++◌, length, take, drop}
 use Rattle.std.proofs.Common.{Bool, true, false, not, if◌then◌else◌, ◌==◌, Contains, Vec, get_or, set, replicate}
 use Rattle.std.proofs.Common.{get_or-set_other, get_or-set_same, refl, sym, ◌∙◌, ap, subst, arith, length-append, cond}
@@ -77,7 +77,7 @@ fewer-unmarked marks l low h = go (get_or marks l false) refl
         let one : unmarked_one (get_or marks l false) ≡ 1 = rw e refl in
         omega (arith, moved, one)
 
--- a test of numbers that are the same, and of others
+-- a test of equal numbers, and of others
 if-same : {A : Type 0} (a b : ℕ) (x y : A) → a ≡ b → (if a == b then x else y) ≡ x
 if-same a b x y e = go (decided a b)
   where
@@ -93,7 +93,7 @@ if-other a b x y ne = go (decided a b)
     go (inr (test, other)) = rw test refl
 
 module _ (needs : List (Vec ℕ Global)) (leaders : List ℕ) where
-  -- what one leader needs
+  -- the needs of a leader
   abbrev Need : ℕ → ℕ → Type 0
   Need = Joins needs
 
@@ -331,7 +331,7 @@ module _ (needs : List (Vec ℕ Global)) (leaders : List ℕ) where
       let own = f.ready l (subst (λ (xs : List ℕ). Contains xs l) (sym p.taken) (Contains-first l s.ready.keys)) in
       (omega (arith, own.0.0, f.listed_size), own.1, omega (arith, own.0.0, f.waiting_size))
 
-  -- what a leader needs is within
+  -- the needs of a leader are nodes
   pub needs-within : AreOrderable leaders needs → (l : ℕ) → All (λ d. d < length needs) (values_in needs l)
   needs-within o l = All-from_get_or (λ (d : ℕ). d < length needs) (values_in needs l) 0 (λ i low. omega (arith, o.size, (o.leading l (get_or (values_in needs l) i 0) (Contains-get_or (values_in needs l) i 0 low)).1.0))
 

@@ -1,4 +1,4 @@
--- The component of an unknown node: what leads to it, and to what it leads among that.
+-- The component of an unknown node: the nodes that lead to it, among those to which it leads.
 use Rattle.std.proofs.Common.{◌≡◌, ℕ, ◌<◌, List, [], length, Contains, refl, sym, ◌∙◌, subst, inl, inr, ◌⊎◌, arith}
 use Rattle.std.proofs.Common.{get_or, Vec}
 use Rattle.std.specs.declared.alloc.Global.{Global}
@@ -69,7 +69,7 @@ module _ (n : ℕ) (next previous : List (Vec ℕ Global)) (before first second 
   onward_path x (Onward {b = y} p edge) back =
       Onward (onward_path y p (edge_then Edge y x root edge back)) (edge, f.leading.are x (mutual-candidate x (record { onward = Onward p edge; back = back })))
 
-  -- what was found second is the component of the root
+  -- the nodes found second are the component of the root
   pub mutual-class : (b : ℕ) → IsMutual Edge root b → Contains class b
   mutual-class b m = (f.among.reached b).1 (onward_path b m.onward m.back)
 
@@ -86,7 +86,7 @@ module _ (n : ℕ) (next previous : List (Vec ℕ Global)) (before first second 
   class-candidate : (b : ℕ) → Contains class b → Contains candidates b
   class-candidate b h = colored-candidate b (f.among.were b h).1
 
-  -- and it is mutual with the root
+  -- a node of the component is mutual with the root
   pub class-mutual : (b : ℕ) → Contains class b → IsMutual Edge root b
   class-mutual b h = record {
     onward = path-map (EdgeTo Edge first CANDIDATE) Edge (λ x y e. e.0) root b ((f.among.reached b).0 h);
@@ -105,7 +105,7 @@ module _ (n : ℕ) (next previous : List (Vec ℕ Global)) (before first second 
       go (inl none) = absurd (none_in_empty b none)
       go (inr (k, low, e)) = e
 
-  -- and they are unknown then
+  -- nodes that become unknown again are unknown in the third list
   again-unknown : (b : ℕ) → Contains again b → get_or third b 0 ≡ UNKNOWN
   again-unknown b h = go (f.rest.newly b h)
     where

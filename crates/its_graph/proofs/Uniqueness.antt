@@ -24,7 +24,7 @@ increasing-first x (z ∷ xs) up y h = go (Contains-cons_cases z xs y h) (λ lat
     go (inl e) ih = omega (arith, first, e)
     go (inr later) ih = omega (arith, first, ih later)
 
--- ascending lists with the same numbers are the same
+-- ascending lists with the same elements are equal
 same-ascending : (xs ys : List ℕ) → IsStrictlyIncreasing xs → IsStrictlyIncreasing ys → ((b : ℕ) → Contains xs b → Contains ys b) → ((b : ℕ) → Contains ys b → Contains xs b) → xs ≡ ys
 same-ascending [] [] ux uy f g = refl
 same-ascending [] (y ∷ ys) ux uy f g = absurd (none_in_empty y (g y (Contains-first y ys)))
@@ -58,7 +58,7 @@ same-ascending (x ∷ xs) (y ∷ ys) ux uy f g =
         go (inr k) = k
 
 module _ (Edge : ℕ → ℕ → Type 0) (n : ℕ) where
-  -- what comes next is one component
+  -- the next component is unique
   one_next : (before : List (List ℕ)) (c d : List ℕ) → IsNext Edge n before c → IsNext Edge n before d → c ≡ d
   one_next before c d hc hd = same-ascending c d hc.ascending hd.ascending
       (λ b h. (hd.members b).1 (subst (λ (x : ℕ). IsMutual Edge x b) least ((hc.members b).0 h))) (λ b h. (hc.members b).1 (subst (λ (x : ℕ). IsMutual Edge x b) (sym least) ((hd.members b).0 h)))
@@ -66,7 +66,7 @@ module _ (Edge : ℕ → ℕ → Type 0) (n : ℕ) where
       least : hc.least ≡ hd.least
       least = omega (arith, hc.first hd.least hd.ready, hd.first hc.least hc.ready)
 
-  -- lists that go on from the same components are the same
+  -- lists that continue the same components are equal
   same_rest : (cs ds : List (List ℕ)) → IsListing Edge n cs → IsListing Edge n ds → (before xs ys : List (List ℕ)) → cs ≡ before ++ xs → ds ≡ before ++ ys → xs ≡ ys
   same_rest cs ds lc ld before [] [] ec ed = refl
   same_rest cs ds lc ld before [] (d ∷ ys) ec ed =

@@ -102,7 +102,7 @@ second_next = record {
     least (suc zero) r = absurd (r.unlisted (record { component = 1 ∷ []; listed = (0, omega arith, refl); member = (0, omega arith, refl) }))
     least (suc (suc a)) r = omega arith
 
--- and 0 last
+-- the last component is 0 alone
 third_next : IsNext Backward 3 ((1 ∷ []) ∷ (2 ∷ []) ∷ []) (0 ∷ [])
 third_next = record {
   least = 0;

@@ -1,4 +1,4 @@
--- The worked values of components, and of what none is.
+-- The worked values of components, and lists that are none.
 use Rattle.std.proofs.Common.{◌≡◌, ◌⊎◌, inl, inr, ℕ, zero, suc, List, [], ◌∷◌, Contains, refl, sym, subst, arith}
 use Rattle.its_graph.specs.Components.{IsMutual, IsNext, IsListing}
 use Rattle.its_graph.specs.WorkedComponents.{Loop, Backward, zero_alone, MutualNodesAreWorkedOut}

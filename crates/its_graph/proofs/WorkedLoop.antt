@@ -26,7 +26,7 @@ ends a b (Onward {b = x} p edge) = inr (go (edge_of x b edge))
     go (inr (inl (s, t))) = (omega (arith, t), omega (arith, t))
     go (inr (inr (s, t))) = (omega (arith, t), omega (arith, t))
 
--- and begins at a node up to 2
+-- a path that isn't empty begins at a node up to 2
 begins : (a b : ℕ) → Path Loop a b → (a ≡ b) ⊎ (a ≤ 2)
 begins a b (Here e) = inl e
 begins a b (Onward {b = x} p edge) = inr (go (edge_of x b edge) (begins a x p))
@@ -89,7 +89,7 @@ not_first h = go (h.sources 0 (one_edge Loop 0 1 (0, omega arith, refl)))
     go (inl l) = omega (arith, l.listed.1)
     go (inr m) = one_way (mutual-turned Loop 1 0 m)
 
--- behind 0 both others may come
+-- after 0 both others may come
 sources-behind : (a : ℕ) → IsMutual Loop a 1 → IsMutual Loop a 2 → (b : ℕ) → Path Loop b a → a ≤ 2 → IsListed zero_alone b ⊎ IsMutual Loop a b
 sources-behind a one two b p low = go (begins b a p)
   where
@@ -116,7 +116,7 @@ greater_ready = record {
   sources = λ b p. sources-behind 2 (mutual-turned Loop 1 2 both) (mutual-self Loop 2) b p (omega arith);
 }
 
--- what comes first
+-- the first component
 pub first_next : IsNext Loop 3 [] (0 ∷ [])
 first_next = record { least = 0; ready = first_ready; first = λ a r. omega arith; members = λ b. (to b, from b); ascending = increasing-one 0 }
   where
@@ -126,7 +126,7 @@ first_next = record { least = 0; ready = first_ready; first = λ a r. omega arit
     from : (b : ℕ) → IsMutual Loop 0 b → Contains (0 ∷ []) b
     from b m = subst (Contains (0 ∷ [])) (sym (only_zero b m)) (0, omega arith, refl)
 
--- and then
+-- the second component
 pub then_next : IsNext Loop 3 zero_alone (1 ∷ 2 ∷ [])
 then_next = record { least = 1; ready = next_ready; first = least; members = λ b. (to b, from b); ascending = increasing-two 1 2 (omega arith) }
   where

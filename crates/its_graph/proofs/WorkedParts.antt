@@ -76,7 +76,7 @@ inner_set t u h k e (inr b) =
           (subst (λ (x : ℕ). HasPath nested any_rule b.from x) to b.path) (connected h.source k.source h.from k.from);
     })
 
--- no path leads back to where rule 1 comes from, so that rule 4 isn't in its set
+-- no path leads back to the source of rule 1, so rule 4 isn't in its set
 fourth_outside : IsInSet nested any_rule 1 4 → ⊥
 fourth_outside (inl e) = omega (arith, e)
 fourth_outside (inr b) =

@@ -14,7 +14,7 @@ pub record AreTables (n : ℕ) (next previous : List (Vec ℕ Global)) : Type 0 
   pub previous_within : (a : ℕ) → All (λ b. b < n) (values_in previous a)
   pub opposite : (a b : ℕ) → Joins next a b ↔ Joins previous b a
 
--- the known nodes are whole components, and each has the name of one of its component, the same for all of it
+-- the known nodes are whole components, and each has as name a node of its component, the same for all its nodes
 pub record AreClasses (Edge : ℕ → ℕ → Type 0) (colors names : List ℕ) : Type 0 where
   pub decided : (a : ℕ) → (slice_index colors a ≡ UNKNOWN) ⊎ (slice_index colors a ≡ KNOWN)
   pub whole : (a b : ℕ) → slice_index colors a ≡ KNOWN → IsMutual Edge a b → (slice_index colors b ≡ KNOWN)
@@ -32,7 +32,7 @@ pub record TakesAll (Edge : ℕ → ℕ → Type 0) (after names roots : List �
   pub classes : AreClasses Edge after names
   pub known : (a : ℕ) → Contains roots a → slice_index after a ≡ KNOWN
 
--- each node has the name of one of its component, the same for all of it
+-- each node has as name a node of its component, the same for all its nodes
 pub record AreClassNames (Edge : ℕ → ℕ → Type 0) (n : ℕ) (names : List ℕ) : Type 0 where
   pub size : length names ≡ n
   pub same : (a b : ℕ) → a < n → IsMutual Edge a b → slice_index names b ≡ slice_index names a

@@ -7,7 +7,7 @@ use Rattle.its_graph.specs.Groups.{IsPair}
 use Rattle.its_graph.specs.Links.{ends_of}
 use Rattle.its_graph.specs.Components.{IsListing}
 
--- the links of a program: from where to where its rules lead, in their order
+-- the links of a program: source and target of each rule, in their order
 abbrev pub links_of : Program → List (ℕ × ℕ)
 links_of p = map ends_of p.rules
 
@@ -21,7 +21,7 @@ pub record HasInnerLink (links : List (ℕ × ℕ)) (components : List (List ℕ
   pub holds_from : Contains component from
   pub holds_to : Contains component to
 
--- a program, whose links are between nodes below a number, has a cycle exactly where some component of the graph of
+-- a program, whose links are between nodes below a number, has a cycle exactly if some component of the graph of
 -- its links has an edge inside
 abbrev pub CyclesAreInnerLinks : Type 0
 CyclesAreInnerLinks = (p : Program) (nodes : ℕ) (components : List (List ℕ))

@@ -14,7 +14,7 @@ abbrev pub painted : ℕ → ℕ → ℕ → Painting → Painting
 painted old new b m = if slice_index m.colors b == old
     then record { colors = slice_set m.colors b new; found = m.found ++ b ∷ [] } else m
 
--- the same for each node of a list, in order
+-- each node of a list is painted, in order
 abbrev pub all_painted : ℕ → ℕ → List ℕ → Painting → Painting
 all_painted old new [] m = m
 all_painted old new (b ∷ bs) m = all_painted old new bs (painted old new b m)

@@ -20,8 +20,8 @@ pub record HasSymbols (p : Program) : Type 0 where
 abbrev pub ValidHaveSymbols : Type 0
 ValidHaveSymbols = (p : Program) → IsValid p → HasSymbols p
 
--- the graph is that of the program: its start, its links, one for each rule, and for each symbol the virtual entry and
--- the rules that lead to it; it has as many symbols as the program, where this has all that it names
+-- the graph of a program: its start, a link for each rule, and for each symbol the virtual entry and the rules that
+-- lead to it; if the program has all symbols that it names, the graph has as many
 pub record IsGraphOf (g : Graph) (p : Program) : Type 0 where
   pub start : g.start ≡ p.start
   pub links : g.links.items ≡ map ends_of p.rules
@@ -41,7 +41,7 @@ none_of cut t = not (list_any (eqb t) cut)
 abbrev pub flagged : List Bool → ℕ → Bool
 flagged flags t = slice_index_or flags t false
 
--- rule t leads from and to the component, along allowed rules, whose least symbol is m
+-- rule t leads from the component of allowed rules with least symbol m to itself
 pub record StaysIn (p : Program) (is_allowed : ℕ → Bool) (t m : ℕ) : Type 0 where
   pub source : ℕ
   pub leaves : source_of p t ≡ Some source

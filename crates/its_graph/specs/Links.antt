@@ -9,7 +9,7 @@ use Rattle.its_model.specs.Views.{rule_of}
 abbrev pub ends_of : plain.Rule → ℕ × ℕ
 ends_of r = (r.source, r.target)
 
--- the same of a rule of the code
+-- the link of a rule of the code
 abbrev pub link_of : Rule → ℕ × ℕ
 link_of r = ends_of (rule_of r)
 
@@ -36,8 +36,8 @@ arrivals_from i (l ∷ links) = (l.1, i) ∷ arrivals_from (suc i) links
 abbrev pub arrivals : ℕ → List (ℕ × ℕ) → List (ℕ × ℕ)
 arrivals start links = (start, 0) ∷ arrivals_from 1 links
 
--- whether the rule with a number and link is in the set of a rule, where `seen` says from which symbols its source is
--- reached by untimed rules
+-- whether the rule with this number and link is in the set of a rule, where `seen` marks the symbols from which its
+-- source is reached by untimed rules
 abbrev pub is_member : List Bool → List Bool → ℕ → ℕ → ℕ × ℕ → Bool
 is_member untimed seen rule t link = (t == rule) || (slice_index_or untimed t false && slice_index_or seen link.1 false)
 
@@ -47,7 +47,7 @@ members_from untimed seen rule t [] = []
 members_from untimed seen rule t (l ∷ links) = (if is_member untimed seen rule t l then t ∷ [] else [])
     ++ members_from untimed seen rule (suc t) links
 
--- the leader of both ends of a link, where they have the same
+-- the leader of both ends of a link, if they have the same
 abbrev pub shared_leader : List ℕ → ℕ × ℕ → Option ℕ
 shared_leader leaders link = if slice_index leaders link.0 == slice_index leaders link.1
     then Some (slice_index leaders link.0) else None

@@ -6,7 +6,7 @@ abbrev pub named : ℕ → List ℕ → List ℕ → List ℕ
 named name [] names = names
 named name (b ∷ bs) names = named name bs (slice_set names b name)
 
--- a table of first nodes, and the first node of a name, where this node comes next
+-- the table of first nodes, and the first node with a name, after this node is added
 abbrev pub first_in : Option ℕ → ℕ → ℕ → List (Option ℕ) → List (Option ℕ) × ℕ
 first_in None name node first = (slice_set first name (Some node), node)
 first_in (Some leader) name node first = (first, leader)

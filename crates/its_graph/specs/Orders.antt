@@ -12,7 +12,7 @@ use Rattle.its_graph.specs.Groups.{values_in, Joins}
 abbrev pub IsLeader : List ℕ → ℕ → Type 0
 IsLeader leaders c = (c < length leaders) × (slice_index leaders c ≡ c)
 
--- one need more, where an edge leads from another component
+-- one more need, if an edge leads from another component
 abbrev pub need_of : ℕ → ℕ → List (ℕ × ℕ)
 need_of leader need = if need == leader then [] else (leader, need) ∷ []
 
@@ -33,25 +33,25 @@ pub record Needs (Edge : ℕ → ℕ → Type 0) (leaders : List ℕ) (c d : ℕ
   pub leader : slice_index leaders to ≡ c
   pub other : d ≢ c
 
--- the leader that comes next behind others, where `Need c d` says that c needs d before it: the least one that isn't
--- among them while all that it needs is
+-- the leader that comes next after others, where `Need c d` means that c needs d before it: the least one that isn't
+-- among them and all of whose needs are
 pub record IsNextLeader (Need : ℕ → ℕ → Type 0) (leaders before : List ℕ) (c : ℕ) : Type 0 where
   pub leads : IsLeader leaders c
   pub unlisted : ¬ (Contains before c)
   pub needs : (d : ℕ) → Need c d → Contains before d
   pub least : (q : ℕ) → IsLeader leaders q → ¬ (Contains before q) → ((d : ℕ) → Need q d → Contains before d) → c ≤ q
 
--- each leader of the list comes next behind those before it
+-- each leader of the list comes next after those before it
 abbrev pub EachIsNext : (ℕ → ℕ → Type 0) → List ℕ → List ℕ → Type 0
 EachIsNext Need leaders order = (k : ℕ) → k < length order
     → IsNextLeader Need leaders (take k order) (slice_index order k)
 
--- and all leaders are listed
+-- each leader of the list comes next after those before it, and all leaders are listed
 pub record AreLeadersInOrder (Need : ℕ → ℕ → Type 0) (leaders order : List ℕ) : Type 0 where
   pub each : EachIsNext Need leaders order
   pub all : (c : ℕ) → IsLeader leaders c → Contains order c
 
--- the table has what each leader needs, and no leader needs, directly or not, what needs it
+-- the table has the needs of each leader, and no leader needs itself, directly or not
 pub record AreOrderable (leaders : List ℕ) (needs : List (Vec ℕ Global)) : Type 0 where
   pub size : length needs ≡ length leaders
   pub leading : (c d : ℕ) → Joins needs c d → IsLeader leaders c × IsLeader leaders d
@@ -102,7 +102,7 @@ pub record Skips (row : List ℕ) (is_listed : List Bool) (from position : ℕ) 
   pub between : (k : ℕ) → from ≤ k → k < position → IsMarked is_listed (slice_index row k)
   pub stops : position < length row → ¬ (IsMarked is_listed (slice_index row position))
 
--- a leader waits for a need that isn't listed, or is ready where there is none
+-- a leader waits for a need that isn't listed yet, or is ready if there is none
 abbrev pub WaitsOrReady : List ℕ → ℕ → ℕ → Sorting → Sorting → Type 0
 WaitsOrReady row position leader s t =
     ((position < length row) × (t.ready.keys ≡ s.ready.keys)

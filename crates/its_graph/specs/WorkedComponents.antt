@@ -1,4 +1,4 @@
--- Worked values, on two graphs, of which nodes are in one component, which component comes next, which lists are right,
+-- Worked values, on two graphs: which nodes are in one component, which component comes next, which lists are right,
 -- and which components have an edge inside.
 use Rattle.std.specs.Prelude.{ℕ, List, [], ◌∷◌}
 use Rattle.its_graph.specs.Groups.{IsPair}
@@ -29,8 +29,8 @@ pub record ListedNodesAreWorkedOut : Type 0 where
   pub second : IsListed ((0 ∷ []) ∷ (2 ∷ 1 ∷ []) ∷ []) 1
   pub none : ¬ (IsListed ((0 ∷ []) ∷ (2 ∷ 1 ∷ []) ∷ []) 3)
 
--- in the first graph of three nodes 0 may come first, and 1 may not, nor may a node past the end; behind [0] 1 and 2
--- may come, and 0 may not; in the second graph 1 and 2 may come first, and 0 may not
+-- in the first graph of three nodes 0 may come first, and neither 1 nor a node past the end; after [0] 1 and 2 may
+-- come, and not 0; in the second graph 1 and 2 may come first, and not 0
 pub record ReadyNodesAreWorkedOut : Type 0 where
   pub first : MayComeNext Loop 3 [] 0
   pub behind_another : ¬ (MayComeNext Loop 3 [] 1)
@@ -54,8 +54,7 @@ pub record NextComponentsAreWorkedOut : Type 0 where
   pub not_least : ¬ (IsNext Backward 3 [] (2 ∷ []))
 
 -- the components of the first graph are [0], [1, 2] and no other list: not in another order, nor without the last, nor
--- taken apart; those of the second one are [1], [2], [0], and not in the order of their nodes, nor with the edge's ends
--- first
+-- split; those of the second one are [1], [2], [0], not in the order of their nodes, nor with the edge's ends first
 pub record ListingsAreWorkedOut : Type 0 where
   pub loop : IsListing Loop 3 ((0 ∷ []) ∷ (1 ∷ 2 ∷ []) ∷ [])
   pub turned : ¬ (IsListing Loop 3 ((1 ∷ 2 ∷ []) ∷ (0 ∷ []) ∷ []))
@@ -65,8 +64,8 @@ pub record ListingsAreWorkedOut : Type 0 where
   pub by_numbers : ¬ (IsListing Backward 3 ((0 ∷ []) ∷ (1 ∷ []) ∷ (2 ∷ []) ∷ []))
   pub ends_first : ¬ (IsListing Backward 3 ((2 ∷ []) ∷ (0 ∷ []) ∷ (1 ∷ []) ∷ []))
 
--- the second component of the first graph has an edge inside, and so has one whose only node leads to itself; none of
--- the second graph has, nor has one that holds both ends of a link but isn't listed
+-- the second component of the first graph has an edge inside, and so has one whose only node leads to itself; no
+-- component of the second graph has one, nor has an unlisted component with both ends of a link
 pub record InnerLinksAreWorkedOut : Type 0 where
   pub loop : HasInnerLink ((0, 1) ∷ (1, 2) ∷ (2, 1) ∷ []) ((0 ∷ []) ∷ (1 ∷ 2 ∷ []) ∷ [])
   pub itself : HasInnerLink ((0, 0) ∷ []) zero_alone

@@ -16,8 +16,8 @@ with_first = None ∷ Some 1 ∷ Some 1 ∷ Some 1 ∷ Some 1 ∷ []
 abbrev pub first_three : List (Option ℕ)
 first_three = None ∷ Some 1 ∷ Some 1 ∷ Some 1 ∷ None ∷ []
 
--- rules 2, 3 and 4 have the same set where no rule has a time, and rule 1 has another one; where rules 3 and 4 alone
--- have none, these two have different sets, and rule 3 may be in one part with rules 1 and 2, which have a time
+-- rules 2, 3 and 4 have the same set if no rule has a time, and rule 1 has another one; if only rules 3 and 4 have
+-- none, these two have different sets, and rule 3 may be in one part with rules 1 and 2, which have a time
 pub record PartsAreWorkedOut : Type 0 where
   pub one_part : HaveSameSets nested any_rule inner_part
   pub another_set : ¬ (HaveSameSets nested any_rule with_first)

@@ -176,7 +176,7 @@ fn are_known(alloc: Global, colors: &[u8]) -> Result<Vec<bool>, Memory>
     colors.iter().map(|color| *color == KNOWN).collect(alloc)
 }
 
-// The numbers of the rules in the set of a rule, where `seen` says from which symbols its source is reached.
+// The numbers of the rules in the set of a rule, where `seen` marks the symbols from which its source is reached.
 fn members(
     alloc: Global,
     links: &[(u32, u32)],
@@ -218,7 +218,7 @@ fn push_member(found: &mut Vec<u32>, number: u32, is_member: bool) -> Result<(),
     Ok(())
 }
 
-// For each link the leader of both its ends, where they have the same, and before it none for the virtual entry.
+// For each link the leader of both its ends, if they have the same, after none for the virtual entry.
 fn shared_leaders(
     alloc: Global,
     links: &[(u32, u32)],
@@ -235,7 +235,7 @@ fn shared_leaders(
     Ok(parts)
 }
 
-// The leader of both ends of a link, where they have the same.
+// The leader of both ends of a link, if they have the same.
 fn leader_of_both(leaders: &[u32], link: (u32, u32)) -> Option<u32>
     requires from { link.0 < length leaders.now }
     requires to { link.1 < length leaders.now }

@@ -13,7 +13,7 @@ pub fn without_cycle_each_rule_at_most_once()
     ensures { WithoutCycleEachRuleAtMostOnce }
 {}
 
-/// The graph of a program has a cycle exactly where some listed component holds both ends of a link.
+/// The graph of a program has a cycle exactly if some listed component holds both ends of a link.
 pub fn cycles_are_inner_links()
     ensures { CyclesAreInnerLinks }
 {}

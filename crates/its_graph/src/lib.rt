@@ -4,8 +4,8 @@
 //! Builds on `its_model`, and on `run_counting` for programs without a cycle. Main guarantee: the rules that can come
 //! just before a rule, the reachable symbols and the set of a rule without a time are those of the definitions by
 //! paths; rules without a time that stay in one component have the same set; `components` gives the only list of
-//! components in their order; `has_cycle` answers yes exactly where some component has an edge inside; and without a
-//! cycle each rule occurs at most once in every run.
+//! components in their order; `has_cycle` is true exactly if some component has an edge inside; and without a cycle
+//! each rule occurs at most once in every run.
 #![tactic(auto)]
 
 mod classes;

@@ -1,4 +1,4 @@
-//! The order of components, by their leaders: each comes as soon as all that it needs were listed, the least leader
+//! The order of components, by their leaders: each comes as soon as all that it needs are listed, the least leader
 //! first.
 
 ghost use Rattle.std.specs.Prelude.{◌≡◌, ◌↔◌, ℕ, ◌+◌, ◌<◌, ◌≤◌, ◌^◌, ◌∷◌, ◌++◌, [], length, All, IfOk, OnOk, not};
@@ -47,7 +47,7 @@ fn needs_of(alloc: Global, edges: &[(u32, u32)], leaders: &[u32]) -> Result<Vec<
     Ok(needs)
 }
 
-// The nodes that lead their component.
+// The leaders among the nodes.
 fn own_leaders(alloc: Global, leaders: &[u32]) -> Result<Vec<u32>, Memory>
     requires few { length leaders.now ≤ 2 ^ 32 }
     ensures { IfOk result (λ own. (c : ℕ) → Contains own.items c ↔ IsLeader leaders.now c) }
@@ -69,7 +69,7 @@ fn push_if_same(own: &mut Vec<u32>, node: u32, leader: u32) -> Result<(), Memory
     Ok(())
 }
 
-// The leaders sorted, where `needs` has what each needs.
+// The leaders in their order, where `needs` has the needs of each.
 fn sorted(
     alloc: Global,
     needs: &[Vec<u32>],

@@ -45,7 +45,7 @@ fn left_last(alloc: Global, next: &[Vec<u32>]) -> Result<Vec<u32>, Memory>
     Ok(nodes)
 }
 
-// A node on the path of a walk, and how many of its successors were looked at.
+// A node on the path of a walk, and the number of its successors that were visited.
 #[derive(Debug, Drop)]
 struct Visit {
     node: u32,
@@ -78,7 +78,7 @@ impl Walk {
         }
     }
 
-    // The walk goes on to the next successor of a node, or leaves it.
+    // The walk continues with the next successor of a node, or leaves the node.
     fn go_on(&mut self, next: &[Vec<u32>], visit: Visit) -> Result<(), Memory>
         requires edges_within { (a : ℕ) → All (λ b. b < length next.now) (values_in next.now a) }
         requires walk { IsWalk (length next.now) self.old }

@@ -27,7 +27,7 @@ fits-written : (env : List ℤ) (c : Option Term) → CostFits env c → written
 fits-written env None h = refl
 fits-written env (Some c) h = ap (λ (b : Bool). if b then None else Some PastRange) h
 
--- nothing that a cost, an atom, an update or a rule's body says is that there is no such rule
+-- the faults of a cost, an atom, an update or a rule's body are never that there is no such rule
 written-isnt-other : (env : List ℤ) (c : Option Term) → written_fault c env ≡ Some OtherRule → ⊥
 written-isnt-other env None h = cc
 written-isnt-other env (Some c) h = go (values_fit c env) h
@@ -65,7 +65,7 @@ updates-isnt-other env (u ∷ us) h = go (values_fit u env) (updates-isnt-other 
 body-isnt-other : (r : Rule) (env : List ℤ) → body_fault r env ≡ Some OtherRule → ⊥
 body-isnt-other r env = neither (guard_fault env 1 r.guard) (updates_fault env r.updates) (guard-isnt-other env 1 r.guard) (updates-isnt-other env r.updates)
 
--- where neither of two says so, they say together whether there is no such rule
+-- if neither of two faults is that there is no such rule, choosing one of them by a test agrees on whether there is
 same-other : (b : Bool) (f g : Option StepFault) → (f ≡ Some OtherRule → ⊥) → (g ≡ Some OtherRule → ⊥)
     → ((if b then f else Some OtherRule) ≡ Some OtherRule) ↔ ((if b then g else Some OtherRule) ≡ Some OtherRule)
 same-other true f g h k = ((λ e. absurd (h e)), (λ e. absurd (k e)))

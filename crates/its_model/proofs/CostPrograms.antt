@@ -36,7 +36,7 @@ other-name n = go (is_same n (36 ∷ [])) refl
     go true e = longer n e
     go false e = e
 
--- it is a name
+-- the name of the target of a cost's program is a name
 cost-name-is : (n : Name) → IsName (cost_name n)
 cost-name-is n = go (is_same n (36 ∷ []))
   where
@@ -44,7 +44,7 @@ cost-name-is n = go (is_same n (36 ∷ []))
     go true = (refl, refl)
     go false = (refl, refl)
 
--- what holds of all holds of the first ones
+-- a property of all elements holds of the first ones
 first-hold : {X : Type 0} (P : X → Type 0) (n : ℕ) (xs : List X) → AllByRecursion P xs → AllByRecursion P (take n xs)
 first-hold P zero xs h = tt
 first-hold P (suc n) [] h = tt
@@ -85,7 +85,7 @@ rule-of-cost p s r k h e f =
       cost = tt;
     }
 
--- the same for its program
+-- the program of a cost is valid
 program-of-cost : (p : Program) (s : Symbol) (r : Rule) (k : Term) → IsValidSymbol s → IsValidRule p r → r.cost ≡ Some k → slice_get p.symbols r.source ≡ Some s
     → IsValid (cost_program s r k)
 program-of-cost p s r k v h e f = record {

@@ -11,12 +11,12 @@ use Rattle.poly_terms.specs.model.Costs.{cost_rule, entering_cost}
 use Rattle.its_model.specs.CostPrograms.{cost_program, LeadsToCost, IsCostProgram, at_cost}
 use Rattle.its_model.proofs.ListLaws.{all-to, all-from}
 
--- what holds of two lists holds of each
+-- a property of an appended list holds of each part
 both-hold : {X : Type 0} (P : X → Type 0) (xs ys : List X) → AllByRecursion P (xs ++ ys) → AllByRecursion P xs × AllByRecursion P ys
 both-hold P [] ys h = (tt, h)
 both-hold P (x ∷ xs) ys h = let rest = both-hold P xs ys h.1 in ((h.0, rest.0), rest.1)
 
--- and the other way round
+-- a property that holds of two lists holds of the appended list
 pub joined-hold : {X : Type 0} (P : X → Type 0) (xs ys : List X) → AllByRecursion P xs → AllByRecursion P ys → AllByRecursion P (xs ++ ys)
 joined-hold P [] ys h k = k
 joined-hold P (x ∷ xs) ys h k = (h.0, joined-hold P xs ys h.1 k)
@@ -27,7 +27,7 @@ guard-with-cost r k env g l =
     all-to (AtomHolds env) (cost_rule r k).guard
     (joined-hold (AtomHolds env) r.guard (Compare k AtLeast (Literal (pos 0)) ∷ []) (all-from (AtomHolds env) r.guard g) (l, tt))
 
--- so a cost rule leads to the cost, and nowhere else
+-- a cost rule leads to the cost, and to nothing else
 to-cost : (r : Rule) (k : Term) (c d : Config) (free : List ℤ) → Leads (cost_rule r k) c free d → LeadsToCost r k c free d
 to-cost r k c d free h =
     let env = c.values ++ free in
@@ -82,7 +82,7 @@ steps-of p q t k c d s =
     subst (λ (w : Program). IsStep w c s d ↔ ((s.rule ≡ 1) × LeadsToCost k.costs.rule k.costs.cost c s.free d)) (sym k.program)
     (step-of k.symbol k.costs.rule k.costs.cost c d s)
 
--- an integer that isn't negative is what counts of it
+-- a nonnegative integer is its nonnegative part
 counted : (z : ℤ) → pos 0 ≤ℤ z → pos (or_zero z) ≡ z
 counted (pos n) l = refl
 counted (negsuc n) l = absurd (omega (arith, ints, l))

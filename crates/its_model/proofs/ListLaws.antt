@@ -10,7 +10,7 @@ pub mapped-from : {X Y : Type 0} (f : X → Y) (xs : List X) (i : ℕ) (x : X) �
     → map f (drop i xs) ≡ f x ∷ map f (drop (i + 1) xs)
 mapped-from {X} f xs i x l e = ap (map f) (drop_more xs i x l) ∙ ap (λ (y : X). f y ∷ map f (drop (i + 1) xs)) (sym e)
 
--- what holds of all holds of the one at i
+-- a property of all elements holds of the one at i
 pub mapped-all : {X Y : Type 0} (P : Y → Type 0) (f : X → Y) (xs : List X) (i : ℕ) (x : X) → AllByRecursion P (map f xs) → i < length xs
     → x ≡ get_or xs i x → P (f x)
 mapped-all {X} P f xs i x h l e = subst (λ (y : X). P (f y)) (sym e) (at xs i h l)
@@ -20,7 +20,7 @@ mapped-all {X} P f xs i x h l e = subst (λ (y : X). P (f y)) (sym e) (at xs i h
     at (y ∷ ys) zero h l = h.0
     at (y ∷ ys) (suc i) h l = at ys i h.1 (omega arith)
 
--- the one at i of what is made of a list is made of the one at i
+-- the element at i of a mapped list is the mapped element at i
 pub mapped-get : {X Y : Type 0} (f : X → Y) (xs : List X) (i : ℕ) (x : X) → i < length xs → x ≡ get_or xs i x → slice_get (map f xs) i ≡ Some (f x)
 mapped-get {X} f xs i x l e = at xs i l ∙ ap (λ y. Some (f y)) (sym e)
   where
@@ -41,7 +41,7 @@ all-to P [] h k d l = absurd (omega arith)
 all-to P (x ∷ xs) h zero d l = h.0
 all-to P (x ∷ xs) h (suc k) d l = all-to P xs h.1 k d (omega arith)
 
--- what holds at every position holds by recursion
+-- a property of every position holds by recursion
 pub all-from : {X : Type 0} (P : X → Type 0) (xs : List X) → All P xs → AllByRecursion P xs
 all-from P [] h = tt
 all-from P (x ∷ xs) h = (h 0 x (omega arith), all-from P xs (λ k d l. h (suc k) d (omega arith)))

@@ -94,7 +94,7 @@ atom-no_fault env n (Compare d r e) h f =
     ∙ (ap (λ (b : Bool). if b then (if is_related r (value d env) (value e env) then None else Some (AtomFails n)) else Some PastRange) f.1
     ∙ ap (λ (b : Bool). if b then None else Some (AtomFails n)) (related-answers r (value d env) (value e env) h))
 
--- the same for all atoms
+-- if no atom has a fault, all of them hold
 guard-holds : (env : List ℤ) (n : ℕ) (atoms : List Atom) → guard_fault env n atoms ≡ None → AllByRecursion (AtomHolds env) atoms × AllByRecursion (AtomFits env) atoms
 guard-holds env n [] h = (tt, tt)
 guard-holds env n (a ∷ atoms) h =
@@ -108,7 +108,7 @@ guard-no_fault env n [] h f = refl
 guard-no_fault env n (a ∷ atoms) h f =
     ap (λ (g : Option StepFault). first_of g (guard_fault env (suc n) atoms)) (atom-no_fault env n a h.0 f.0) ∙ guard-no_fault env (suc n) atoms h.1 f.1
 
--- and for updates
+-- updates have no fault exactly if their values are within 128 bits
 updates-fit : (env : List ℤ) (us : List Term) → updates_fault env us ≡ None → AllByRecursion (λ u. values_fit u env ≡ true) us
 updates-fit env [] h = tt
 updates-fit env (u ∷ us) h = go (values_fit u env) refl h (updates-fit env us)
@@ -122,7 +122,7 @@ updates-no_fault : (env : List ℤ) (us : List Term) → AllByRecursion (λ u. v
 updates-no_fault env [] f = refl
 updates-no_fault env (u ∷ us) f = ap (λ (b : Bool). if b then updates_fault env us else Some PastRange) f.0 ∙ updates-no_fault env us f.1
 
--- what a rule without a fault fulfils
+-- the conditions that a rule without a fault meets
 record Sound (r : Rule) (c : Config) (free : List ℤ) : Type 0 where
   source : c.at ≡ r.source
   free_ones : length free ≡ r.free
@@ -148,7 +148,7 @@ rule-sound r c free h = go (nat_eq c.at r.source) (nat_eq (length free) r.free) 
 found : (p : Program) (c : Config) (s : Step) (r : Rule) → rule_at p s.rule ≡ Some r → step_fault p c s ≡ rule_fault r c s.free
 found p c s r e = ap (λ (o : Option Rule). found_fault o c s.free) e
 
--- a use of a rule has no fault exactly where it is a step within 128 bits
+-- a use of a rule has no fault exactly if it is a step within 128 bits
 pub steps-have-no-fault : StepsHaveNoFault
 steps-have-no-fault = record { step = step; fits = fits; no_fault = no_fault }
   where

@@ -5,7 +5,7 @@ use Rattle.poly_terms.specs.model.Programs.{Program, Rule, rule_at}
 use Rattle.its_model.specs.Valid.{IsValidRule, IsValid}
 use Rattle.its_model.specs.ValidLaws.{AritiesOfValidAgree}
 
--- what holds of each element holds of that at a position
+-- a property of each element holds of the one at a position
 pub holds-at : {X : Type 0} (P : X → Type 0) (xs : List X) (i : ℕ) (x : X) → AllByRecursion P xs
     → slice_get xs i ≡ Some x → P x
 holds-at P [] i x h e = absurd (none_some e)

@@ -77,7 +77,7 @@ valid = record {
   no_rule = λ h. let e = h.start_is_source in cc;
 }
 
--- what holds of one holds of each of its copies
+-- a property of an element holds of each of its copies
 copies : {X : Type 0} (P : X → Type 0) (n : ℕ) (x : X) → P x → AllByRecursion P (replicate n x)
 copies P zero x h = tt
 copies P (suc n) x h = (h, copies P n x h)

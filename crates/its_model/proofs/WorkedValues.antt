@@ -39,7 +39,7 @@ first_read r h = λ i. record {
   cost = ap (option_map term_of) h.cost i;
 }
 
--- the same for the second one
+-- the second rule as plain data
 second_read : (r : Rule) → IsSecondRule r → rule_of r ≡ second_rule
 second_read r h = λ i. record {
   source = h.source i;
@@ -52,7 +52,7 @@ second_read r h = λ i. record {
   cost = ap (option_map term_of) h.cost i;
 }
 
--- the same for the program
+-- the program as plain data
 program_read : (p : Program) → IsWorkedProgram p → program_of p ≡ worked_program
 program_read p w = λ i. record {
   symbols = symbols i;

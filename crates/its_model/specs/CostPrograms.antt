@@ -1,4 +1,4 @@
--- The program of a rule's cost, whose one rule leads to the cost.
+-- The program of a rule's cost, whose one rule leads to a configuration with the cost.
 use Rattle.std.specs.Prelude.{◌≡◌, ◌↔◌, ℕ, List, [], ◌∷◌, ◌++◌, length, take, if◌then◌else◌, ℤ, pos, ◌≤ℤ◌, Some}
 use Rattle.std.specs.Prelude.{slice_get}
 use Rattle.poly_terms.specs.model.Terms.{Term, value}
@@ -9,12 +9,12 @@ use Rattle.poly_terms.specs.model.Costs.{cost_rule, HasCost, entering_cost}
 use Rattle.text_core.specs.Names.{is_same}
 use Rattle.its_model.specs.Valid.{IsValid}
 
--- the name of the symbol that a cost rule leads to, by that of the one that it leaves: `$`, and `$$` behind `$`
+-- the name of the symbol that a cost rule leads to: `$`, or `$$` if the source is named `$`
 abbrev pub cost_name : Name → Name
 cost_name source = if is_same source (36 ∷ []) then 36 ∷ 36 ∷ [] else 36 ∷ []
 
--- the program of the cost c of a rule that leaves the symbol s: it starts at s with the rule's left names, and its one
--- rule leads to the cost
+-- the program of the cost c of a rule with source s: it starts at s with the rule's left names, and its one rule leads
+-- to the cost
 abbrev pub cost_program : Symbol → Rule → Term → Program
 cost_program s r c = record {
   symbols = s ∷ record { name = cost_name s.name; arity = 1 } ∷ [];
@@ -41,12 +41,12 @@ pub record LeadsToCost (r : Rule) (k : Term) (c : Config) (free : List ℤ) (d :
   pub target : d.at ≡ 1
   pub cost : d.values ≡ value k (c.values ++ free) ∷ []
 
--- where such a step ends: at symbol 1, with one value
+-- the configuration that such a step ends in: at symbol 1, with one value
 abbrev pub at_cost : ℤ → Config
 at_cost z = record { at = 1; values = z ∷ [] }
 
--- the program of a cost of a valid program is valid; its steps are those by rule 1 that lead to the cost; and each step
--- of the program by the rule, where the cost isn't negative, is one that leads to what it costs
+-- the program of a cost of a valid program is valid; its steps are those by rule 1 that lead to the cost; and each
+-- step of the program by the rule with a nonnegative cost is one that leads to its cost
 pub record CostProgramsTellCosts : Type 0 where
   pub valid : (p q : Program) (t : ℕ) → IsValid p → IsCostProgram p t q → IsValid q
   pub steps : (p q : Program) (t : ℕ) (k : IsCostProgram p t q) (c d : Config) (s : Step)

@@ -18,7 +18,7 @@ rule_cost_fault r c free =
     then written_fault r.cost (c.values ++ free)
     else Some OtherRule
 
--- the same where there may be no rule
+-- the fault of a use's cost, if there is such a rule
 abbrev pub found_cost_fault : Option Rule → Config → List ℤ → Option StepFault
 found_cost_fault None c free = Some OtherRule
 found_cost_fault (Some r) c free = rule_cost_fault r c free
@@ -32,8 +32,8 @@ abbrev pub CostFits : List ℤ → Option Term → Type 0
 CostFits env None = ⊤
 CostFits env (Some c) = values_fit c env ≡ true
 
--- the rule that is used exists, leaves the symbol, has this many free variables, and no value of its cost exceeds 128
--- bits
+-- the rule exists, leaves the configuration's symbol, has this many free variables, and no value of its cost exceeds
+-- 128 bits
 pub record HasFittingCost (p : Program) (c : Config) (s : Step) : Type 0 where
   pub rule : Rule
   pub numbered : rule_at p s.rule ≡ Some rule
@@ -41,8 +41,8 @@ pub record HasFittingCost (p : Program) (c : Config) (s : Step) : Type 0 where
   pub free_ones : length s.free ≡ rule.free
   pub fits : CostFits (c.values ++ s.free) rule.cost
 
--- the cost of a use of a rule has no fault exactly where it is one of the rule whose cost fits, and it is no use of the
--- rule exactly where it would be none as a step
+-- the cost of a use of a rule has no fault exactly if it is one of the rule whose cost fits, and it is no use of the
+-- rule exactly if it would be none as a step
 pub record CostsHaveNoFault : Type 0 where
   pub no_fault : (p : Program) (c : Config) (s : Step) → (cost_fault p c s ≡ None) ↔ HasFittingCost p c s
   pub other_rule : (p : Program) (c : Config) (s : Step) → (cost_fault p c s ≡ Some OtherRule)

@@ -10,8 +10,8 @@ use Rattle.poly_terms.specs.model.Programs.{Rule, Program, rule_at}
 use Rattle.poly_terms.specs.model.Runs.{Config, Step, IsStep}
 use Rattle.poly_terms.specs.Checked.{values_fit}
 
--- the faults of a use of a rule: there is no such rule, it leaves another symbol, or has another number of free
--- variables; an atom, counted from 1, doesn't hold; a value exceeds 128 bits
+-- the faults of a use of a rule: there is no such rule, or it leaves another symbol, or has another number of free
+-- variables; an atom, counted from 1, doesn't hold; or a value exceeds 128 bits
 pub data StepFault : Type 0 where
   OtherRule : StepFault
   AtomFails : ℕ → StepFault
@@ -30,7 +30,7 @@ is_related AtMost x y = int_le x y
 is_related LessThan x y = int_lt x y
 is_related EqualTo x y = int_eq x y
 
--- the fault of the atom with a number: both sides are looked at before they are compared
+-- the fault of the atom with a number: both sides are computed before they are compared
 abbrev pub atom_fault : List ℤ → ℕ → Atom → Option StepFault
 atom_fault env n Always = None
 atom_fault env n (Compare d r e) =
@@ -58,7 +58,7 @@ rule_fault r c free =
     then body_fault r (c.values ++ free)
     else Some OtherRule
 
--- the same where there may be no rule
+-- the fault of a use, if there is such a rule
 abbrev pub found_fault : Option Rule → Config → List ℤ → Option StepFault
 found_fault None c free = Some OtherRule
 found_fault (Some r) c free = rule_fault r c free
@@ -82,7 +82,7 @@ pub record RuleFits (r : Rule) (env : List ℤ) : Type 0 where
   pub guard : AllByRecursion (AtomFits env) r.guard
   pub updates : AllByRecursion (λ u. values_fit u env ≡ true) r.updates
 
--- from a configuration with a value for each left variable, a use of a rule has no fault exactly where it is a step and
+-- from a configuration with a value for each left variable, a use of a rule has no fault exactly if it is a step and
 -- no value exceeds 128 bits on the way
 pub record StepsHaveNoFault : Type 0 where
   pub step : (p : Program) (c : Config) (s : Step) (r : Rule) → rule_at p s.rule ≡ Some r → length c.values ≡ r.left

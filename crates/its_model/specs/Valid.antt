@@ -10,7 +10,7 @@ use Rattle.poly_terms.specs.Checked.{ReadsBelow}
 use Rattle.poly_terms.specs.Faults.{first_fault}
 use Rattle.text_core.specs.Names.{IsName, AreDistinct}
 
--- the difference of a comparison, which is at least 0 exactly where the comparison holds: over integers x > y is
+-- the difference of a comparison, which is at least 0 exactly if the comparison holds: over integers x > y is
 -- x - y - 1 >= 0; that of an equation is its left side less its right one, which has to be 0
 abbrev pub difference_of : Term → Relation → Term → Term
 difference_of d AtLeast e = Subtraction d e
@@ -50,9 +50,9 @@ pub record IsValidSymbol (s : Symbol) : Type 0 where
   pub name : IsName s.name
   pub arity : s.arity ≤ place_limit
 
--- a rule leads from a symbol of the program to one of it, with a left variable for each place of the source, an update
--- for each place of the target, distinct names of all its variables, at most 64 of them, and at most 64 atoms,
--- towards which its cost counts
+-- a rule leads from one symbol of the program to another; it has a left variable for each place of the source, an
+-- update for each place of the target, distinct names for all its variables, at most 64 of them, and at most 64 atoms,
+-- where its cost counts as one
 pub record IsValidRule (p : Program) (r : Rule) : Type 0 where
   pub source : r.source < length p.symbols
   pub target : r.target < length p.symbols

@@ -56,7 +56,7 @@ pub record IsFirstRule (r : Rule) : Type 0 where
   pub guard : r.guard.items ≡ Always ∷ Compare (Var 0) Ge (Var 3) ∷ []
   pub cost : r.cost ≡ Some (Var 2)
 
--- the same rule as plain data
+-- this rule as plain data
 abbrev pub first_rule : plain.Rule
 first_rule = record {
   source = 0;
@@ -80,7 +80,7 @@ pub record IsSecondRule (r : Rule) : Type 0 where
   pub guard : r.guard.items ≡ []
   pub cost : r.cost ≡ None
 
--- the same rule as plain data
+-- this rule as plain data
 abbrev pub second_rule : plain.Rule
 second_rule = record {
   source = 2;
@@ -110,7 +110,7 @@ pub record IsWorkedProgram (p : Program) : Type 0 where
   pub start_names : AreSpelled p.start_names.items (letter 88 ∷ letter 89 ∷ [])
   pub rules : p.rules.items ≡ one ∷ two ∷ []
 
--- the same program as plain data
+-- this program as plain data
 abbrev pub worked_program : plain.Program
 worked_program = record {
   symbols = record { name = letter 102; arity = 3 } ∷ record { name = letter 104; arity = 2 }

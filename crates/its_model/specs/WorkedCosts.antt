@@ -30,7 +30,7 @@ pub record CostFaultsAreWorkedOut : Type 0 where
   pub other_symbol : cost_fault (paying A) (standing_at 1 (pos 3) (pos 2)) (by_rule 1 []) ≡ Some OtherRule
   pub free_value : cost_fault (paying A) (standing_at 0 (pos 3) (pos 2)) (by_rule 1 (pos 0 ∷ [])) ≡ Some OtherRule
   pub rule_first : cost_fault (paying one_more) (standing_at 1 maximum (pos 2)) (by_rule 1 []) ≡ Some OtherRule
-  -- A + 1 is no value at the maximum, nor is (A + 1) - 1; A is
+  -- at the maximum, A + 1 and (A + 1) - 1 have no value in 128 bits, and A has one
   pub past : cost_fault (paying one_more) (standing_at 0 maximum (pos 0)) (by_rule 1 []) ≡ Some PastRange
   pub on_the_way : cost_fault (paying (Subtraction one_more (Literal (pos 1)))) (standing_at 0 maximum (pos 0))
       (by_rule 1 []) ≡ Some PastRange
@@ -38,7 +38,7 @@ pub record CostFaultsAreWorkedOut : Type 0 where
   -- where no cost is written, none exceeds 128 bits, though an update does
   pub none_written : cost_fault small_program (standing_at 0 maximum (pos 1)) (by_rule 1 []) ≡ None
   pub past_in_update : step_fault small_program (standing_at 0 maximum (pos 1)) (by_rule 1 []) ≡ Some PastRange
-  -- the same facts, stated by the conditions on a step whose cost fits
+  -- these facts, stated by the conditions on a step whose cost fits
   pub fitting : HasFittingCost (paying A) (standing_at 0 (pos 2) (pos 3)) (by_rule 1 [])
   pub not_fitting : ¬ (HasFittingCost (paying one_more) (standing_at 0 maximum (pos 0)) (by_rule 1 []))
   pub not_of_rule_2 : ¬ (HasFittingCost (paying A) (standing_at 0 (pos 2) (pos 3)) (by_rule 2 []))
@@ -112,7 +112,7 @@ pub record CostProgramsAreWorkedOut : Type 0 where
   pub none_written : ¬ (HasCost small_program 1)
   pub no_rule : ¬ (HasCost (paying B) 2)
   pub rule_0 : ¬ (HasCost (paying B) 0)
-  -- `$` behind `l0` and behind `$$`, and `$$` behind `$`
+  -- `$` for the sources `l0` and `$$`, and `$$` for the source `$`
   pub behind_name : cost_name (108 ∷ 48 ∷ []) ≡ 36 ∷ []
   pub behind_one : cost_name (36 ∷ []) ≡ 36 ∷ 36 ∷ []
   pub behind_two : cost_name (36 ∷ 36 ∷ []) ≡ 36 ∷ []
@@ -123,7 +123,7 @@ pub record CostProgramsAreWorkedOut : Type 0 where
   pub plain_rule : ¬ (IsCostProgram from_dollar 1 cost_from_dollar)
   pub itself : ¬ (IsCostProgram (paying B) 1 (paying B))
 
--- where a rule with a cost leads by its cost rule, here the cost B where A > B
+-- a step of the cost rule of a rule with cost B and guard A > B
 abbrev pub LeadsToB : ℤ → ℤ → Config → Type 0
 LeadsToB x y d = LeadsToCost (rule_costing B (more_than_B ∷ [])) B (standing_at 0 x y) [] d
 

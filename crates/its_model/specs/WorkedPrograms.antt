@@ -100,7 +100,7 @@ pub record ProgramsAreValid : Type 0 where
   -- not without a rule
   pub no_rule : ¬ (IsValid (starting_at 0 []))
 
--- what else a rule, a symbol and a start need
+-- further conditions on a rule, a symbol and a start
 pub record PartsAgree : Type 0 where
   -- l0(A, B) -> l1(A) with the free variable C; not from a symbol without a number, or with one variable or three on
   -- its left

@@ -60,7 +60,7 @@ pub record RulesAreFound : Type 0 where
   -- there is no rule 2 and no rule 0
   pub no_such_rule : step_fault small_program (standing_at 0 (pos 3) (pos 2)) (by_rule 2 []) ≡ Some OtherRule
   pub rule_0 : step_fault small_program (standing_at 0 (pos 3) (pos 2)) (by_rule 0 []) ≡ Some OtherRule
-  -- it leaves l0 and not l1, and has no free variable, whatever its guard says
+  -- rule 1 leaves l0, not l1, and has no free variable, whatever its guard
   pub other_symbol : step_fault small_program (standing_at 1 (pos 3) (pos 2)) (by_rule 1 []) ≡ Some OtherRule
   pub before_guard : step_fault small_program (standing_at 1 (pos 2) (pos 3)) (by_rule 1 []) ≡ Some OtherRule
   pub free_value : step_fault small_program (standing_at 0 (pos 3) (pos 2)) (by_rule 1 (pos 0 ∷ [])) ≡ Some OtherRule
@@ -103,12 +103,12 @@ pub record FreeValuesAreTaken : Type 0 where
 abbrev pub both_ways : List Atom
 both_ways = Compare A MoreThan B ∷ Compare B MoreThan A ∷ []
 
--- which of two faults comes first
+-- which of two faults is reported
 pub record FaultsComeInOrder : Type 0 where
   -- the guard before the updates: A > B fails at (maximum, maximum), where A + 1 is no value
   pub guard_first : fault_at maximum maximum (pos 0) (Compare A MoreThan B ∷ []) one_more B ≡ Some (AtomFails 1)
   pub then_updates : fault_at maximum maximum (pos 0) (Compare A AtLeast B ∷ []) one_more B ≡ Some PastRange
-  -- the last update is looked at too
+  -- the last update is computed too
   pub last_update : fault_at maximum (pos 0) (pos 0) [] B one_more ≡ Some PastRange
   pub no_update : fault_at maximum (pos 0) (pos 0) [] B A ≡ None
   -- the atoms in order, with `TRUE` as one of them: the first fails, the second, both, or the third
@@ -139,7 +139,7 @@ pub record ValuesPassRange : Type 0 where
   -- a value on the way: (A + 1) - 1, and 0 * (A + 1)
   pub on_the_way : fault_at maximum (pos 0) (pos 0) [] (Subtraction one_more (Literal (pos 1))) B ≡ Some PastRange
   pub times_zero : fault_at maximum (pos 0) (pos 0) [] (Multiplication nothing one_more) B ≡ Some PastRange
-  -- the rule l0(A, B) -> l1(A + B) fits at (2^127 - 1, 0), and not at (2^127 - 1, 1); nor does A + 1 > 0 in its guard
+  -- the rule l0(A, B) -> l1(A + B) fits at (2^127 - 1, 0), but not at (2^127 - 1, 1), nor with A + 1 > 0 in its guard
   pub fits : RuleFits (rule_with (Addition A B ∷ []) (Compare A MoreThan B ∷ [])) (maximum ∷ pos 0 ∷ [])
   pub not_in_update : ¬ (RuleFits (rule_with (Addition A B ∷ []) []) (maximum ∷ pos 1 ∷ []))
   pub not_in_guard : ¬ (RuleFits (rule_with (A ∷ []) (Compare one_more MoreThan nothing ∷ [])) (maximum ∷ pos 0 ∷ []))

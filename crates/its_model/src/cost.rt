@@ -81,8 +81,9 @@ fn or_zero(z: i128) -> u128
     if z < 0 { 0 } else { z as u128 }
 }
 
-/// The cost of a use of a rule has no fault exactly where the rule exists, leaves the symbol, has that many free
-/// variables and a cost whose values stay within 128 bits. The function has no code: its contract is the law.
+/// The cost of a use of a rule has no fault exactly if the rule exists, leaves the configuration's symbol, has that
+/// many free variables, and a cost whose values stay within 128 bits. The function has no code: its contract is the
+/// law.
 pub fn costs_have_no_fault()
     ensures { CostsHaveNoFault }
 {}

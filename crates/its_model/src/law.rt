@@ -17,7 +17,7 @@ pub fn programs_are_worked_out()
     ensures { ProgramsAreWorkedOut }
 {}
 
-/// Worked values of the faults of steps, and of which comes first.
+/// Worked values of the faults of steps, and of which one is reported.
 pub fn steps_are_worked_out()
     ensures { StepsAreWorkedOut }
 {}

@@ -1,9 +1,9 @@
 //! Integer transition systems: programs, configurations and steps as Rust types.
 //!
 //! Builds on `poly_terms` (expressions) and `text_core` (names). Main guarantee: `program_of` reads a program as the
-//! plain data of `model`, with small programs as worked values (`worked_values_hold`); `IsValid` says which programs
-//! are valid; `step_checked` takes exactly the steps that stay within 128 bits, `cost_checked` gives their cost, and
-//! `cost_program` makes the program that leads to the cost of a rule.
+//! plain data of `model`, with small programs as worked values (`worked_values_hold`); `IsValid` defines the valid
+//! programs; `step_checked` takes exactly the steps that stay within 128 bits, `cost_checked` gives their cost, and
+//! `cost_program` builds the program that leads to the cost of a rule.
 #![tactic(auto)]
 
 mod copies;

@@ -206,7 +206,7 @@ fn put(values: &mut Vec<i128>, z: i128)
     let _ = values.push(z);
 }
 
-/// For a configuration with a value for each left variable, a use of a rule has no fault exactly where it is a step and
+/// For a configuration with a value for each left variable, a use of a rule has no fault exactly if it is a step and
 /// no value exceeds 128 bits on the way. The function has no code: its contract is the law.
 pub fn steps_have_no_fault()
     ensures { StepsHaveNoFault }

@@ -1,5 +1,5 @@
--- The next token leads the code where it leads the written front, whatever state the reader is in; and the reason why a
--- text breaks off is the same.
+-- The code's state after the next token represents the written state after it, whatever state the reader is in; and a
+-- text breaks off for the same reason in both.
 use Rattle.std.specs.Prelude.{◌≡◌, Bool, true, false, ◌||◌, is_some, List, [], ◌∷◌, ◌++◌, reverse, Option, Some, None}
 use Rattle.std.specs.Prelude.{refl}
 use Rattle.std.proofs.Common.{sym, ap, subst, ◌∙◌, inl, inr}
@@ -38,11 +38,11 @@ use Rattle.its_reader.specs.declared.parser_state.ParserState.{ParserState}
 use Rattle.its_reader.specs.declared.parser_state.ParserState.TheVariants as places
 use Rattle.its_reader.proofs.LeftLaws.{leads_together}
 
--- the same for a state of the reader that is given by an equation
+-- the contract of a state of the reader that is given by an equation
 pub in_advanced_state : (state known : ParserState) (old new : Draft) (t : Token Piece) (behind : Option Piece) (result : Option ParserState) → state ≡ known → Advances known old t behind result new → Advances state old t behind result new
 in_advanced_state state known old new t behind result e h = subst (λ (q : ParserState). Advances q old t behind result new) (sym e) h
 
--- outside rules the next token leads where its piece leads in what is written
+-- outside rules the next token leads to the same state as in the written text
 pub sections_advance : (state : SectionState) (old new : Draft) (t : Token Piece) (behind : Option Piece) (result : Option ParserState) → StartLeads state old t.piece t.at result new → Advances (places.InSections state) old t behind result new
 sections_advance state old new t behind result h = record {
   together = λ ts f k at. leads_together ts behind (step f t.piece) result new (h.each ts behind f k at);
@@ -76,7 +76,7 @@ none_named : (names : List Name) (o : Option Name) → names ≡ [] → IsNew na
 none_named names None e = tt
 none_named names (Some name) e = subst (λ ns. is_among name ns ≡ false) (sym e) refl
 
--- what leads nowhere in what is written leads nowhere
+-- a piece that the written text rejects is rejected by the code
 nowhere : (ts : Tokens) (behind : Option Piece) (o : Option Front) (result : Option ParserState) (new : Draft) → o ≡ None → GoTogether o result → LeadsTo ts behind o result new
 nowhere ts behind o result new e g = subst (λ o. LeadsTo ts behind o result new) (sym e) (go result (subst (λ o. GoTogether o result) e g))
   where
@@ -84,7 +84,7 @@ nowhere ts behind o result new e g = subst (λ o. LeadsTo ts behind o result new
     go None g = tt
     go (Some state) g = g
 
--- behind a left argument and behind a left term a name leads nowhere
+-- after a left argument and after a left term a name is rejected
 read_stops : (f : Front) (p : Piece) (name : Name) (ts : Tokens) (d : Draft) → InLeft ts (Some p) lefts.LeftRead d f → tests.word p ≡ Some name → step f p ≡ None
 read_stops f p name ts d k w = ap (λ f. step f p) k.1.1.1.1.0 ∙ go p w
   where
@@ -140,14 +140,14 @@ right_advances state old new t behind result h = record {
   each = λ ts f k at allows modest. h.each ts behind f k modest;
 }
 
--- and so it does behind the target
+-- after the target the code steps as the written state does
 pub tail_advances : (state : TailState) (old new : Draft) (t : Token Piece) (behind : Option Piece) (result : Option ParserState) → TailLeads state old t.piece behind result new → Advances (places.InTail state) old t behind result new
 tail_advances state old new t behind result h = record {
   together = λ ts f k at. h.together ts f k;
   each = λ ts f k at allows modest. h.each ts f k modest;
 }
 
--- why a text breaks off
+-- the reason why a text breaks off
 module _ (ts : Tokens) (next : Option Piece) (d : Draft) (f : Front) where
   sections_wanted : (state : SectionState) → InSections ts state d f → is_some (left_wanted f) ≡ false
   sections_wanted sections.Between k = rw k.1.0 refl
@@ -216,6 +216,6 @@ off_alike f Disjoining = refl
 off_alike f Strange = refl
 off_alike f _ = refl
 
--- the refusal for a text that breaks off at a piece is decided by the reader's state exactly as by the written front
+-- the refusal for a text that breaks off at a piece is decided by the reader's state exactly as by the written state
 pub off_is : (ts : Tokens) (state : ParserState) (d : Draft) (f : Front) (p : Piece) → PartEndedAt ts (Some p) state d f → break_kind_in (wants_left state) p ≡ break_kind_at f (Some p)
 off_is ts state d f p k = ap (λ v. break_kind_in v p) (sym (is_wanted ts (Some p) d f state k)) ∙ off_alike f p

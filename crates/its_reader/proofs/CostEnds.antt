@@ -1,4 +1,4 @@
--- Where a cost ends before the next piece it ends in what is written, and what its last byte shows is found.
+-- A cost ends before the next piece where the written one does, and the fault at its last byte is found.
 use Rattle.std.specs.Prelude.{◌≡◌, ℕ, Bool, true, false, ◌&&◌, List, Option, Some, None, refl}
 use Rattle.std.proofs.Common.{sym, ap, subst, ◌∙◌}
 use Rattle.model.specs.Programs.{Name}
@@ -53,7 +53,7 @@ module _ (ts : Tokens) (next : Option Piece) (r : Ruling) (t : LeftTerm) (e : ex
     };
   }
 
-  -- a cost ends or goes on
+  -- a cost ends or continues
   cost_part_ended : (rule : RuleDraft) (now : ParserState) (refusal : Option Kind) → CostEndsPartBy (ends_in old.rule.expression (inner_next next)) costs.Costing old.rule now refusal rule
       → PartEndedAt ts next now (record old { rule = rule }) (fronts.Costing r t e) × ((at : ℕ) → maybe_kind refusal at ≡ last_faults at (fronts.Costing r t e) next)
   cost_part_ended rule now refusal h = go (ends_in old.rule.expression (inner_next next)) refl h
@@ -72,7 +72,8 @@ module _ (ts : Tokens) (next : Option Piece) (r : Ruling) (t : LeftTerm) (e : ex
             λ at. ap (λ o. maybe_kind o at) h.1.0 ∙ going_silent at (left_names t) e next stops,
           )
 
--- what ends within the braces of a cost ends in what is written, and what its last byte shows is found
+-- a part that ends within the braces of a cost ends where the written one does, and the fault at its last byte is
+-- found
 pub cost_ends_part : (state : CostState) (old : Draft) (rule : RuleDraft) (next : Option Piece) (now : ParserState) (refusal : Option Kind) → CostEndsPart state old.rule next now refusal rule
     → EndsPart (places.InCost state) old next now (maybe_kind refusal) (record old { rule = rule })
 cost_ends_part costs.Costing old rule next now refusal h = record {

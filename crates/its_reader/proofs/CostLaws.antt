@@ -1,4 +1,4 @@
--- Where each piece leads within the braces of a cost.
+-- The state after each piece within the braces of a cost.
 use Rattle.std.specs.Prelude.{◌≡◌, true, not, if◌then◌else◌, List, Option, Some, None, refl}
 use Rattle.std.proofs.Common.{sym, ap, subst, ◌∙◌}
 use Rattle.model.specs.Programs.{Name}
@@ -36,7 +36,7 @@ abbrev reading : ParserState
 reading = places.InCost costs.Costing
 
 module _ (r : Ruling) (t : LeftTerm) (e : expression.Front) (p : inner.Piece) (old new : Draft) (result : Option ParserState) where
-  -- a piece goes on with a cost, and what is known beside it stays
+  -- a piece continues a cost, and the rest of the draft is unchanged
   cost_goes_on : (ts : Tokens) (more : expression.Front) → IsCosting ts r t e old → expression_steps.step e p ≡ Some more → IsModest p → GoesOn old p new → IsCosting ts r t more new
   cost_goes_on ts more k led modest g = record {
     led = led_kept ts (without_cost r t) old new k.led g.sections g.rules g.stays.source g.stays.left g.stays.cost;
@@ -46,7 +46,7 @@ module _ (r : Ruling) (t : LeftTerm) (e : expression.Front) (p : inner.Piece) (o
     expression = g.leads.each (left_names t) e more k.expression led modest;
   }
 
-  -- where a piece of an expression leads within a cost
+  -- the state after a piece of an expression within a cost
   inner_leads : (ts : Tokens) (next : Option Piece) → IsCosting ts r t e old → IsModest p → Takes (goes_on_with e p) reading old p result new → LeadsTo ts next (cost_step r t (expression_steps.step e p)) result new
   inner_leads ts next k modest h = go (expression_steps.step e p) refl h
     where
@@ -54,7 +54,7 @@ module _ (r : Ruling) (t : LeftTerm) (e : expression.Front) (p : inner.Piece) (o
       go (Some more) led h = rw h.0 (r, (t, (more, (refl, cost_goes_on ts more k led modest h.1))))
       go None led h = rw h.0 tt
 
-  -- it leads somewhere in both, or nowhere in both
+  -- both accept the piece, or both reject it
   inner_together : Takes (goes_on_with e p) reading old p result new → GoTogether (cost_step r t (expression_steps.step e p)) result
   inner_together h = go (expression_steps.step e p) h
     where
@@ -62,7 +62,7 @@ module _ (r : Ruling) (t : LeftTerm) (e : expression.Front) (p : inner.Piece) (o
       go (Some more) h = rw h.0 tt
       go None h = rw h.0 tt
 
--- in a cost that goes on the code leads where what is written does
+-- in a cost that continues, the code steps as the written state does
 pub costing_promise : (p : Piece) (old new : Draft) (result : Option ParserState) → TakesPiece reading old p result new → CostLeads costs.Costing old p result new
 costing_promise p old new result h = record {
   together = λ ts f k. rw k.1.1.1.0 (together ts p h k.0 k.1.0 k.1.1.0 k.1.1.1.1.0 k.1.1.1.1.1);
@@ -81,7 +81,7 @@ costing_promise p old new result h = record {
     each ts next CostClose h modest r t e k stops = rw (stops refl, h.0) tt
     each ts next _ h modest r t e k stops = rw h.0 tt
 
--- behind a cost that has ended only `}>` leads on
+-- after a cost that has ended only `}>` can follow
 costed_leads : (ts : Tokens) (next : Option Piece) (p : Piece) (f : Front) (d : Draft) → CostPartEnded ts (Some p) costs.Costed d f
     → LeadsTo ts next (step f p) (if tests.closes_cost p then Some (places.InRight rights.Arrowed) else None) d
 costed_leads ts next p f d k = rw k.1.1.1.1.0 (go p known.ends)
@@ -98,13 +98,13 @@ costed_leads ts next p f d k = rw k.1.1.1.1.0 (go p known.ends)
     go CostClose ends = rw known.finish_is (record { ruling = k.0; left = k.1.0; cost = Some k.1.1.1.0 }, (refl, known.left))
     go _ ends = tt
 
--- the same for the code
+-- in the code, too, only `}>` can follow such a cost
 pub costed_promise : (p : Piece) (old : Draft) (result : Option ParserState) → result ≡ (if tests.closes_cost p then Some (places.InRight rights.Arrowed) else None) → CostLeads costs.Costed old p result old
 costed_promise p old result h = record {
   together = λ ts f k. leads_together ts None (step f p) result old (rw h (costed_leads ts None p f old k));
   each = λ ts next f k modest. rw h (costed_leads ts next p f old k);
 }
 
--- the same for a state inside the braces of a cost that is given by an equation
+-- the contract of a state inside the braces of a cost that is given by an equation
 pub in_cost_state : (state known : CostState) (old new : Draft) (p : Piece) (result : Option ParserState) → state ≡ known → CostLeads known old p result new → CostLeads state old p result new
 in_cost_state state known old new p result e h = subst (λ (q : CostState). CostLeads q old p result new) (sym e) h

@@ -1,4 +1,4 @@
--- What the next token within the braces of a cost shows is what the code finds there.
+-- The faults of the next token within the braces of a cost are those that the code finds.
 use Rattle.std.specs.Prelude.{◌≡◌, ℕ, false, ◌++◌, Option, refl}
 use Rattle.std.proofs.Common.{ap, append-nil}
 use Rattle.its_text.specs.Pieces.{Piece}
@@ -13,7 +13,7 @@ use Rattle.its_reader.specs.declared.parser_state.CostState.TheVariants as costs
 use Rattle.its_reader.specs.declared.draft.Draft.{Draft}
 use Rattle.its_reader.proofs.GoingNotes.{going_is, ended_going}
 
--- what a front of a cost shows at the next token is what the code finds there
+-- the faults of a state of a cost at the next token are those that the code finds
 pub cost_next : (ts : Tokens) (at : ℕ) (next behind : Option Piece) (d : Draft) (f : Front) (state : CostState) → CostPartEnded ts next state d f → IsDigital next → next_faults at f next behind ≡ cost_faults state d.rule at next
 cost_next ts at next behind d f costs.Costing k digital = rw k.1.1.1.0 (ap (λ xs. fault_if (long_name next) (Limit LongName) at ++ xs)
     (going_is at (record { names = left_names k.1.0; front = k.1.1.0; leads_atom = false }) d.rule d.rule.expression false behind k.1.1.1.1.0.expression next digital (λ p name e h. refl)))

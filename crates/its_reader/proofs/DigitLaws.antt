@@ -40,7 +40,7 @@ each_digital = record {
   literals = digits_digital;
 }
 
--- and each of the tokens
+-- a token and the tokens after it hold digits if each of them does
 token_digital : (at len : ℕ) (o : Option Piece) (ts : Tokens) → IsDigital o → AreDigital ts → AreDigital (token_then at len o ts)
 token_digital at len None ts h k = k
 token_digital at len (Some p) ts h k = (h, k)
@@ -51,6 +51,6 @@ digital_in (b ∷ bytes) mode at (suc skip) = digital_in bytes mode (at + 1) ski
 digital_in (b ∷ bytes) mode at zero =
     token_digital at (lexeme_in mode b bytes).len (lexeme_in mode b bytes).piece _ (of_lexeme IsDigital each_digital mode b bytes) (digital_in bytes (lexer.mode_behind mode (lexeme_in mode b bytes).piece) (at + 1) ((lexeme_in mode b bytes).len - 1))
 
--- the same for the tokens of a text
+-- the words and literals of a text's tokens are of this form
 pub tokens_digital : (bytes : List ℕ) → AreDigital (tokens_of bytes)
 tokens_digital bytes = digital_in bytes Outside 0 0

@@ -1,4 +1,4 @@
--- Where the expression ends that the code reads, the written one ends, and what its last byte shows is found.
+-- An expression ends in the code where the written one ends, and the fault at its last byte is found.
 use Rattle.std.specs.Prelude.{◌≡◌, ℕ, Bool, true, false, not, ◌&&◌, if◌then◌else◌, is_some, List, [], Option, Some}
 use Rattle.std.specs.Prelude.{None}
 use Rattle.std.specs.Prelude.{refl}
@@ -40,7 +40,7 @@ EndsBy true e next = (s : Sum) × ((expression_steps.finish e ≡ Some s) × (en
 EndsBy false e next = ends_expression e next ≡ true → expression_steps.finish e ≡ None
 
 module _ (before : List Name) (e : expression.Front) (names : List Name) (x : Expression) (k : Stands before e names x) where
-  -- what the code tests of an expression is what is written
+  -- the code's test agrees with the written expression
   ends_is : (next : Option Piece) → not (goes_on x (inner_next next)) ≡ ends_expression e next
   ends_is None = refl
   ends_is (Some (In p)) = ap not (goes_on_is before e names x p k)
@@ -59,7 +59,7 @@ module _ (before : List Name) (e : expression.Front) (names : List Name) (x : Ex
     pub ended_names : names ≡ with_sum before s
     ended_names = k.names_are ∙ finished_names before e s finish
 
-    -- what is made of it is the written one by numbers
+    -- the term of the code's expression is that of the written one
     pub made_is : (made : Term) → Ends x made → made ≡ limited (sum_term (with_sum before s) s)
     made_is made h = h.each before names e s k finish ∙ ap (λ ns. limited (sum_term ns s)) ended_names
 
@@ -72,7 +72,7 @@ module _ (before : List Name) (e : expression.Front) (names : List Name) (x : Ex
         ∙ (ap (argument_faults at before) (sym finish)
         ∙ ap (λ v. if v then argument_faults at before (expression_steps.finish e) else []) (sym ends)))
 
--- an expression that goes on shows nothing
+-- an expression that continues shows no fault
 pub going_silent : (at : ℕ) (before : List Name) (e : expression.Front) (next : Option Piece) → (ends_expression e next ≡ true → expression_steps.finish e ≡ None)
     → [] ≡ (if ends_expression e next then argument_faults at before (expression_steps.finish e) else [])
 going_silent at before e next h = go (ends_expression e next) h

@@ -35,11 +35,11 @@ pub three_first_fault : (best one two three : Option (Fault Kind)) (xs ys zs : F
 three_first_fault best one two three xs ys zs a b c =
     c ∙ (ap (λ o. first_among programs o zs) (b ∙ (ap (λ o. first_among programs o ys) a ∙ sym (both_first_fault best xs ys))) ∙ sym (both_first_fault best (xs ++ ys) zs))
 
--- and one more
+-- two lists of faults one after the other
 pub one_more : (best one two : Option (Fault Kind)) (xs ys : FaultList) → one ≡ first_among programs best xs → two ≡ first_among programs one ys → two ≡ first_among programs best (xs ++ ys)
 one_more best one two xs ys a b = b ∙ (ap (λ o. first_among programs o ys) a ∙ sym (both_first_fault best xs ys))
 
--- four lists of faults, and one behind them
+-- four lists of faults, and one after them
 pub four_first_fault : (best one two three four : Option (Fault Kind)) (xs ys zs ws : FaultList) → one ≡ first_among programs best xs → two ≡ first_among programs one ys → three ≡ first_among programs two zs → four ≡ first_among programs three ws
     → four ≡ first_among programs best (xs ++ ys ++ zs ++ ws)
 four_first_fault best one two three four xs ys zs ws a b c d = one_more best three four (xs ++ ys ++ zs) ws (three_first_fault best one two three xs ys zs a b c) d
@@ -48,7 +48,7 @@ four_first_fault best one two three four xs ys zs ws a b c d = one_more best thr
 pub one_more_behind : (best one two : Option (Fault Kind)) (xs ys zs ws vs : FaultList) → one ≡ first_among programs best (xs ++ ys ++ zs ++ ws) → two ≡ first_among programs one vs → two ≡ first_among programs best (xs ++ ys ++ zs ++ ws ++ vs)
 one_more_behind best one two xs ys zs ws vs a b = one_more best one two (xs ++ ys ++ zs ++ ws) vs a b
 
--- whether a name is too long is tested as in what is written
+-- the code's test for a name that is too long agrees with the written one
 pub long_is : (o : Option Piece) → long_name o ≡ is_long (tests.word_of o)
 long_is None = refl
 long_is (Some (In (inner.Word name))) = refl
@@ -82,12 +82,12 @@ repeats_is ts ss s k (Some (In inner.Open)) (Some _) = refl
 repeats_is ts ss s k (Some (In _)) behind = refl
 repeats_is ts ss s k (Some _) behind = refl
 
--- what a front outside rules shows at the next token
+-- the faults of a state outside rules at the next token
 module _ (ts : Tokens) (at : ℕ) (next behind : Option Piece) where
   between_shows : (ss : List Section) (s : Sections) → KnowsSections ts ss s → next_faults at (fronts.Between ss) next behind ≡ fault_if (repeats_in sections.Between s next behind) RepeatedSection at ++ fault_if (long_name next) (Limit LongName) at
   between_shows ss s k = simp append-nil (ap (λ v. fault_if v RepeatedSection at ++ fault_if (long_name next) (Limit LongName) at) (repeats_is ts ss s k next behind))
 
-  -- at the next token a front outside rules shows a repeated section and a name that is too long
+  -- at the next token a state outside rules shows a repeated section and a name that is too long
   pub section_shows : (state : SectionState) (d : Draft) (f : Front) → InSections ts state d f → next_faults at f next behind ≡ fault_if (repeats_in state d.sections next behind) RepeatedSection at ++ fault_if (long_name next) (Limit LongName) at
   section_shows sections.Between d f k = rw k.1.0 (between_shows k.0 d.sections k.1.1.sections)
   section_shows sections.Opened d f k = rw k.1.0 (simp append-nil)
@@ -101,7 +101,7 @@ module _ (ts : Tokens) (at : ℕ) (next behind : Option Piece) where
   section_shows sections.Listing d f k = rw k.1.1.0 (simp append-nil)
   section_shows sections.CommentNamed d f k = rw k.1.0 (simp append-nil)
 
--- what a front outside rules shows at the last byte that was read: nothing
+-- a state outside rules shows no fault at the last byte that was read
 pub section_silent : (ts : Tokens) (at : ℕ) (next : Option Piece) (state : SectionState) (d : Draft) (f : Front) → InSections ts state d f → last_faults at f next ≡ []
 section_silent ts at next sections.Between d f k = rw k.1.0 refl
 section_silent ts at next sections.Opened d f k = rw k.1.0 refl

@@ -1,4 +1,4 @@
--- When the fault so far is final behind a token, and what else would have been shown.
+-- When the fault so far is final after a token, and which other faults could still be shown.
 use Rattle.std.specs.Prelude.{◌≡◌, ℕ, ◌-◌, ◌≤◌, ◌<◌, ◌⊎◌, nat_lt, Bool, true, false, List, [], ◌∷◌, ◌++◌, Option, Some}
 use Rattle.std.specs.Prelude.{None, refl}
 use Rattle.std.proofs.Common.{sym, ap, subst, arith, inl, inr}
@@ -25,7 +25,7 @@ below_or a b = go (nat_lt a b) refl
     go true e = inl (grind (arith, nat_tests))
     go false e = inr (grind (arith, nat_tests))
 
--- a fault is final behind a token: it is before the token's last byte, or at it with a number up to k
+-- a fault is final after a token: it is before the token's last byte, or at it with a number up to k
 abbrev pub IsFinal : ℕ → Token Piece → Fault Kind → Type 0
 IsFinal k t x = (x.at < t.upto - 1) ⊎ ((x.at ≤ t.upto - 1) × (kind_number x.kind ≤ k))
 
@@ -33,7 +33,7 @@ abbrev pub IsFinalIn : ℕ → Token Piece → Option (Fault Kind) → Type 0
 IsFinalIn k t None = ⊥
 IsFinalIn k t (Some x) = IsFinal k t x
 
--- what is found at a token's first byte, of a number up to k, makes the first fault final
+-- a fault found at a token's first byte, with a number up to k, makes the first fault final
 pub found_final : (k : ℕ) (t : Token Piece) (best : Option (Fault Kind)) (xs : FaultList) (y : Fault Kind) → Among y xs → y.at ≡ t.at → t.at < t.upto → kind_number y.kind ≤ k → IsFinalIn k t (first_among programs best xs)
 found_final k t best xs y a at some n = go (first_among programs best xs) (first_among_is programs xs best)
   where
@@ -52,13 +52,13 @@ found_final k t best xs y a at some n = go (first_among programs best xs) (first
     go None h = h.1 y a
     go (Some x) h = split x (h.1 y (inr a))
 
--- what is among some faults is among them with others behind
+-- a fault among some is among these followed by others
 pub among_left : (y : Fault Kind) (xs ys : FaultList) → Among y xs → Among y (xs ++ ys)
 among_left y [] ys a = absurd a
 among_left y (x ∷ xs) ys (inl e) = inl e
 among_left y (x ∷ xs) ys (inr a) = inr (among_left y xs ys a)
 
--- what is among some faults is among others with them behind
+-- a fault among some is among others followed by these
 pub among_right : (y : Fault Kind) (xs ys : FaultList) → Among y ys → Among y (xs ++ ys)
 among_right y [] ys a = a
 among_right y (x ∷ xs) ys a = inr (among_right y xs ys a)
@@ -70,7 +70,7 @@ large_shown at f p behind g e h l =
     among_right _ _ (token_faults at (open_expression f (Some (In p)) behind) (Some (In p)) behind)
     (subst (λ o. Among (record { kind = NumberTooLarge; at = at }) (token_faults at o (Some (In p)) behind)) (sym e) (rw (h, l) (inl refl)))
 
--- behind digits no arity differs
+-- after digits no arity differs
 pub digits_differ : (g : Front) (ds : List ℕ) (ps : List Piece) → front_pieces g ≡ In (inner.Digits ds) ∷ ps → has_other_arity g ≡ false
 digits_differ (SourceClosed r t) ds ps e = cc
 digits_differ (TargetClosed l t) ds ps e = cc

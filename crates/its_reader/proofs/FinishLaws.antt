@@ -52,7 +52,7 @@ found_named n (m ∷ names) h k = go (is_same n m) refl h (λ i. found_named n n
     go true e h ih = rw e (ap (is_same k) (sym (same_equal n m e)))
     go false e h ih = rw (e, one-add) (ih h)
 
--- what is there, or else this
+-- an optional value, or else this one
 abbrev or_else_this : {X : Type 0} → X → Option X → X
 or_else_this x None = x
 or_else_this x (Some y) = y
@@ -135,7 +135,7 @@ module _ (start : Name) (at : ℕ) (rules : List WrittenRule) (d : Draft) (k : K
       rule_is : first ≡ limited_rule (rule_numbered (symbols_of rules) r)
       rule_is = ap (or_else_this first) e
 
-  -- where a rule leaves the start symbol, the program made of the first such rule is what was written
+  -- if a rule leaves the start symbol, the program built from the first such rule is the written one
   pub makes_found : (first : plain.Rule) (q : code.Program) → find (leaves (names_in d.symbols.names) start) (map rule_of d.rules.items) ≡ Some first
       → map symbol_of q.symbols.items ≡ tabled (names_in d.symbols.names) d.symbols.arities.items → q.start ≡ first.source → map name_of q.start_names.items ≡ take first.left first.names → map rule_of q.rules.items ≡ map rule_of d.rules.items
       → Says (program_or at (limited_program (program_from start rules (first_leaving start rules)))) (Ok q)
@@ -194,7 +194,7 @@ module _ (d : Draft) (n : ℕ) where
         (refusal_said (record { kind = MissingSection; at = length bytes }) e (h ∙ ap (λ i. Some (record { kind = MissingSection; at = i })) l));
   }
 
-  -- the same for a text without rules
+  -- the answer for a text without rules
   pub finishes_ruleless : (e : ReadError) → d.sections.rules ≡ false → fault_in e ≡ Some (record { kind = MissingSection; at = n }) → Finishes d n (Err e)
   finishes_ruleless e none h = record {
     each = λ bytes ss l k v.

@@ -1,4 +1,5 @@
--- What holds behind a token that can follow, where the refusal so far isn't final there; and where it is, it is the answer.
+-- The effect of a token that can follow: where the refusal so far isn't final there, and where it is and so is the
+-- answer.
 use Rattle.std.specs.Prelude.{◌≡◌, ℕ, ◌-◌, ◌≤◌, ◌<◌, ◌⊎◌, Bool, true, false, ◌&&◌, ◌||◌, ◌==◌, nat_lt, nat_le, List}
 use Rattle.std.specs.Prelude.{◌∷◌, ◌++◌, length, Option, Some, None, refl}
 use Rattle.std.proofs.Common.{sym, ap, subst, ◌∙◌, arith, inl, inr}
@@ -54,7 +55,7 @@ final_split x t false true true a b c e = inr ((grind (arith, nat_tests)), (grin
 final_split x t false true false a b c e = cc
 final_split x t false false u a b c e = cc
 
--- a refusal that passes the test is final behind the token
+-- a refusal that passes the test is final after the token
 pub final_is : (x : Fault Kind) (t : Token Piece) → is_final x t ≡ true → IsFinal (least_of t.piece) t x
 final_is x t e = final_split x t (nat_lt x.at (t.upto - 1)) (x.at == t.upto - 1) (nat_le (kind_number x.kind) (least_of t.piece)) refl refl refl e
 
@@ -65,11 +66,11 @@ unfinal_split x t false w u a b c e (inl h) = absurd (grind (arith, nat_tests))
 unfinal_split x t false false u a b c e (inr h) = let p = h.0 in absurd (grind (arith, nat_tests))
 unfinal_split x t false true false a b c e (inr h) = let p = h.1 in absurd (grind (arith, nat_tests))
 
--- a refusal that fails the test isn't final behind the token
+-- a refusal that fails the test isn't final after the token
 pub unfinal_is : (x : Fault Kind) (t : Token Piece) → is_final x t ≡ false → IsFinal (least_of t.piece) t x → ⊥
 unfinal_is x t e = unfinal_split x t (nat_lt x.at (t.upto - 1)) (x.at == t.upto - 1) (nat_le (kind_number x.kind) (least_of t.piece)) refl refl refl e
 
--- digits that can follow go on with an expression
+-- digits that can follow continue an expression
 abbrev GoesOnAt : Front → Option Piece → inner.Piece → Type 0
 GoesOnAt f behind p = (x : OpenExpression) × ((open_expression f (Some (In p)) behind ≡ Some x) × (goes_on_with x.front p ≡ true))
 
@@ -121,7 +122,7 @@ digits_follow (fronts.SquareOpened h) ds behind g e = (_, (refl, refl))
 digits_follow (fronts.SquareGuarding h k) ds behind g e = (_, (refl, squared_goes h k ds g e))
 digits_follow _ ds behind g e = cc
 
--- what a left argument shows is shown
+-- the faults of a left argument are among those shown
 left_shown : (at : ℕ) (f : Front) (next behind : Option Piece) (y : Fault Kind) → Among y (left_of at (left_wanted f) next behind) → Among y (next_faults at f next behind)
 left_shown at f next behind y a =
     among_left y (fault_if (targets_again f next behind) Syntax at ++ fault_if (repeats_at f next behind) RepeatedSection at ++ fault_if (targets_many f next behind) ManyTargets at ++ left_of at (left_wanted f) next behind ++ fault_if (too_many_rules f next behind) (Limit TooManyRules) at ++ fault_if (passes_arguments f next) (Limit TooManyArguments) at ++ fault_if (another_atom f next) (Limit TooManyAtoms) at ++ fault_if (long_name next) (Limit LongName) at)
@@ -138,7 +139,7 @@ left_shown at f next behind y a =
 
 module _ (bytes : List ℕ) (state : ParserState) (last : ℕ) (best first : Option (Fault Kind)) (old : Draft) (t : Token Piece) (rest : Tokens) (r : IsReading bytes state last best old (t ∷ rest))
     (first_fault_ahead : first ≡ first_among programs best (front_faults (length bytes) r.done r.front (t ∷ rest))) where
-  -- what the next token shows makes the refusal so far final there, where its number is low
+  -- a fault of the next token with a low number makes the refusal so far final there
   shown_final : (k : ℕ) (y : Fault Kind) → Among y (next_faults t.at r.front (Some t.piece) (next_piece rest)) → y.at ≡ t.at → kind_number y.kind ≤ k → IsFinalIn k t first
   shown_final k y a at n =
       subst (IsFinalIn k t) (sym first_fault_ahead)

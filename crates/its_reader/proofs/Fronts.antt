@@ -1,4 +1,4 @@
--- The front of a list.
+-- The prefix of a list.
 use Rattle.std.specs.Prelude.{◌≡◌, ℕ, zero, suc, ◌+◌, List, [], ◌∷◌, length, refl}
 use Rattle.std.proofs.Common.{ap, ◌∙◌, take, arith}
 use Rattle.text_core.specs.Prefixes.{prefix}
@@ -11,14 +11,14 @@ use Rattle.text_core.specs.Bytes.{is_white_space}
 use Rattle.its_text.specs.Pieces.{word, digits}
 use Rattle.its_text.specs.Lexing.{take_front, lexeme, lexeme_at}
 
--- what is taken of a list is its front
+-- the two definitions of a prefix agree
 pub front-take : (n : ℕ) (xs : List ℕ) → take n xs ≡ take_front n xs
 front-take zero [] = refl
 front-take zero (x ∷ xs) = refl
 front-take (suc n) [] = refl
 front-take (suc n) (x ∷ xs) = ap (λ ys. x ∷ ys) (front-take n xs)
 
--- one element, and the prefix of those behind it
+-- one element, and the prefix of those after it
 pub first-take : (test : ℕ → Bool) (x : ℕ) (others text : List ℕ) → text ≡ x ∷ others → take (1 + length (prefix test others)) text ≡ x ∷ prefix test others
 first-take test x others text e = ap (take (1 + length (prefix test others))) e ∙ (ap (λ n. take n (x ∷ others)) (let k : 1 + length (prefix test others) ≡ suc (length (prefix test others)) = omega arith in k) ∙ ap (λ ys. x ∷ ys) (take-prefix test others))
 

@@ -1,4 +1,4 @@
--- What a piece of an expression shows is what the code finds at it.
+-- The faults of a piece of an expression are those that the code finds.
 use Rattle.std.specs.Prelude.{◌≡◌, ℕ, Bool, true, false, not, ◌&&◌, nat_le, nat_lt, if◌then◌else◌, [], ◌++◌, length}
 use Rattle.std.specs.Prelude.{Option, Some}
 use Rattle.std.specs.Prelude.{None, refl}
@@ -41,7 +41,7 @@ module _ (at : ℕ) (g : OpenExpression) (r : RuleDraft) (e : Expression) (truth
       ∙ (ap (λ v. fault_if (is_large_row p) NumberTooLarge at ++ fault_if v (Limit TooManyVariables) at ++ fault_if (nat_le token_limit (token_count g.front)) (Limit TooManyTokens) at) (passes_is p h)
       ∙ ap (λ n. fault_if (is_large_row p) NumberTooLarge at ++ fault_if (passes truth r p) (Limit TooManyVariables) at ++ fault_if (nat_le token_limit n) (Limit TooManyTokens) at) (sym k.tokens_are))
 
-  -- what a piece shows that goes on with an expression is what the code finds at it
+  -- the faults of a piece that continues an expression are those that the code finds
   pub going_is : (next : Option Piece) → IsDigital next → ((p : inner.Piece) (name : Name) → next ≡ Some (In p) → p ≡ inner.Word name → truth ≡ is_truth g name behind)
       → token_faults at (Some g) next behind ≡ step_faults r e truth at (inner_next next)
   going_is None d h = refl

@@ -1,4 +1,4 @@
--- Where a piece leads in a guard, and that what doesn't go on with a guard within an atom ends no rule.
+-- The state after each piece of a guard; and a piece that doesn't continue a guard within an atom ends no rule.
 use Rattle.std.specs.Prelude.{◌≡◌, Bool, true, false, not, ◌&&◌, ◌||◌, nat_lt, List, map, Option, Some, None, refl}
 use Rattle.std.specs.List.{list_all}
 use Rattle.std.specs.Char.{is_ascii_digit}
@@ -49,7 +49,7 @@ use Rattle.its_reader.proofs.LeftLaws.{leads_together}
 use Rattle.its_reader.proofs.LedLaws.{led_kept}
 use Rattle.std.proofs.lemmas.Bool.{ltb-false as at_most, le-ltb as not_below}
 
--- the written front of a guard behind its opening, and of a guard that may be absent
+-- the written state of a guard after its opening, and of a guard that may be absent
 abbrev pub guarded : GuardOpening → Headed → GuardFront → Front
 guarded fences.Mark h g = fronts.MarkGuarding h g
 guarded fences.Square h g = fronts.SquareGuarding h g
@@ -62,7 +62,7 @@ mapped (Some g) fence h = Some (guarded fence h g)
 read_unread : (r : GuardReader) → is_read r.state ≡ false → r.state ≡ guard_places.AtomRead → ⊥
 read_unread r h e = let t = ap is_read e in cc
 
--- what is no name and no closing bracket ends no rule
+-- a piece that is no name and no closing bracket ends no rule
 operator_stays : (h : Headed) (o : Option Atoms) (p : inner.Piece) → operates p ≡ true → guard_ended h o p ≡ None
 operator_stays h None p e = refl
 operator_stays h (Some atoms) (inner.Word name) e = cc
@@ -75,7 +75,7 @@ joint_stays h (Some atoms) (inner.Word name) e = cc
 joint_stays h (Some atoms) inner.Close e = cc
 joint_stays h (Some atoms) _ e = refl
 
--- a right side that a piece doesn't go on with
+-- a right side that a piece doesn't continue
 right_step : (c : Conjoined) (l : Sum) (sign : inner.Sign) (e : expression.Front) (p : inner.Piece) → guards.step (RightSide c l sign e) p ≡ None → expression_steps.step e p ≡ None
 right_step c l sign e p h = go (expression_steps.step e p) h
   where
@@ -84,14 +84,14 @@ right_step c l sign e p h = go (expression_steps.step e p) h
     go (Some more) h = cc
 
 module _ (before names : List Name) (r : GuardReader) where
-  -- within an atom a guard doesn't end before what is no piece of one
+  -- within an atom a guard can't end before a piece that is in no guard
   pub unfinished : (g : GuardFront) → IsPartEnded None before g names r → is_read r.state ≡ false → guards.finish g ≡ None
   unfinished g (part_ended_none at) u = ap guards.finish at.front_is
   unfinished g (part_ended_left at) u = ap guards.finish at.front_is ∙ ap (ended at.conjoined) (at.follows refl)
   unfinished g (part_ended_right at) u = ap guards.finish at.right.front_is ∙ ap (λ o. ended at.right.conjoined (compared at.right.left at.right.sign o)) (at.goes_on refl)
   unfinished g (part_ended_end at) u = absurd (read_unread r u at.state_is)
 
-  -- nor before a piece that doesn't go on with it
+  -- within an atom a guard can't end before a piece that doesn't continue it
   stuck : (h : Headed) (g : GuardFront) (p : inner.Piece) → IsPartEnded (Some p) before g names r → is_read r.state ≡ false → guards.step g p ≡ None → guard_ended h (guards.finish g) p ≡ None
   stuck h g p (part_ended_none at) u n = ap (λ o. guard_ended h o p) (ap guards.finish at.front_is)
   stuck h g p (part_ended_left at) u n = go (operates p) refl
@@ -113,7 +113,7 @@ module _ (before names : List Name) (r : GuardReader) where
       go false e o = stuck h g p s e n
       go true e o = joint_stays h (guards.finish g) p o
 
-  -- so a piece leads on from a written front where it leads on within the guard
+  -- the written state after a piece is that of the guard after it
   pub guard_step : (fence : GuardOpening) (h : Headed) (g : GuardFront) (p : inner.Piece) → IsPartEnded (Some p) before g names r → not (is_read r.state) || tests.joins (In p) ≡ true
       → step (guarded fence h g) (In p) ≡ mapped (guards.step g p) fence h
   guard_step fences.Mark h g p s still = go (guards.step g p) refl
@@ -127,7 +127,7 @@ module _ (before names : List Name) (r : GuardReader) where
       go (Some more) = refl
       go None = refl
 
-  -- what is no piece of a guard leads nowhere
+  -- a piece that is in no guard is rejected
   pub none_behind : (fence : GuardOpening) (h : Headed) (g : GuardFront) (p : Piece) → tests.inner_in p ≡ None → IsPartEnded None before g names r → is_read r.state ≡ false → step (guarded fence h g) p ≡ None
   none_behind fences.Mark h g (In p) n s u = cc
   none_behind fences.Mark h g _ n s u = refl
@@ -142,7 +142,7 @@ module _ (before names : List Name) (r : GuardReader) where
   ended_of next g (part_ended_right at) u = absurd (let t = ap is_read at.right.state_is in cc)
   ended_of next g (part_ended_end at) u = at
 
-  -- whether a row of digits goes on with an atom
+  -- whether a row of digits continues an atom
   abbrev is_going : Option GuardFront → Bool
   is_going None = false
   is_going (Some g) = true
@@ -179,7 +179,7 @@ module _ (before names : List Name) (r : GuardReader) where
       ap is_going (at.joins (inner.Digits ds) refl)
       ∙ sym (ap (λ state. not (is_read state) && goes_on_from (front_of r.expression).outer (front_of r.expression).operand (inner.Digits ds)) at.state_is)
 
-  -- a literal that is too large leads on in the code exactly where it does in the guard
+  -- a literal that is too large is accepted by the code exactly if the guard accepts it
   pub digits_together : (fence : GuardOpening) (h : Headed) (g : GuardFront) (p : inner.Piece) (result : Option ParserState) → is_modest p ≡ false → IsPartEnded (Some p) before g names r → result ≡ guarding_if (goes_on_in r p) fence
       → GoTogether (mapped (guards.step g p) fence h) result
   digits_together fence h g (inner.Digits ds) result m s e = go (guards.step g (inner.Digits ds)) (goes_on_in r (inner.Digits ds)) (digits_go g ds s) e
@@ -207,7 +207,7 @@ pub is_modest_is : (p : inner.Piece) → IsModest p → is_modest p ≡ true
 is_modest_is (inner.Digits ds) m = rw (m.0, not_below coefficient_limit (number_of ds) m.1) refl
 is_modest_is _ m = refl
 
--- what is known of a target stays while a guard is read
+-- the knowledge of a target is unchanged while a guard is read
 pub headed_stays : (ts : Tokens) (h : Headed) (fence : GuardOpening) (p : Piece) (behind : Option Piece) (result : Option ParserState) (old new : Draft) → KnowsHeaded ts h old → AtomTakes fence old p behind result new → KnowsHeaded ts h new
 headed_stays ts h fence p behind result old new k a = record {
   led = led_kept ts h.led old new k.led a.sections a.rules a.stays.source a.stays.left a.stays.cost;
@@ -221,7 +221,7 @@ module _ (ts : Tokens) (h : Headed) (fence : GuardOpening) (behind : Option Piec
   is_guard fences.Mark g = inl refl
   is_guard fences.Square g = refl
 
-  -- a modest piece leads in the code where it leads in the guard
+  -- a small piece leads to the same state in the code as in the guard
   guard_leads : (g : GuardFront) (p : inner.Piece) → AtomTakes fence old (In p) behind result new → KnowsHeaded ts h old → IsFresh old.rule.expression
       → IsPartEnded (Some p) (headed_names h) g (names_in old.rule.variables) old.rule.guard → IsModest p → TakesInner true fence old.rule p (tests.inner_next behind) result new.rule
       → LeadsTo ts behind (mapped (guards.step g p) fence h) result new
@@ -239,7 +239,7 @@ module _ (ts : Tokens) (h : Headed) (fence : GuardOpening) (behind : Option Piec
   unread false e = refl
   unread true e = cc
 
-  -- where a piece leads within an atom, or one that joins behind it
+  -- the state after a piece within an atom, or one that joins after it
   pub atom_each : (g : GuardFront) (p : Piece) → AtomTakes fence old p behind result new → KnowsHeaded ts h old → IsFresh old.rule.expression
       → IsPartEnded (tests.inner_in p) (headed_names h) g (names_in old.rule.variables) old.rule.guard → not (is_read old.rule.guard.state) || tests.joins p ≡ true → IsModestPiece p
       → LeadsTo ts behind (step (guarded fence h g) p) result new
@@ -249,7 +249,7 @@ module _ (ts : Tokens) (h : Headed) (fence : GuardOpening) (behind : Option Piec
   atom_each g p a k fresh s still modest =
       rw a.takes.by (subst (λ o. LeadsTo ts behind o None new) (sym (none_behind (headed_names h) (names_in old.rule.variables) old.rule.guard fence h g p refl s (unread (is_read old.rule.guard.state) still))) tt)
 
-  -- a piece within an atom, or one that joins behind it, leads on where it does in what is written
+  -- a piece within an atom, or a conjunction sign after it, is accepted exactly if the written guard accepts it
   pub atom_together : (g : GuardFront) (p : Piece) → AtomTakes fence old p behind result new → KnowsHeaded ts h old → IsFresh old.rule.expression
       → IsPartEnded (tests.inner_in p) (headed_names h) g (names_in old.rule.variables) old.rule.guard → not (is_read old.rule.guard.state) || tests.joins p ≡ true
       → GoTogether (step (guarded fence h g) p) result
@@ -262,13 +262,13 @@ module _ (ts : Tokens) (h : Headed) (fence : GuardOpening) (behind : Option Piec
   atom_together g p a k fresh s still =
       rw a.takes.by (subst (λ o. GoTogether o None) (sym (none_behind (headed_names h) (names_in old.rule.variables) old.rule.guard fence h g p refl s (unread (is_read old.rule.guard.state) still))) tt)
 
--- a name behind `:|:` that begins an atom stands for the guard
+-- a name after `:|:` that begins an atom denotes the guard
 word_step : (h : Headed) (name : Name) (p : Piece) → shown.is_open (Some p) ≡ false → step (fronts.WordRead h name) p ≡ step (fronts.MarkGuarding h (guard_named name)) p
 word_step h name (In inner.Open) e = cc
 word_step h name (In _) e = refl
 word_step h name _ e = refl
 
--- a front that stands for a guard leads where the guard behind its fence does
+-- a state that denotes a guard leads where the guard after its opening does
 pub front_step : (fence : GuardOpening) (h : Headed) (g : GuardFront) (f : Front) (p : Piece) → IsGuard (Some p) fence h g f → step f p ≡ step (guarded fence h g) p
 front_step fences.Square h g f p e = ap (λ f. step f p) e
 front_step fences.Mark h g f p (inl e) = ap (λ f. step f p) e
@@ -290,6 +290,6 @@ some_taken {fence} {old} {new} {p} {behind} {result} o e t = record { by = subst
 pub none_taken : {fence : GuardOpening} {old new : RuleDraft} {behind : Option inner.Piece} (o : Option inner.Piece) → o ≡ None → TakesMaybe fence old o behind None new
 none_taken {fence} {old} {new} {behind} o e = record { by = subst (λ o. TakesAtom fence old o behind None new) (sym e) refl }
 
--- the same for a piece and the one behind it that are given by equations
+-- the contract of a piece and the one after it that are given by equations
 pub taken_alike : {fence : GuardOpening} {old new : RuleDraft} {o p a b : Option inner.Piece} {result : Option ParserState} → o ≡ p → a ≡ b → TakesMaybe fence old o a result new → TakesMaybe fence old p b result new
 taken_alike {fence} {old} {new} {o} {p} {a} {b} {result} e f t = subst (λ p. TakesMaybe fence old p b result new) e (subst (λ b. TakesMaybe fence old o b result new) f t)

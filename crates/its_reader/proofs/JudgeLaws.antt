@@ -23,7 +23,7 @@ use Rattle.its_reader.proofs.CostNotes.{cost_next}
 use Rattle.its_reader.proofs.RightNotes.{right_next}
 use Rattle.its_reader.proofs.TailNotes.{tail_next}
 
--- what the next token shows is found
+-- the faults of the next token are found
 pub state_next : (ts : Tokens) (at : ℕ) (next behind : Option Piece) (d : Draft) (f : Front) (state : ParserState) → PartEndedAt ts next state d f → IsDigital next → next_faults at f next behind ≡ state_faults state d at next behind
 state_next ts at next behind d f (places.InSections state) k digital = section_shows ts at next behind state d f k
 state_next ts at next behind d f (places.InLeft state) k digital = left_next ts at next behind d f state k
@@ -31,7 +31,7 @@ state_next ts at next behind d f (places.InCost state) k digital = cost_next ts 
 state_next ts at next behind d f (places.InRight state) k digital = right_next ts at next behind d f state k digital
 state_next ts at next behind d f (places.InTail state) k digital = tail_next ts at next behind d digital state f k
 
--- what is shown together with the tokens before and behind
+-- the first of the faults shown, with the tokens before and after
 shown_is : (best : Option (Fault Kind)) (n last at : ℕ) (next behind : Option Piece) (done rest : Tokens) (f : Front) → next_piece rest ≡ next → piece_behind rest ≡ behind → next_at n rest ≡ at → last_byte done ≡ last
     → first_among programs best (last_faults last f next ++ next_faults at f next behind) ≡ first_among programs best (front_faults n done f rest)
 shown_is best n last at next behind done rest f a b c e =

@@ -8,7 +8,7 @@ use Rattle.its_text.specs.FrontFaults.{Tokens}
 use Rattle.its_reader.specs.Standing.{KnowsSections, KnowsLed}
 use Rattle.its_reader.specs.declared.draft.Draft.{Draft}
 
--- what is known of a left term and its arrow is known of a draft with the same parts
+-- a draft with the same parts has the same left term and arrow
 pub led_kept : (ts : Tokens) (l : Led) (old new : Draft) → KnowsLed ts l old → new.sections ≡ old.sections → new.rules ≡ old.rules → new.rule.source ≡ old.rule.source → new.rule.left ≡ old.rule.left → new.rule.cost ≡ old.rule.cost → KnowsLed ts l new
 led_kept ts l old new k sections rules source left cost = record {
   sections = subst (KnowsSections ts l.ruling.sections) (sym sections) k.sections;

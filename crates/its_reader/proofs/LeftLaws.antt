@@ -1,4 +1,4 @@
--- Where each piece leads up to the end of a left term, by tests of the piece.
+-- The state after each piece up to the end of a left term, by tests of the piece.
 use Rattle.std.specs.Prelude.{◌≡◌, ℕ, Bool, true, false, not, ◌==◌, nat_lt, if◌then◌else◌, List, [], ◌∷◌, ◌++◌, map}
 use Rattle.std.specs.Prelude.{length, Option, Some, None, option_map, refl}
 use Rattle.std.proofs.Common.{sym, ap, subst, ◌∙◌, inl, inr, get_or}
@@ -38,7 +38,7 @@ use Rattle.expr_reader.proofs.Standing.{fresh_stands}
 use Rattle.expr_reader.specs.GuardStanding.{IsWanting}
 use Rattle.its_text.specs.expr_text.GuardFronts.{no_atoms}
 
--- what leads somewhere in both does so together
+-- two states that agree accept the same pieces
 pub leads_together : (ts : Tokens) (next : Option Piece) (o : Option Front) (r : Option ParserState) (d : Draft) → LeadsTo ts next o r d → GoTogether o r
 leads_together ts next None None d h = tt
 leads_together ts next None (Some state) d h = h
@@ -46,7 +46,7 @@ leads_together ts next (Some g) None d h = h
 leads_together ts next (Some g) (Some state) d h = tt
 
 module _ (ts : Tokens) (next : Option Piece) where
-  -- behind the source of a rule only an opening bracket leads on
+  -- after the source of a rule only an opening bracket can follow
   pub source_leads : (p : Piece) (f : Front) (d : Draft) → InLeft ts (Some p) lefts.SourceNamed d f → LeadsTo ts next (step f p) (if tests.opens p then Some (places.InLeft lefts.LeftOpened) else None) d
   source_leads p f d k = either k.1.1.0
     where
@@ -74,7 +74,7 @@ module _ (ts : Tokens) (next : Option Piece) where
     expression = subst (λ (b : List Name). Stands b expression.beginning (names_in d.rule.variables) d.rule.expression) k.names_are (fresh_stands (names_in d.rule.variables) d.rule.expression k.expression);
   }
 
-  -- behind a left term only an arrow leads on, with a cost or none
+  -- after a left term only an arrow can follow, with a cost or none
   pub shut_leads : (p : Piece) (f : Front) (d : Draft) → InLeft ts (Some p) lefts.SourceClosed d f
       → LeadsTo ts next (step f p) (if tests.leads p then Some (places.InRight rights.Arrowed) else if tests.opens_cost p then Some (places.InCost costs.Costing) else None) d
   shut_leads p f d k = rw k.1.1.0 (go p)
@@ -85,7 +85,7 @@ module _ (ts : Tokens) (next : Option Piece) where
       go (In _) = tt
       go _ = tt
 
-  -- behind a left argument only a comma leads on, except for the bracket that closes
+  -- after a left argument only a comma can follow, except for the bracket that closes
   pub parted_leads : (p : Piece) (f : Front) (d : Draft) → InLeft ts (Some p) lefts.LeftRead d f → tests.closes p ≡ false → LeadsTo ts next (step f p) (if tests.parts p then Some (places.InLeft lefts.LeftParted) else None) d
   parted_leads p f d k h = rw k.1.1.1.1.0 (go p h)
     where
@@ -111,7 +111,7 @@ module _ (ts : Tokens) (next : Option Piece) where
     cost = s.cost ∙ k.cost;
   }
 
-  -- behind the opening bracket a new name leads on as the first left argument
+  -- after the opening bracket a new name is the first left argument
   pub opened_named : (p : Piece) (f : Front) (old new : Draft) (a : Name) → InLeft ts (Some p) lefts.LeftOpened old f → tests.word p ≡ Some a → StaysAround old new → names_in new.rule.variables ≡ with_name (names_in old.rule.variables) a
       → is_among a (names_in old.rule.variables) ≡ false → LeadsTo ts next (step f p) (Some (places.InLeft lefts.LeftRead)) new
   opened_named p f old new a k h s n fresh = rw k.1.1.0 (go p h)
@@ -121,7 +121,7 @@ module _ (ts : Tokens) (next : Option Piece) where
       go (In _) h = cc
       go _ h = cc
 
-  -- behind a comma a new name leads on as the next left argument
+  -- after a comma a new name is the next left argument
   pub parted_named : (p : Piece) (f : Front) (old new : Draft) (a : Name) → InLeft ts (Some p) lefts.LeftParted old f → tests.word p ≡ Some a → StaysAround old new → names_in new.rule.variables ≡ with_name (names_in old.rule.variables) a
       → is_among a (names_in old.rule.variables) ≡ false → LeadsTo ts next (step f p) (Some (places.InLeft lefts.LeftRead)) new
   parted_named p f old new a k h s n fresh = rw k.1.1.1.1.0 (go p h)
@@ -131,7 +131,7 @@ module _ (ts : Tokens) (next : Option Piece) where
       go (In _) h = cc
       go _ h = cc
 
-  -- behind a comma nothing but a name leads on
+  -- after a comma only a name can follow
   pub parted_stops : (p : Piece) (f : Front) (d : Draft) → InLeft ts (Some p) lefts.LeftParted d f → tests.word p ≡ None → LeadsTo ts next (step f p) None d
   parted_stops p f d k h = rw k.1.1.1.1.0 (go p h)
     where
@@ -140,7 +140,7 @@ module _ (ts : Tokens) (next : Option Piece) where
       go (In _) h = tt
       go _ h = tt
 
-  -- behind the opening bracket nothing but a name and a closing bracket leads on
+  -- after the opening bracket only a name and a closing bracket can follow
   pub opened_stops : (p : Piece) (f : Front) (d : Draft) → InLeft ts (Some p) lefts.LeftOpened d f → tests.closes p ≡ false → tests.word p ≡ None → LeadsTo ts next (step f p) None d
   opened_stops p f d k c h = rw k.1.1.0 (go p c h)
     where
@@ -194,7 +194,7 @@ module _ (ts : Tokens) (next : Option Piece) where
       let left = left_known r name arguments old new k h in
       (r, (record { name = name; arguments = arguments }, (refl, (left, left_differs r name arguments old new k h left))))
 
-  -- a closing bracket right behind the opening one ends a left term without arguments
+  -- a closing bracket right after the opening one ends a left term without arguments
   pub opened_ends : (p : Piece) (f : Front) (old new : Draft) → InLeft ts (Some p) lefts.LeftOpened old f → tests.closes p ≡ true → AfterLeft old new → LeadsTo ts next (step f p) (Some (places.InLeft lefts.SourceClosed)) new
   opened_ends p f old new k c h = rw k.1.1.0 (go p c)
     where
@@ -203,7 +203,7 @@ module _ (ts : Tokens) (next : Option Piece) where
       go (In _) c = cc
       go _ c = cc
 
-  -- a closing bracket behind a left argument ends the left term
+  -- a closing bracket after a left argument ends the left term
   pub read_ends : (p : Piece) (f : Front) (old new : Draft) → InLeft ts (Some p) lefts.LeftRead old f → tests.closes p ≡ true → AfterLeft old new → LeadsTo ts next (step f p) (Some (places.InLeft lefts.SourceClosed)) new
   read_ends p f old new k c h = rw k.1.1.1.1.0 (go p c)
     where
@@ -262,14 +262,14 @@ module _ (ts : Tokens) (next : Option Piece) where
       go (In _) c = cc
       go _ c = cc
 
-  -- between rules nothing but a name and a closing bracket leads on
+  -- between rules only a name and a closing bracket can follow
   pub ruled_stops : (p : Piece) (r : Ruling) (d : Draft) → tests.word p ≡ None → tests.closes p ≡ false → LeadsTo ts next (step (fronts.AfterRule r) p) None d
   ruled_stops (In (inner.Word n)) r d w c = cc
   ruled_stops (In inner.Close) r d w c = cc
   ruled_stops (In _) r d w c = tt
   ruled_stops _ r d w c = tt
 
-  -- a name can follow where a left argument is wanted
+  -- a name can follow where a left argument must follow
   opened_follows : (p : Piece) (f : Front) (old : Draft) (a : Name) (state : ParserState) → InLeft ts (Some p) lefts.LeftOpened old f → tests.word p ≡ Some a → GoTogether (step f p) (Some state)
   opened_follows p f old a state k h = rw k.1.1.0 (go p h)
     where
@@ -286,7 +286,7 @@ module _ (ts : Tokens) (next : Option Piece) where
       go (In _) h = cc
       go _ h = cc
 
--- what the functions of each place promise
+-- the contracts of the functions for each state of a left term
 pub opened_promise : (p : Piece) (old new : Draft) (result : Option ParserState) → tests.closes p ≡ false → Named (tests.word p) result old new → LeftLeads lefts.LeftOpened old p result new
 opened_promise p old new result c h = go (tests.word p) refl h
   where
@@ -300,7 +300,7 @@ opened_promise p old new result c h = go (tests.word p) refl h
       each = λ ts next f k fresh. opened_named ts next p f old new a k e h.1.0 h.1.1 (subst (IsNew (names_in old.rule.variables)) e fresh);
     })
 
--- behind a comma between left arguments the code leads where what is written does
+-- after a comma between left arguments the code steps as the written state does
 pub parted_promise : (p : Piece) (old new : Draft) (result : Option ParserState) → Named (tests.word p) result old new → LeftLeads lefts.LeftParted old p result new
 parted_promise p old new result h = go (tests.word p) refl h
   where
@@ -314,30 +314,30 @@ parted_promise p old new result h = go (tests.word p) refl h
       each = λ ts next f k fresh. parted_named ts next p f old new a k e h.1.0 h.1.1 (subst (IsNew (names_in old.rule.variables)) e fresh);
     })
 
--- where a piece leads whatever was named before
+-- the state after a piece whatever was named before
 pub always : (state : SourceState) (p : Piece) (old new : Draft) (result : Option ParserState) → ((ts : Tokens) (next : Option Piece) (f : Front) → InLeft ts (Some p) state old f → LeadsTo ts next (step f p) result new) → LeftLeads state old p result new
 always state p old new result h = record {
   together = λ ts f k. leads_together ts None (step f p) result new (h ts None f k);
   each = λ ts next f k fresh. h ts next f k;
 }
 
--- so it does behind a left argument where no bracket closes
+-- after a left argument where no bracket closes the code steps as the written state does
 pub read_promise : (p : Piece) (old : Draft) (result : Option ParserState) (v : Bool) → tests.closes p ≡ false → v ≡ tests.parts p → result ≡ (if v then Some (places.InLeft lefts.LeftParted) else None) → LeftLeads lefts.LeftRead old p result old
 read_promise p old result v c e h = always lefts.LeftRead p old old result (λ ts next f k. rw (h, e) (parted_leads ts next p f old k c))
 
--- so it does behind the source of a rule
+-- after the source of a rule the code steps as the written state does
 pub source_promise : (p : Piece) (old : Draft) (result : Option ParserState) (v : Bool) → v ≡ tests.opens p → result ≡ (if v then Some (places.InLeft lefts.LeftOpened) else None) → LeftLeads lefts.SourceNamed old p result old
 source_promise p old result v e h = always lefts.SourceNamed p old old result (λ ts next f k. rw (h, e) (source_leads ts next p f old k))
 
--- so it does behind a left term
+-- after a left term the code steps as the written state does
 pub closed_promise : (p : Piece) (old : Draft) (result : Option ParserState) → result ≡ (if tests.leads p then Some (places.InRight rights.Arrowed) else if tests.opens_cost p then Some (places.InCost costs.Costing) else None)
     → LeftLeads lefts.SourceClosed old p result old
 closed_promise p old result h = always lefts.SourceClosed p old old result (λ ts next f k. rw h (shut_leads ts next p f old k))
 
--- and so it does between rules
+-- between rules the code steps as the written state does
 pub ruled_promise : (p : Piece) (old new : Draft) (result : Option ParserState) → RuleLeads old p result new → LeftLeads lefts.AfterRule old p result new
 ruled_promise p old new result h = always lefts.AfterRule p old new result (λ ts next f k. rw k.1.0 (h.each ts next k.0 k.1.1.0 k.1.1.1))
 
--- the same for a state up to the end of a left term that is given by an equation
+-- the contract of a state up to the end of a left term that is given by an equation
 pub in_left_state : (state known : SourceState) (old new : Draft) (p : Piece) (result : Option ParserState) → state ≡ known → LeftLeads known old p result new → LeftLeads state old p result new
 in_left_state state known old new p result e h = subst (λ (q : SourceState). LeftLeads q old p result new) (sym e) h

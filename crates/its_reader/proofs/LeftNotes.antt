@@ -1,4 +1,4 @@
--- What a left term shows at the next token is what the code finds there.
+-- The faults of a left term at the next token are those that the code finds.
 use Rattle.std.specs.Prelude.{◌≡◌, ℕ, suc, Bool, true, false, ◌&&◌, ◌||◌, nat_le, List, [], ◌∷◌, ◌++◌, map, length}
 use Rattle.std.specs.Prelude.{reverse, Option, Some, None, refl}
 use Rattle.std.proofs.Common.{sym, ap, ◌∙◌, append-nil, inl, inr}
@@ -24,12 +24,12 @@ use Rattle.its_reader.specs.declared.parser_state.SourceState.TheVariants as lef
 use Rattle.its_reader.specs.declared.draft.RuleDraft.{RuleDraft}
 use Rattle.its_reader.specs.declared.draft.Draft.{Draft}
 
--- there are as many rules as have been written
+-- the length of a list with one more element
 pub length-push : {X : Type 0} (xs : List X) (x : X) → length (xs ++ x ∷ []) ≡ suc (length xs)
 length-push [] x = refl
 length-push (y ∷ xs) x = ap suc (length-push xs x)
 
--- what is made of a list, element by element, has as many elements
+-- a mapped list has as many elements
 pub length-terms : {X Y : Type 0} (f : X → Y) (xs : List X) → length (map f xs) ≡ length xs
 length-terms f [] = refl
 length-terms f (x ∷ xs) = ap suc (length-terms f xs)
@@ -79,7 +79,7 @@ module _ (ts : Tokens) (at : ℕ) (next behind : Option Piece) (d : Draft) (f : 
       → left_of at (Some arguments) next behind ++ fault_if (long_name next) (Limit LongName) at ≡ left_argument_name_faults d.rule at (tests.word_of next) behind ++ fault_if (long_name next) (Limit LongName) at
   wanted_shows arguments e = ap (λ xs. xs ++ fault_if (long_name next) (Limit LongName) at) (argument_is at arguments d.rule next behind e)
 
-  -- what a front of a left term shows at the next token is what the code finds there
+  -- the faults of a state of a left term at the next token are those that the code finds
   pub left_next : (state : SourceState) → InLeft ts next state d f → next_faults at f next behind ≡ left_faults state d at next behind
   left_next lefts.AfterRule k = rw k.1.0 (simp append-nil
       (ap (λ n. fault_if (is_word next && nat_le rule_limit n) (Limit TooManyRules) at ++ fault_if (long_name next) (Limit LongName) at) (sym (as_many_rules k.0.rules d k.1.1.0.rules.rules_are))))

@@ -67,15 +67,15 @@ rules_same p (r ∷ rs) h = λ i. rule_same p r h.0 i ∷ rules_same p rs h.1 i
 pub valid_limited : (p : Program) → IsValid p → limited_program (Some p) ≡ Some p
 valid_limited p v = λ i. Some (record p { rules = rules_same p p.rules v.rules i })
 
--- what a text is read as is valid
+-- the program that a text is read as is valid
 pub stands_valid : (bytes : List ℕ) (p : Program) → verdict bytes ≡ Stands p → IsValid p
 stands_valid bytes p h = spelled_valid bytes p (verdict_spells bytes p h)
 
--- with its exponents limited a program that a text stands for is itself
+-- with its exponents limited a program that a text denotes is itself
 pub program_limited : (bytes : List ℕ) (p : Program) → verdict bytes ≡ Stands p → limited_program (Some p) ≡ Some p
 program_limited bytes p h = valid_limited p (stands_valid bytes p h)
 
--- so what is read is valid
+-- a program that is read is valid
 pub said_valid : (bytes : List ℕ) (result : Result code.Program ReadError) → Says (verdict bytes) result → IfOk result (λ p. IsValid (program_of p))
 said_valid bytes (Ok q) h = go (verdict bytes) refl h
   where

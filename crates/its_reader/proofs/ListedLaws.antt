@@ -35,7 +35,7 @@ tabled_none (m ∷ names) [] n e = refl
 tabled_none (m ∷ names) (a ∷ arities) zero e = cc
 tabled_none (m ∷ names) (a ∷ arities) (suc n) e = tabled_none names arities n e
 
--- the first of what is made of a list are made of its first elements
+-- the first elements of a mapped list are the mapped first elements
 pub map-take : {X Y : Type 0} (f : X → Y) (n : ℕ) (xs : List X) → map f (take n xs) ≡ take n (map f xs)
 map-take f zero xs = refl
 map-take f (suc n) [] = refl

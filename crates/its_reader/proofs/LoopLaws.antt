@@ -43,7 +43,7 @@ loop_begins bytes d l k m next behind known text at mode first second = subst (I
         sym (ap (λ t. plain.tokens_in lexer (mode_of l.mode) l.at 0 t) text ∙ (ap (λ i. plain.tokens_in lexer (mode_of l.mode) i 0 bytes) at ∙ ap (λ o. plain.tokens_in lexer o 0 0 bytes) mode))
         ∙ (first ∙ ap (listed next) second)
 
--- a token leads on, or the answer is known
+-- after a token reading continues, or the answer is known
 pub turned_on : {bytes : List ℕ} {state : ParserState} {last : ℕ} {best : Option (Fault Kind)} {old new : Draft} {t : Token Piece} {behind : Option Piece} {rest : Tokens} (turn : TokenStep) (s : ReaderState) → turn ≡ turns.On s
     → Turns state last best old t behind (token_result_of turn) new → next_piece rest ≡ behind → IsReading bytes state last best old (t ∷ rest) → IsReading bytes s.state s.last (maybe_fault s.best) new rest
 turned_on {bytes} {state} {last} {best} {old} {new} {t} {behind} {rest} turn s e h n r = subst (λ turn. TurnsTo bytes rest (token_result_of turn) new) e (h.each bytes rest n r)

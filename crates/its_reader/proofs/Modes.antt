@@ -1,4 +1,4 @@
--- The mode behind a piece, by tests of the piece.
+-- The mode after a piece, by tests of the piece.
 use Rattle.std.specs.Prelude.{◌≡◌, ℕ, zero, suc, if◌then◌else◌, Option, Some, None, refl, List}
 use Rattle.its_text.specs.expr_text.Pieces as inner
 use Rattle.its_text.specs.Pieces.{Piece, In}

@@ -3,7 +3,7 @@ use Rattle.std.proofs.Common.{◌≡◌, ℕ, zero, suc, ◌<◌, ◌-◌, List,
 use Rattle.std.proofs.Common.{subst, ◌∙◌, arith, append_assoc, append-nil}
 use Rattle.std.specs.Prelude.{drop, slice_get}
 
--- what is made of a list with one more element behind it is what is made of both, one after the other
+-- a mapped list with one more element
 pub map-push : {X Y : Type 0} (f : X → Y) (xs : List X) (x : X) → map f (xs ++ x ∷ []) ≡ map f xs ++ f x ∷ []
 map-push f [] x = refl
 map-push f (y ∷ xs) x = ap (λ ys. f y ∷ ys) (map-push f xs x)
@@ -13,7 +13,7 @@ length-push [] x = refl
 length-push (y ∷ xs) x = ap suc (length-push xs x)
 
 module _ {X Y Z : Type 0} (f : X → Y) (g : Z → Y) where
-  -- the rest of a list begins with what is found there
+  -- the rest of a list from a position begins with the element there
   drop_found : (keys : List X) (n : ℕ) (k : X) → slice_get keys n ≡ Some k → drop n (map f keys) ≡ f k ∷ drop (suc n) (map f keys)
   drop_found [] n k e = cc
   drop_found (x ∷ keys) zero k e = let same : x ≡ k = cc in ap (λ x. f x ∷ map f keys) same

@@ -15,11 +15,11 @@ use Rattle.its_text.specs.Numbering.{term_in, rule_numbered, rules_numbered, wit
 use Rattle.its_reader.specs.Standing.{updates_of, cost_of, limited_rule, rules_so_far}
 use Rattle.its_reader.proofs.SymbolTables.{names_with}
 
--- a list goes on with others
+-- a list continues others
 abbrev pub GoesOn : List Name → List Name → Type 0
 GoesOn names more = (new : List Name) × (more ≡ names ++ new)
 
--- what is made of a list with one more element behind it is what is made of both, one after the other
+-- a mapped list with one more element
 pub map-push : {X Y : Type 0} (f : X → Y) (xs : List X) (x : X) → map f (xs ++ x ∷ []) ≡ map f xs ++ f x ∷ []
 map-push f [] x = refl
 map-push f (y ∷ xs) x = ap (λ ys. f y ∷ ys) (map-push f xs x)
@@ -32,7 +32,7 @@ updates_stay names (s ∷ earlier) all h =
     ∙ (ap (λ ts. ts ++ limited (sum_term all s) ∷ []) (updates_stay names earlier all (extended (with_sums names earlier) (with_sums names (s ∷ earlier)) all (sum_extends (with_sums names earlier) s) h))
     ∙ ap (λ t. updates_of names earlier ++ limited t ∷ []) (ap (λ ns. sum_term ns s) h.1 ∙ sum_term_stays (with_sums names (s ∷ earlier)) h.0 s (sum_is_read (with_sums names earlier) s)))
 
--- the variables go on with those of a cost
+-- the variables continue those of a cost
 pub cost_goes_on : (names : List Name) (cost : Option Sum) → GoesOn names (with_cost names cost)
 cost_goes_on names None = ([], sym (append-nil names))
 cost_goes_on names (Some c) = sum_extends names c
@@ -42,7 +42,7 @@ pub cost_stays : (names : List Name) (cost : Option Sum) (all : List Name) → G
 cost_stays names None all h = refl
 cost_stays names (Some c) all h = ap (λ t. Some (limited t)) (ap (λ ns. sum_term ns c) h.1 ∙ sum_term_stays (with_sum names c) h.0 c (sum_is_read names c))
 
--- symbols go on with more
+-- symbols continue more
 pub symbol_goes_on : (symbols : List Symbol) (name : Name) (arity : ℕ) → GoesOn (names_of symbols) (names_of (with_symbol symbols name arity))
 symbol_goes_on symbols name arity = let e = name_extends (names_of symbols) name in (e.0, sym (names_with symbols name arity) ∙ e.1)
 
@@ -54,7 +54,7 @@ symbol_among symbols name arity = ap (is_among name) (sym (names_with symbols na
 number_stays_on : (name : Name) (names all : List Name) → is_among name names ≡ true → GoesOn names all → position_of name all ≡ position_of name names
 number_stays_on name names all h g = ap (position_of name) g.1 ∙ position_stays name names g.0 h
 
--- a name that is among names is among any that go on with them
+-- a name that is among names is among any that continue them
 pub among_stays_on : (name : Name) (names all : List Name) → is_among name names ≡ true → GoesOn names all → is_among name all ≡ true
 among_stays_on name names all h g = ap (is_among name) g.1 ∙ among_more name names g.0 h
 

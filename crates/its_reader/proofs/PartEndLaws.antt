@@ -1,4 +1,5 @@
--- What ends before the next piece ends in what is written, and what its last byte shows is found.
+-- The part that ends before the next piece ends in the code where the written one does, and the fault at its last byte
+-- is found.
 use Rattle.std.specs.Prelude.{◌≡◌, ℕ, Bool, true, false, ◌&&◌, if◌then◌else◌, List, [], ◌∷◌, ◌++◌, map}
 use Rattle.std.specs.Prelude.{Option, Some, None, option_map, refl}
 use Rattle.std.proofs.Common.{sym, ap, subst, ◌∙◌, append-nil, inl, inr}
@@ -78,7 +79,7 @@ left_shows ts at next lefts.LeftParted d f k = rw k.1.1.1.1.0 refl
 left_shows ts at next lefts.SourceClosed d f k =
     rw k.1.1.0 (ap (λ v. fault_if v ArityDiffers at) k.1.1.1.1 ∙ sym (append-nil _))
 
--- up to the end of a left term nothing ends, and what its last byte shows is found
+-- up to the end of a left term no part ends, and the fault at the last byte is found
 pub left_ends_part : (state : SourceState) (d : Draft) (next : Option Piece) (refusal : Option Kind) → ((at : ℕ) → maybe_kind refusal at ≡ fault_if (closes_left state && d.rule.differs) ArityDiffers at)
     → EndsPart (places.InLeft state) d next (places.InLeft state) (maybe_kind refusal) d
 left_ends_part state d next refusal h = record { part_ended = λ ts f k. k; found_is = λ ts at f k. h at ∙ left_shows ts at next state d f k }
@@ -159,7 +160,7 @@ still_ends_part state old rule next now refusal e h = rw (h.now_is, h.new_is) (r
   found_is = λ ts at f k. h.found_is at ∙ right_shows ts at next state old f e k;
 })
 
--- what ends in a right term ends in what is written, and what its last byte shows is found
+-- a part that ends in a right term ends where the written one does, and the fault at its last byte is found
 pub right_ends_part : (state : TargetState) (old : Draft) (rule : RuleDraft) (next : Option Piece) (now : ParserState) (refusal : Option Kind) → RightEndsPart state old.rule next now refusal rule
     → EndsPart (places.InRight state) old next now (maybe_kind refusal) (record old { rule = rule })
 right_ends_part (rights.Arguing w) old rule next now refusal h = record {
@@ -175,7 +176,7 @@ right_ends_part (rights.TargetNamed w) old rule next now refusal h = still_ends_
 right_ends_part (rights.RightOpened w) old rule next now refusal h = still_ends_part (rights.RightOpened w) old rule next now refusal refl h.by
 right_ends_part rights.TargetClosed old rule next now refusal h = still_ends_part rights.TargetClosed old rule next now refusal refl h.by
 
--- behind a target, where no guard is read
+-- after a target, where no guard is read
 tail_still : (ts : Tokens) (next : Option Piece) (state : TailState) (d : Draft) (f : Front) → is_guarding state ≡ false → InTail ts next state d f → TailPartEnded ts next state d f
 tail_still ts next tails.Targeted d f e k = k
 tail_still ts next tails.GuardMarked d f e k = k
@@ -190,7 +191,7 @@ tail_shows ts at next tails.GuardMarked d f e k = rw k.1.0 refl
 tail_shows ts at next tails.SquareOpened d f e k = rw k.1.0 refl
 tail_shows ts at next (tails.Guarding fence) d f e k = cc
 
--- an expression ends alike before what follows
+-- an expression ends before the next piece in the code exactly if the written one does
 ends_alike : (e : expression.Front) (next : Option Piece) → found.ends_before e (inner_next next) ≡ ends_expression e next
 ends_alike e None = refl
 ends_alike e (Some (In p)) = refl
@@ -267,7 +268,7 @@ guard_ends_part fence old rule next now refusal h = record {
       ∙ guard_shows at next fence k.0 k.1.0 f (names_in old.rule.variables) old.rule.guard k.1.1.0 k.1.1.1.1.1);
 }
 
--- what ends behind a target ends in what is written, and what its last byte shows is found
+-- a part that ends after a target ends where the written one does, and the fault at its last byte is found
 pub tail_ends_part : (state : TailState) (old : Draft) (rule : RuleDraft) (next : Option Piece) (now : ParserState) (refusal : Option Kind) → TailEndsPart state old.rule next now refusal rule
     → EndsPart (places.InTail state) old next now (maybe_kind refusal) (record old { rule = rule })
 tail_ends_part tails.Targeted old rule next now refusal h = tail_stays tails.Targeted old rule next now refusal refl h.by
@@ -275,15 +276,15 @@ tail_ends_part tails.GuardMarked old rule next now refusal h = tail_stays tails.
 tail_ends_part tails.SquareOpened old rule next now refusal h = tail_stays tails.SquareOpened old rule next now refusal refl h.by
 tail_ends_part (tails.Guarding fence) old rule next now refusal h = guard_ends_part fence old rule next now refusal h.by
 
--- the same for a state before parts end that is given by an equation
+-- the contract of a state before parts end that is given by an equation
 pub in_part_ended_state : (state known : ParserState) (old new : Draft) (next : Option Piece) (now : ParserState) (faults : ℕ → FaultList) → state ≡ known → EndsPart known old next now faults new → EndsPart state old next now faults new
 in_part_ended_state state known old new next now faults e h = subst (λ (q : ParserState). EndsPart q old next now faults new) (sym e) h
 
--- so may a place that stays what it is while something settles
+-- the contract of a state, given by an equation, in which no part ends
 pub in_same_state : (state known : ParserState) (old new : Draft) (next : Option Piece) (faults : ℕ → FaultList) → state ≡ known → EndsPart known old next known faults new → EndsPart state old next state faults new
 in_same_state state known old new next faults e h = subst (λ (q : ParserState). EndsPart q old next q faults new) (sym e) h
 
--- an argument has ended, or goes on
+-- an argument has ended, or continues
 pub argument_over : {w : Wrap} {old new : RuleDraft} {next : Option inner.Piece} {refusal : Option Kind} → ends_in old.expression next ≡ true → AfterArgument old refusal new
     → ArgumentIsPartEnded w old next (places.InRight (rights.Argued w)) refusal new
 argument_over {w} {old} {new} {next} {refusal} e a = record { by = subst (λ v. ArgumentEndsPart v w old (places.InRight (rights.Argued w)) refusal new) (sym e) (refl, a) }
@@ -292,7 +293,7 @@ argument_over {w} {old} {new} {next} {refusal} e a = record { by = subst (λ v. 
 pub argument_on : {w : Wrap} {old : RuleDraft} {next : Option inner.Piece} → ends_in old.expression next ≡ false → ArgumentIsPartEnded w old next (places.InRight (rights.Arguing w)) None old
 argument_on {w} {old} {next} e = record { by = subst (λ v. ArgumentEndsPart v w old (places.InRight (rights.Arguing w)) None old) (sym e) (refl, (refl, refl)) }
 
--- in a right term, and behind a target
+-- in a right term, and after a target
 pub right_argued : {state : TargetState} {w : Wrap} {old new : RuleDraft} {n : Option inner.Piece} {next : Option Piece} {now : ParserState} {refusal : Option Kind} → wrap_of_argument state ≡ Some w → n ≡ inner_next next → ArgumentIsPartEnded w old n now refusal new
     → RightEndsPart state old next now refusal new
 right_argued {state} {w} {old} {new} {n} {next} {now} {refusal} e same a = record {
@@ -304,11 +305,11 @@ pub right_holds : {state : TargetState} {old new : RuleDraft} {next : Option Pie
     → IsStill (places.InRight state) (λ at. fault_if (closes_right state && old.differs) ArityDiffers at) old now refusal new → RightEndsPart state old next now refusal new
 right_holds {state} {old} {new} {next} {now} {refusal} e a = record { by = subst (λ o. RightEndsPartBy o state old next now refusal new) (sym e) a }
 
--- behind a target what settles is the guard, where one is read
+-- after a target only a guard that is being read can end
 pub tail_guarding : {state : TailState} {old new : RuleDraft} {next : Option Piece} {now : ParserState} {refusal : Option Kind} → is_guarding state ≡ true → GuardStands state old next now refusal new → TailEndsPart state old next now refusal new
 tail_guarding {state} {old} {new} {next} {now} {refusal} e a = record { by = subst (λ v. TailEndsPartBy v state old next now refusal new) (sym e) a }
 
--- and where none is read nothing ends
+-- after a target, where no guard is being read, nothing ends
 pub tail_holds : {state : TailState} {old new : RuleDraft} {next : Option Piece} {now : ParserState} {refusal : Option Kind} → is_guarding state ≡ false
     → IsStill (places.InTail state) (λ at. fault_if (closes_target state && old.differs) ArityDiffers at) old now refusal new → TailEndsPart state old next now refusal new
 tail_holds {state} {old} {new} {next} {now} {refusal} e a = record { by = subst (λ v. TailEndsPartBy v state old next now refusal new) (sym e) a }

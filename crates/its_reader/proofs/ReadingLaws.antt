@@ -1,4 +1,4 @@
--- One token further in a text: where it leads, where the text breaks off, where reading can stop, and the end.
+-- One more token of a text: the state after it, where the text breaks off, where reading can stop, and the end.
 use Rattle.std.specs.Prelude.{◌≡◌, ℕ, suc, ◌+◌, ◌-◌, ◌≤◌, ◌<◌, ◌⊎◌, List, [], ◌∷◌, length, Option, Some, None, refl}
 use Rattle.std.proofs.Common.{sym, ap, ◌∙◌, arith, inl, inr}
 use Rattle.text_core.specs.Tokens.{Token, pieces, AreInOrder}
@@ -40,7 +40,7 @@ reading_begins bytes d k = record {
   stands = ([], (refl, k));
 }
 
--- the token behind this many
+-- the position of the token after this many
 at_onto : (done : Tokens) (t : Token Piece) (rest : Tokens) → at_index (onto done (t ∷ rest)) (length done) ≡ t.at
 at_onto done t rest = ap (at_index (onto done (t ∷ rest))) (let e : length done ≡ length done + 0 = omega arith in e) ∙ go done 0 (t ∷ rest) t refl
   where
@@ -77,7 +77,7 @@ module _ (bytes : List ℕ) (state : ParserState) (last : ℕ) (best : Option (F
     stands = k;
   }
 
-  -- the text breaks off
+  -- the text is refused where it breaks off
   pub reading_breaks : (now : Option (Fault Kind)) → now ≡ first_among programs best (front_faults (length bytes) r.done r.front (t ∷ rest)) → step r.front t.piece ≡ None
       → verdict bytes ≡ Refused (first_of programs now (record { kind = break_kind r.front (t ∷ rest); at = t.at }))
   reading_breaks now b e =
@@ -87,7 +87,7 @@ module _ (bytes : List ℕ) (state : ParserState) (last : ℕ) (best : Option (F
       ∙ (ap (λ now. run programs (length bytes) (Stopped (first_of programs now (off_at programs (length bytes) r.front (t ∷ rest)))) rest) (sym b)
       ∙ stopped_is (length bytes) (first_of programs now (off_at programs (length bytes) r.front (t ∷ rest))) rest)))
 
-  -- reading stops behind a token: before its last byte, or at it where nothing that is shown there has a lesser number
+  -- reading stops after a token: before its last byte, or at it where nothing that is shown there has a lesser number
   pub reading_stops : (x : Fault Kind) (g : Front) → Some x ≡ first_among programs best (front_faults (length bytes) r.done r.front (t ∷ rest)) → step r.front t.piece ≡ Some g
       → (x.at < t.upto - 1) ⊎ ((x.at ≤ t.upto - 1) × ((y : Fault Kind) → Among y (last_faults (t.upto - 1) g (next_piece rest)) → kind_number x.kind ≤ kind_number y.kind)) → verdict bytes ≡ Refused x
   reading_stops x g b e h =

@@ -1,4 +1,4 @@
--- Where each piece leads from the arrow to the end of a target, by tests of the piece.
+-- The state after each piece from the arrow to the end of a target, by tests of the piece.
 use Rattle.std.specs.Prelude.{◌≡◌, ℕ, suc, ◌==◌, nat_lt, length, true, false, not, if◌then◌else◌, List, [], ◌∷◌, ◌++◌}
 use Rattle.std.specs.Prelude.{map, codes, Option, Some, None, refl}
 use Rattle.std.proofs.Common.{sym, ap, subst, ◌∙◌, get_or}
@@ -49,7 +49,7 @@ use Rattle.its_reader.specs.declared.parser_state.ParserState.{ParserState}
 use Rattle.its_reader.specs.declared.parser_state.ParserState.TheVariants as places
 
 module _ (ts : Tokens) (next : Option Piece) where
-  -- behind `Com_1` only an opening bracket leads on
+  -- after `Com_1` only an opening bracket can follow
   pub com_named_leads : (p : Piece) (f : Front) (d : Draft) → InRight ts (Some p) rights.ComNamed d f → LeadsTo ts next (step f p) (if tests.opens p then Some (places.InRight rights.ComOpened) else None) d
   com_named_leads p f d k = rw k.1.0 (go p)
     where
@@ -58,7 +58,7 @@ module _ (ts : Tokens) (next : Option Piece) where
       go (In _) = tt
       go _ = tt
 
-  -- behind the target's name only an opening bracket leads on
+  -- after the target's name only an opening bracket can follow
   pub target_named_leads : (w : Wrap) (p : Piece) (f : Front) (d : Draft) → InRight ts (Some p) (rights.TargetNamed w) d f → LeadsTo ts next (step f p) (if tests.opens p then Some (places.InRight (rights.RightOpened w)) else None) d
   target_named_leads w p f d k = rw k.1.0 (go p)
     where
@@ -67,7 +67,7 @@ module _ (ts : Tokens) (next : Option Piece) where
       go (In _) = tt
       go _ = tt
 
-  -- behind the arrow `Com_1` leads on to its bracket
+  -- after the arrow `Com_1` leads to the state before its bracket
   pub com_leads : (p : Piece) (f : Front) (d : Draft) → InRight ts (Some p) rights.Arrowed d f → tests.says (codes "Com_1") p ≡ true → LeadsTo ts next (step f p) (Some (places.InRight rights.ComNamed)) d
   com_leads p f d k h = rw k.1.0 (go p h)
     where
@@ -90,7 +90,7 @@ module _ (ts : Tokens) (next : Option Piece) where
     expression = subst (λ e. IsFresh e) (sym s.expression) k.expression;
   }
 
-  -- behind the arrow any other name leads on as that of the target
+  -- after the arrow any other name is that of the target
   pub bare_leads : (p : Piece) (f : Front) (old new : Draft) (name : Name) → InRight ts (Some p) rights.Arrowed old f → tests.says (codes "Com_1") p ≡ false → tests.word p ≡ Some name → StaysBut old new → new.rule.name.now ≡ name
       → LeadsTo ts next (step f p) (Some (places.InRight (rights.TargetNamed wraps.Alone))) new
   bare_leads p f old new name k h w s n = rw k.1.0 (go p h w)
@@ -100,7 +100,7 @@ module _ (ts : Tokens) (next : Option Piece) where
       go (In _) h w = cc
       go _ h w = cc
 
-  -- behind the arrow nothing but a name leads on
+  -- after the arrow only a name can follow
   pub arrowed_stops : (p : Piece) (f : Front) (d : Draft) → InRight ts (Some p) rights.Arrowed d f → tests.word p ≡ None → LeadsTo ts next (step f p) None d
   arrowed_stops p f d k w = rw k.1.0 (go p w)
     where
@@ -109,7 +109,7 @@ module _ (ts : Tokens) (next : Option Piece) where
       go (In _) w = tt
       go _ w = tt
 
-  -- within `Com_1` a name leads on as that of the target
+  -- within `Com_1` a name is that of the target
   pub within_leads : (p : Piece) (f : Front) (old new : Draft) (name : Name) → InRight ts (Some p) rights.ComOpened old f → tests.word p ≡ Some name → StaysBut old new → new.rule.name.now ≡ name
       → LeadsTo ts next (step f p) (Some (places.InRight (rights.TargetNamed wraps.InCom))) new
   within_leads p f old new name k w s n = rw k.1.0 (go p w)
@@ -119,7 +119,7 @@ module _ (ts : Tokens) (next : Option Piece) where
       go (In _) w = cc
       go _ w = cc
 
-  -- within `Com_1` nothing but a name leads on
+  -- within `Com_1` only a name can follow
   pub within_stops : (p : Piece) (f : Front) (d : Draft) → InRight ts (Some p) rights.ComOpened d f → tests.word p ≡ None → LeadsTo ts next (step f p) None d
   within_stops p f d k w = rw k.1.0 (go p w)
     where
@@ -128,7 +128,7 @@ module _ (ts : Tokens) (next : Option Piece) where
       go (In _) w = tt
       go _ w = tt
 
-  -- an argument goes on, and what is known beside it stays
+  -- an argument continues, and the rest of the draft is unchanged
   goes_on_known : (w : Wrap) (a : Aimed) (arguments : List Sum) (e more : expression.Front) (p : inner.Piece) (old new : Draft) → a.wrap ≡ wrap_of w → KnowsAimed ts a arguments old
       → Stands (names_with a.led arguments) e (names_in old.rule.variables) old.rule.expression → expression_steps.step e p ≡ Some more → IsModest p → GoesOn old p new → IsArguing ts w a arguments more new
   goes_on_known w a arguments e more p old new wrap k s led modest g = record {
@@ -143,7 +143,7 @@ module _ (ts : Tokens) (next : Option Piece) where
     expression = g.leads.each (names_with a.led arguments) e more s led modest;
   }
 
-  -- where an inner piece leads within an argument that doesn't end before it
+  -- the state after a piece within an argument that doesn't end before it
   pub argument_leads : (w : Wrap) (a : Aimed) (arguments : List Sum) (e : expression.Front) (p : inner.Piece) (old new : Draft) (result : Option ParserState) → a.wrap ≡ wrap_of w → KnowsAimed ts a arguments old
       → Stands (names_with a.led arguments) e (names_in old.rule.variables) old.rule.expression → (ends_expression e (Some (In p)) ≡ true → expression_steps.finish e ≡ None) → IsModest p
       → Takes (goes_on_with e p) (places.InRight (rights.Arguing w)) old p result new → LeadsTo ts next (argument_step a arguments e (expression_steps.step e p) p) result new
@@ -155,7 +155,7 @@ module _ (ts : Tokens) (next : Option Piece) where
           let none : expression_steps.finish e ≡ None = stops (ap (λ (o : Option expression.Front). not (is_front o)) h) in
           rw (none, t.0) tt
 
--- there are as many updates as arguments
+-- the length of a list with one more element
 length-push : {X : Type 0} (xs : List X) (x : X) → length (xs ++ x ∷ []) ≡ suc (length xs)
 length-push [] x = refl
 length-push (y ∷ xs) x = ap suc (length-push xs x)
@@ -165,7 +165,7 @@ pub updates_count : (names : List Name) (arguments : List Sum) → length (updat
 updates_count names [] = refl
 updates_count names (s ∷ earlier) = length-push (updates_of names earlier) _ ∙ ap suc (updates_count names earlier)
 
--- what is made of a list, element by element, has as many elements
+-- a mapped list has as many elements
 pub length-terms : {X Y : Type 0} (f : X → Y) (xs : List X) → length (map f xs) ≡ length xs
 length-terms f [] = refl
 length-terms f (x ∷ xs) = ap suc (length-terms f xs)
@@ -219,7 +219,7 @@ module _ (ts : Tokens) (next : Option Piece) where
       let headed = headed_known a arguments (Bare (record { name = a.name; arguments = arguments })) old new refl k names fresh h in
       rw e (record { led = a.led; target = Bare (record { name = a.name; arguments = arguments }) }, (refl, (headed, right_differs a arguments (Bare (record { name = a.name; arguments = arguments })) old new refl k h headed)))
 
-  -- a closing bracket right behind the opening one ends a right term without arguments
+  -- a closing bracket right after the opening one ends a right term without arguments
   pub opened_right_ends : (w : Wrap) (p : Piece) (f : Front) (old new : Draft) → RightPartEnded ts (Some p) (rights.RightOpened w) old f → tests.closes p ≡ true → AfterRight old new → LeadsTo ts next (step f p) (Some (behind_wrap w)) new
   opened_right_ends w p f old new k c h = rw k.1.0 (go p c)
     where
@@ -228,7 +228,7 @@ module _ (ts : Tokens) (next : Option Piece) where
       go (In _) c = cc
       go _ c = cc
 
-  -- a closing bracket behind an argument that has ended ends the right term
+  -- a closing bracket after an argument that has ended ends the right term
   pub argued_ends : (w : Wrap) (p : Piece) (f : Front) (old new : Draft) → RightPartEnded ts (Some p) (rights.Argued w) old f → tests.closes p ≡ true → AfterRight old new → LeadsTo ts next (step f p) (Some (behind_wrap w)) new
   argued_ends w p f old new k c h = rw k.1.1.1.1.0 (go p c k.1.1.1.1.1.ends)
     where
@@ -244,7 +244,7 @@ module _ (ts : Tokens) (next : Option Piece) where
       go (In _) c ends = cc
       go _ c ends = cc
 
-  -- the comma behind an argument
+  -- the comma after an argument
   pub argued_parts : (w : Wrap) (p : Piece) (f : Front) (d : Draft) → RightPartEnded ts (Some p) (rights.Argued w) d f → tests.closes p ≡ false → LeadsTo ts next (step f p) (if tests.parts p then Some (places.InRight (rights.Arguing w)) else None) d
   argued_parts w p f d k c = rw k.1.1.1.1.0 (go p c k.1.1.1.1.1.ends)
     where
@@ -308,7 +308,7 @@ module _ (ts : Tokens) (next : Option Piece) where
       go (In _) c = cc
       go _ c = cc
 
-  -- behind the right term in `Com_1` nothing but the closing bracket leads on
+  -- after the right term in `Com_1` only the closing bracket can follow
   pub com_stops : (p : Piece) (f : Front) (d : Draft) → RightPartEnded ts (Some p) rights.TargetClosed d f → tests.closes p ≡ false → LeadsTo ts next (step f p) None d
   com_stops p f d k c = rw k.1.1.0 (go p c)
     where

@@ -1,4 +1,4 @@
--- What a right term shows at the next token is what the code finds there.
+-- The faults of a right term at the next token are those that the code finds.
 use Rattle.std.specs.Prelude.{◌≡◌, ℕ, suc, false, ◌&&◌, ◌==◌, nat_le, List, [], ◌∷◌}
 use Rattle.std.specs.Prelude.{◌++◌, length, Option, Some, None, refl}
 use Rattle.std.proofs.Common.{sym, ap, ◌∙◌, append-nil, arith}
@@ -66,7 +66,7 @@ module _ (ts : Tokens) (at : ℕ) (next behind : Option Piece) (d : Draft) (f : 
   again_is l (Some (In _)) = refl
   again_is l (Some _) = refl
 
-  -- an argument goes on
+  -- an argument that continues
   arguing_full : (w : Wrap) (a : Aimed) (arguments : List Sum) (e : expression.Front) → IsArguing ts w a arguments e d → passes_arguments (fronts.Arguing a arguments e) next ≡ begins_full d.rule next
   arguing_full w a arguments e k =
       ap (λ n. (n == 0) && nat_le place_limit (length arguments) && begins next) (sym k.expression.tokens_are)
@@ -75,7 +75,7 @@ module _ (ts : Tokens) (at : ℕ) (next behind : Option Piece) (d : Draft) (f : 
       count : length d.rule.updates.items ≡ length arguments
       count = sym (length-terms term_of d.rule.updates.items) ∙ (ap length k.aimed.updates_are ∙ updates_count (arrow_names a.led.left a.led.cost) arguments)
 
-  -- what a front of a right term shows at the next token is what the code finds there
+  -- the faults of a state of a right term at the next token are those that the code finds
   pub right_next : (state : TargetState) → RightPartEnded ts next state d f → IsDigital next → next_faults at f next behind ≡ right_faults state d.rule at next behind
   right_next rights.Arrowed k digital = rw k.1.0 (simp append-nil (ap (λ v. fault_if v ManyTargets at ++ fault_if (long_name next) (Limit LongName) at) (many_is k.0 next)))
   right_next rights.ComNamed k digital = rw k.1.0 (simp append-nil)

@@ -38,30 +38,30 @@ use Rattle.its_reader.specs.declared.parser_state.ParserState.TheVariants as pla
 use Rattle.its_reader.proofs.RightLaws.{com_named_leads, target_named_leads, bare_leads, arrowed_stops, within_leads}
 use Rattle.its_reader.proofs.RightLaws.{within_stops, argument_leads, opened_right_ends, argued_ends, argued_parts}
 
--- what the functions of each place promise
+-- the contracts of the functions for each state of a right term
 pub always_right : (state : TargetState) (p : Piece) (old new : Draft) (result : Option ParserState) → ((ts : Tokens) (next : Option Piece) (f : Front) → RightPartEnded ts (Some p) state old f → LeadsTo ts next (step f p) result new) → RightLeads state old p result new
 always_right state p old new result h = record {
   together = λ ts f k. leads_together ts None (step f p) result new (h ts None f k);
   each = λ ts next f k modest. h ts next f k;
 }
 
--- the same for a state between the arrow and the end of the target that is given by an equation
+-- the contract of a state between the arrow and the end of the target that is given by an equation
 pub in_right_state : (state known : TargetState) (old new : Draft) (p : Piece) (result : Option ParserState) → state ≡ known → RightLeads known old p result new → RightLeads state old p result new
 in_right_state state known old new p result e h = subst (λ (q : TargetState). RightLeads q old p result new) (sym e) h
 
--- behind `Com_1` the code leads where what is written does
+-- after `Com_1` the code steps as the written state does
 pub com_named_promise : (p : Piece) (old : Draft) (result : Option ParserState) (v : Bool) → v ≡ tests.opens p → result ≡ (if v then Some (places.InRight rights.ComOpened) else None) → RightLeads rights.ComNamed old p result old
 com_named_promise p old result v e h = always_right rights.ComNamed p old old result (λ ts next f k. rw (h, e) (com_named_leads ts next p f old k))
 
--- so it does behind the target's name
+-- after the target's name the code steps as the written state does
 pub target_named_promise : (w : Wrap) (p : Piece) (old : Draft) (result : Option ParserState) (v : Bool) → v ≡ tests.opens p → result ≡ (if v then Some (places.InRight (rights.RightOpened w)) else None) → RightLeads (rights.TargetNamed w) old p result old
 target_named_promise w p old result v e h = always_right (rights.TargetNamed w) p old old result (λ ts next f k. rw (h, e) (target_named_leads ts next w p f old k))
 
--- so it does behind an argument that has ended, where no bracket closes
+-- after an argument that has ended, where no bracket closes the code steps as the written state does
 pub argued_promise : (w : Wrap) (p : Piece) (old : Draft) (result : Option ParserState) (v : Bool) → tests.closes p ≡ false → v ≡ tests.parts p → result ≡ (if v then Some (places.InRight (rights.Arguing w)) else None) → RightLeads (rights.Argued w) old p result old
 argued_promise w p old result v c e h = always_right (rights.Argued w) p old old result (λ ts next f k. rw (h, e) (argued_parts ts next w p f old k c))
 
--- so it does behind the arrow, at any piece but `Com_1`
+-- after the arrow, at any piece but `Com_1` the code steps as the written state does
 pub arrowed_promise : (p : Piece) (old new : Draft) (result : Option ParserState) → tests.says (codes "Com_1") p ≡ false → Targets (tests.word p) wraps.Alone result old new → RightLeads rights.Arrowed old p result new
 arrowed_promise p old new result c t = go (tests.word p) refl t
   where
@@ -77,7 +77,7 @@ within_promise p old new result t = go (tests.word p) refl t
     go None e t = rw (t.0, t.1) (always_right rights.ComOpened p old old None (λ ts next f k. within_stops ts next p f old k e))
     go (Some name) e t = rw t.0 (always_right rights.ComOpened p old new _ (λ ts next f k. within_leads ts next p f old new name k e t.1.0 t.1.1))
 
--- a piece within an argument leads somewhere in both, or nowhere in both
+-- both accept a piece within an argument, or both reject it
 argument_together : (w : Wrap) (a : Aimed) (arguments : List Sum) (e : expression.Front) (p : inner.Piece) (old new : Draft) (result : Option ParserState) → (ends_expression e (Some (In p)) ≡ true → expression_steps.finish e ≡ None)
     → Takes (goes_on_with e p) (places.InRight (rights.Arguing w)) old p result new → GoTogether (argument_step a arguments e (expression_steps.step e p) p) result
 argument_together w a arguments e p old new result stops t = go (expression_steps.step e p) refl t
@@ -88,12 +88,12 @@ argument_together w a arguments e p old new result stops t = go (expression_step
         let none : expression_steps.finish e ≡ None = stops (ap (λ (o : Option expression.Front). not (is_front o)) h) in
         rw (none, t.0) tt
 
--- what the code takes is what goes on with the written expression
+-- the code takes the pieces that continue the written expression
 pub takes_written : (within : ParserState) (before : List Name) (e : expression.Front) (p : inner.Piece) (old new : Draft) (result : Option ParserState) → Stands before e (names_in old.rule.variables) old.rule.expression
     → Takes (goes_on_from (front_of old.rule.expression).outer (front_of old.rule.expression).operand p) within old p result new → Takes (goes_on_with e p) within old p result new
 takes_written within before e p old new result s t = subst (λ (v : Bool). Takes v within old p result new) (goes_on_is before e (names_in old.rule.variables) old.rule.expression p s) t
 
--- so it does in an argument that goes on
+-- in an argument that continues, the code steps as the written state does
 pub arguing_promise : (w : Wrap) (p : Piece) (old new : Draft) (result : Option ParserState) → TakesPiece (places.InRight (rights.Arguing w)) old p result new → RightLeads (rights.Arguing w) old p result new
 arguing_promise w p old new result t = record {
   together = λ ts f k. rw k.1.1.1.0 (together p t (k.0) (k.1.0) (k.1.1.0) (k.1.1.1.1.0.expression) (k.1.1.1.1.1));
@@ -117,7 +117,7 @@ arguing_promise w p old new result t = record {
 pub first_stands : (ts : Tokens) (w : Wrap) (a : Aimed) (d : Draft) → IsAimed ts w a d → Stands (names_with a.led []) expression.beginning (names_in d.rule.variables) d.rule.expression
 first_stands ts w a d k = subst (λ (b : List Name). Stands b expression.beginning (names_in d.rule.variables) d.rule.expression) k.names_are (fresh_stands (names_in d.rule.variables) d.rule.expression k.expression)
 
--- so it does behind the opening bracket of the target, where none closes it at once
+-- after the opening bracket of the target, where none closes it at once the code steps as the written state does
 pub opened_right_promise : (w : Wrap) (p : Piece) (old new : Draft) (result : Option ParserState) → tests.closes p ≡ false → TakesPiece (places.InRight (rights.Arguing w)) old p result new → RightLeads (rights.RightOpened w) old p result new
 opened_right_promise w p old new result c t = record {
   together = λ ts f k. rw k.1.0 (together p c t k.0 (first_stands ts w k.0 old k.1.1));
@@ -135,10 +135,10 @@ opened_right_promise w p old new result c t = record {
         argument_leads ts next w a [] expression.beginning q old new result k.wrap_is k.aimed (first_stands ts w a old k) (λ h. refl) modest (takes_written (places.InRight (rights.Arguing w)) (names_with a.led []) expression.beginning q old new result (first_stands ts w a old k) t)
     each ts next _ c t modest a k = rw t.0 tt
 
--- so it does behind that bracket, where one closes it at once
+-- after that bracket, where one closes it at once the code steps as the written state does
 pub opened_right_closes : (w : Wrap) (p : Piece) (old new : Draft) (state : ParserState) → state ≡ behind_wrap w → tests.closes p ≡ true → AfterRight old new → RightLeads (rights.RightOpened w) old p (Some state) new
 opened_right_closes w p old new state e c h = rw e (always_right (rights.RightOpened w) p old new (Some (behind_wrap w)) (λ ts next f k. opened_right_ends ts next w p f old new k c h))
 
--- and so it does behind an argument that has ended, where the bracket closes
+-- after an argument that has ended, where the bracket closes the code steps as the written state does
 pub argued_closes : (w : Wrap) (p : Piece) (old new : Draft) (state : ParserState) → state ≡ behind_wrap w → tests.closes p ≡ true → AfterRight old new → RightLeads (rights.Argued w) old p (Some state) new
 argued_closes w p old new state e c h = rw e (always_right (rights.Argued w) p old new (Some (behind_wrap w)) (λ ts next f k. argued_ends ts next w p f old new k c h))

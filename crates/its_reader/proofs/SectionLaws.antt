@@ -1,4 +1,4 @@
--- Where each piece leads outside rules, by tests of the piece.
+-- The state after each piece outside rules, by tests of the piece.
 use Rattle.its_model.specs.Views.{rule_of}
 use Rattle.std.specs.Prelude.{◌≡◌, ℕ, ◌+◌, map, Bool, true, false, if◌then◌else◌, List, [], ◌∷◌, length, codes, Option}
 use Rattle.std.specs.Prelude.{Some, None, refl}
@@ -27,7 +27,7 @@ use Rattle.its_reader.specs.declared.parser_state.ParserState.{ParserState}
 use Rattle.its_reader.specs.declared.parser_state.ParserState.TheVariants as places
 
 module _ (ts : Tokens) (next : Option Piece) where
-  -- between sections only an opening bracket leads on
+  -- between sections only an opening bracket can follow
   pub between_leads : (p : Piece) (f : Front) (d : Draft) → InSections ts sections.Between d f → LeadsTo ts next (step f p) (if tests.opens p then Some (places.InSections sections.Opened) else None) d
   between_leads p f d k = rw k.1.0 (go p)
     where
@@ -36,7 +36,7 @@ module _ (ts : Tokens) (next : Option Piece) where
       go (In _) = tt
       go _ = tt
 
-  -- behind `GOAL` only `COMPLEXITY` leads on
+  -- after `GOAL` only `COMPLEXITY` can follow
   pub goal_named_leads : (p : Piece) (f : Front) (d : Draft) → InSections ts sections.GoalNamed d f → LeadsTo ts next (step f p) (if tests.says (codes "COMPLEXITY") p then Some (places.InSections sections.GoalRead) else None) d
   goal_named_leads p f d k = rw k.1.0 (go p)
     where
@@ -49,7 +49,7 @@ module _ (ts : Tokens) (next : Option Piece) where
       go (In _) = tt
       go _ = tt
 
-  -- behind `STARTTERM` only an opening bracket leads on
+  -- after `STARTTERM` only an opening bracket can follow
   pub start_named_leads : (p : Piece) (f : Front) (d : Draft) → InSections ts sections.StartNamed d f → LeadsTo ts next (step f p) (if tests.opens p then Some (places.InSections sections.StartOpened) else None) d
   start_named_leads p f d k = rw k.1.0 (go p)
     where
@@ -58,7 +58,7 @@ module _ (ts : Tokens) (next : Option Piece) where
       go (In _) = tt
       go _ = tt
 
-  -- behind that bracket only `FUNCTIONSYMBOLS` leads on
+  -- after that bracket only `FUNCTIONSYMBOLS` can follow
   pub start_opened_leads : (p : Piece) (f : Front) (d : Draft) → InSections ts sections.StartOpened d f → LeadsTo ts next (step f p) (if tests.says (codes "FUNCTIONSYMBOLS") p then Some (places.InSections sections.StartListed) else None) d
   start_opened_leads p f d k = rw k.1.0 (go p)
     where
@@ -71,7 +71,7 @@ module _ (ts : Tokens) (next : Option Piece) where
       go (In _) = tt
       go _ = tt
 
-  -- behind the start symbol only a closing bracket leads on
+  -- after the start symbol only a closing bracket can follow
   pub start_said_leads : (p : Piece) (f : Front) (d : Draft) → InSections ts sections.StartRead d f → LeadsTo ts next (step f p) (if tests.closes p then Some (places.InSections sections.StartClosed) else None) d
   start_said_leads p f d k = rw k.1.1.0 (go p)
     where
@@ -80,7 +80,7 @@ module _ (ts : Tokens) (next : Option Piece) where
       go (In _) = tt
       go _ = tt
 
-  -- behind that one only the bracket that closes the section leads on
+  -- after that one only the bracket that closes the section can follow
   pub start_closed_leads : (p : Piece) (f : Front) (d : Draft) → InSections ts sections.StartClosed d f → LeadsTo ts next (step f p) (if tests.closes p then Some (places.InSections sections.Between) else None) d
   start_closed_leads p f d k = rw k.1.1.0 (go p)
     where
@@ -93,7 +93,7 @@ module _ (ts : Tokens) (next : Option Piece) where
   with_comment : (ss : List Section) (bytes : List ℕ) (d : Draft) → KnowsBetween ts ss d → KnowsBetween ts (Comment bytes ∷ ss) d
   with_comment ss bytes d k = record { sections = record { goal = k.sections.goal; variables = k.sections.variables; rules = k.sections.rules; start = k.sections.start }; last = k.last }
 
-  -- behind `COMMENT` only the remark leads on, which ends the section
+  -- after `COMMENT` only the remark can follow, which ends the section
   pub comment_leads : (p : Piece) (f : Front) (d : Draft) → InSections ts sections.CommentNamed d f → LeadsTo ts next (step f p) (if tests.remarks p then Some (places.InSections sections.Between) else None) d
   comment_leads p f d k = rw k.1.0 (go p)
     where
@@ -116,7 +116,7 @@ module _ (ts : Tokens) (next : Option Piece) where
       go (In _) h = cc
       go _ h = cc
 
-  -- behind `COMPLEXITY` nothing but a closing bracket leads on
+  -- after `COMPLEXITY` only a closing bracket can follow
   pub goal_goes_on : (p : Piece) (f : Front) (d : Draft) → InSections ts sections.GoalRead d f → tests.closes p ≡ false → LeadsTo ts next (step f p) None d
   goal_goes_on p f d k h = rw k.1.0 (go p h)
     where
@@ -125,7 +125,7 @@ module _ (ts : Tokens) (next : Option Piece) where
       go (In _) h = tt
       go _ h = tt
 
-  -- what is known doesn't change with what is written beside it
+  -- the knowledge of sections doesn't depend on the rest of the draft
   same_last : (o : Option (List WrittenRule)) (old new : Draft) → new.symbols ≡ old.symbols → new.rules ≡ old.rules → KnowsLast o old → KnowsLast o new
   same_last None old new a b h = tt
   same_last (Some rules) old new a b h = record {
@@ -164,7 +164,7 @@ module _ (ts : Tokens) (next : Option Piece) where
       go (In _) h = cc
       go _ h = cc
 
-  -- behind `FUNCTIONSYMBOLS` nothing but a name leads on
+  -- after `FUNCTIONSYMBOLS` only a name can follow
   pub start_goes_on : (p : Piece) (f : Front) (d : Draft) → InSections ts sections.StartListed d f → tests.word p ≡ None → LeadsTo ts next (step f p) None d
   start_goes_on p f d k h = rw k.1.0 (go p h)
     where
@@ -201,7 +201,7 @@ module _ (ts : Tokens) (next : Option Piece) where
       go (In _) h = cc
       go _ h = cc
 
-  -- in a list of variables nothing but a name and a closing bracket leads on
+  -- in a list of variables only a name and a closing bracket can follow
   pub variables_stop : (p : Piece) (f : Front) (d : Draft) → InSections ts sections.Listing d f → tests.closes p ≡ false → tests.word p ≡ None → LeadsTo ts next (step f p) None d
   variables_stop p f d k c h = rw k.1.1.0 (go p c h)
     where
@@ -263,43 +263,43 @@ module _ (ts : Tokens) (next : Option Piece) where
       go (In _) n m o q = tt
       go _ n m o q = tt
 
--- what each place promises that changes nothing
+-- the contracts of the states in which nothing changes
 pub between_promise : (p : Piece) (d : Draft) (at : ℕ) (result : Option ParserState) (v : Bool) → v ≡ tests.opens p → result ≡ (if v then Some (places.InSections sections.Opened) else None) → StartLeads sections.Between d p at result d
 between_promise p d at result v e h = record { each = λ ts next f k a. rw (h, e) (between_leads ts next p f d k) }
 
--- behind `GOAL` the code leads where what is written does
+-- after `GOAL` the code steps as the written state does
 pub goal_promise : (p : Piece) (d : Draft) (at : ℕ) (result : Option ParserState) (v : Bool) → v ≡ tests.says (codes "COMPLEXITY") p → result ≡ (if v then Some (places.InSections sections.GoalRead) else None) → StartLeads sections.GoalNamed d p at result d
 goal_promise p d at result v e h = record { each = λ ts next f k a. rw (h, e) (goal_named_leads ts next p f d k) }
 
--- so it does behind `STARTTERM`
+-- after `STARTTERM` the code steps as the written state does
 pub start_promise : (p : Piece) (d : Draft) (at : ℕ) (result : Option ParserState) (v : Bool) → v ≡ tests.opens p → result ≡ (if v then Some (places.InSections sections.StartOpened) else None) → StartLeads sections.StartNamed d p at result d
 start_promise p d at result v e h = record { each = λ ts next f k a. rw (h, e) (start_named_leads ts next p f d k) }
 
--- so it does behind the bracket that opens there
+-- after the bracket that opens there the code steps as the written state does
 pub symbols_promise : (p : Piece) (d : Draft) (at : ℕ) (result : Option ParserState) (v : Bool) → v ≡ tests.says (codes "FUNCTIONSYMBOLS") p → result ≡ (if v then Some (places.InSections sections.StartListed) else None) → StartLeads sections.StartOpened d p at result d
 symbols_promise p d at result v e h = record { each = λ ts next f k a. rw (h, e) (start_opened_leads ts next p f d k) }
 
--- so it does behind the start symbol
+-- after the start symbol the code steps as the written state does
 pub said_promise : (p : Piece) (d : Draft) (at : ℕ) (result : Option ParserState) (v : Bool) → v ≡ tests.closes p → result ≡ (if v then Some (places.InSections sections.StartClosed) else None) → StartLeads sections.StartRead d p at result d
 said_promise p d at result v e h = record { each = λ ts next f k a. rw (h, e) (start_said_leads ts next p f d k) }
 
--- so it does behind the bracket that closes there
+-- after the bracket that closes there the code steps as the written state does
 pub closed_promise : (p : Piece) (d : Draft) (at : ℕ) (result : Option ParserState) (v : Bool) → v ≡ tests.closes p → result ≡ (if v then Some (places.InSections sections.Between) else None) → StartLeads sections.StartClosed d p at result d
 closed_promise p d at result v e h = record { each = λ ts next f k a. rw (h, e) (start_closed_leads ts next p f d k) }
 
--- and so it does behind `COMMENT`
+-- after `COMMENT` the code steps as the written state does
 pub comment_promise : (p : Piece) (d : Draft) (at : ℕ) (result : Option ParserState) (v : Bool) → v ≡ tests.remarks p → result ≡ (if v then Some (places.InSections sections.Between) else None) → StartLeads sections.CommentNamed d p at result d
 comment_promise p d at result v e h = record { each = λ ts next f k a. rw (h, e) (comment_leads ts next p f d k) }
 
--- what leads on without the position of the piece does so at any position
+-- a step that doesn't depend on the piece's position holds at any position
 pub wherever : (state : SectionState) (old new : Draft) (p : Piece) (at : ℕ) (result : Option ParserState) → SectionLeads state old p result new → StartLeads state old p at result new
 wherever state old new p at result h = record { each = λ ts next f k a. h.each ts next f k }
 
--- at a keyword that is none of the others the code leads where what is written does
+-- at a keyword that is none of the others the code steps as the written state does
 pub last_promise : (p : Piece) (d : Draft) (result : Option ParserState) (v : Bool) → tests.says (codes "GOAL") p ≡ false → tests.says (codes "STARTTERM") p ≡ false → tests.says (codes "VAR") p ≡ false → tests.says (codes "RULES") p ≡ false
     → v ≡ tests.says (codes "COMMENT") p → result ≡ (if v then Some (places.InSections sections.CommentNamed) else None) → SectionLeads sections.Opened d p result d
 last_promise p d result v n m o q e h = record { each = λ ts next f k. rw (h, e) (comment_begins ts next p f d k n m o q) }
 
--- the same for a state outside rules that is given by an equation
+-- the contract of a state outside rules that is given by an equation
 pub in_place : (state known : SectionState) (old new : Draft) (p : Piece) (at : ℕ) (result : Option ParserState) → state ≡ known → StartLeads known old p at result new → StartLeads state old p at result new
 in_place state known old new p at result e h = subst (λ (q : SectionState). StartLeads q old p at result new) (sym e) h

@@ -137,7 +137,7 @@ among_least k y [] h a = absurd a
 among_least k y (z ∷ ys) h (inl e) = let p = h.0 in let same : kind_number y.kind ≡ kind_number z.kind = ap (λ (w : Fault Kind). kind_number w.kind) e in omega (arith, p, same)
 among_least k y (z ∷ ys) h (inr a) = among_least k y ys h.1 a
 
--- what is shown at the last byte has a number of 8 at least, and of 9 where no arity differs
+-- a fault at the last byte has a number of 8 at least, and of 9 if no arity differs
 pub last_least : (at : ℕ) (f : Front) (next : Option Piece) (y : Fault Kind) → Among y (last_faults at f next) → 8 ≤ kind_number y.kind
 last_least at f next y a = go (shown.has_other_arity f) a
   where
@@ -146,7 +146,7 @@ last_least at f next y a = go (shown.has_other_arity f) a
     go true (inr b) = let k = among_least 9 y (ended_faults at f next) (ended_least at f next) b in omega (arith, k)
     go false b = let k = among_least 9 y (ended_faults at f next) (ended_least at f next) b in omega (arith, k)
 
--- what is shown at the last byte has a number of 9 at least where no arity differs
+-- a fault at the last byte has a number of 9 at least if no arity differs
 pub last_least_9 : (at : ℕ) (f : Front) (next : Option Piece) (y : Fault Kind) → shown.has_other_arity f ≡ false → Among y (last_faults at f next) → 9 ≤ kind_number y.kind
 last_least_9 at f next y e a = go (shown.has_other_arity f) e a
   where

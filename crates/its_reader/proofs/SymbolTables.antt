@@ -1,4 +1,4 @@
--- A table of names and numbers of places, and the symbols that it stands for.
+-- A table of names and numbers of places, and the symbols that it denotes.
 use Rattle.std.specs.Prelude.{◌≡◌, ℕ, suc, Bool, true, false, nat_lt, if◌then◌else◌, List, [], ◌∷◌, ◌++◌, map, length}
 use Rattle.std.specs.Prelude.{refl}
 use Rattle.std.specs.Prelude.{◌||◌}

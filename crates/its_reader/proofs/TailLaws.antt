@@ -23,7 +23,7 @@ use Rattle.its_reader.specs.declared.draft.Draft.{Draft}
 use Rattle.its_text.proofs.ValidRules.{sums_extends}
 use Rattle.its_reader.proofs.Numbers.{GoesOn, updates_stay, cost_stays, source_stays}
 
--- the variables go on with those of atoms, and of a guard
+-- the variables continue those of atoms, and of a guard
 atom_goes_on : (names : List Name) (a : Atom) → GoesOn names (with_atom names a)
 atom_goes_on names (Always t) = ([], sym (append-nil names))
 atom_goes_on names (Compared l sign r) = extended names (with_sum names l) (with_sum (with_sum names l) r) (sum_extends names l) (sum_extends (with_sum names l) r)
@@ -40,7 +40,7 @@ guard_goes_on names (InSquares None) = ([], sym (append-nil names))
 guard_goes_on names (InSquares (Some atoms)) = atoms_go_on names atoms
 
 module _ (ts : Tokens) (h : Headed) (guard : Guard) where
-  -- the variables of the rule go on with those once its arrow is read
+  -- the variables of the rule continue those once its arrow is read
   arrow_goes_on : GoesOn (arrow_names h.led.left h.led.cost) (rule_names (rule_with h guard))
   arrow_goes_on = extended (arrow_names h.led.left h.led.cost) (headed_names h) (rule_names (rule_with h guard)) (sums_extends (arrow_names h.led.left h.led.cost) (term_in h.target).arguments) (guard_goes_on (headed_names h) guard)
 
@@ -80,10 +80,10 @@ module _ (ts : Tokens) (h : Headed) (d : Draft) (k : IsHeaded ts h d) where
   pub whole_bare : KnowsWhole ts h NoGuard d
   whole_bare = record { headed = k.headed; names_are = k.names_are; atoms_are = no_guard_known }
 
-  -- the same with nothing behind `:|:`
+  -- a whole rule with nothing after `:|:`
   pub whole_marked : KnowsWhole ts h (BehindMark None) d
   whole_marked = record { headed = k.headed; names_are = k.names_are; atoms_are = no_guard_known }
 
-  -- the same with nothing between `[` and `]`
+  -- a whole rule with nothing between `[` and `]`
   pub whole_squared : KnowsWhole ts h (InSquares None) d
   whole_squared = record { headed = k.headed; names_are = k.names_are; atoms_are = no_guard_known }

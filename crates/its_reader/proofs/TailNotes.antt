@@ -1,4 +1,4 @@
--- What the next token behind a target shows is what the code finds there.
+-- The faults of the next token after a target are those that the code finds.
 use Rattle.std.specs.Prelude.{◌≡◌, ℕ, zero, suc, ◌+◌, ◌-◌, ◌<◌, Bool, true, false, not, ◌&&◌, ◌==◌, nat_le}
 use Rattle.std.specs.Prelude.{if◌then◌else◌, List}
 use Rattle.std.specs.Prelude.{[], ◌∷◌, ◌++◌, length, Option, Some, None, option_map, refl}
@@ -59,7 +59,7 @@ use Rattle.its_reader.proofs.RightNotes.{not_none}
 use Rattle.its_reader.proofs.GoingNotes.{going_is}
 use Rattle.its_reader.proofs.GuardLaws.{guarded}
 
--- there are as many atoms as have been written
+-- the code has as many atoms as the written guard
 atoms_counted : (names : List Name) (atoms : Atoms) → length (atoms_terms names atoms) ≡ count_of atoms
 atoms_counted names (First a) = refl
 atoms_counted names (Joined atoms joint a) = length-push (atoms_terms names atoms) _ ∙ ap suc (atoms_counted names atoms)
@@ -68,17 +68,17 @@ as_many_atoms : (names : List Name) (atoms : Atoms) (r : GuardReader) → atoms_
 as_many_atoms names atoms r e =
     sym (length-terms atom_of r.atoms.items) ∙ (ap length e ∙ (length-terms limited_atom (atoms_terms names atoms) ∙ atoms_counted names atoms))
 
--- the cost counts in the code as it does in what is written
+-- the cost counts as in the written text
 cost_counted : (names : List Name) (cost : Option Sum) → cost_atoms (cost_of names cost) ≡ atoms_of_cost cost
 cost_counted names None = refl
 cost_counted names (Some c) = refl
 
--- a cost alone isn't as many as the limit
+-- a cost alone is less than the limit on atoms
 few_beside : (begun : Bool) (cost : Option Sum) → false ≡ nat_le atom_limit (0 + atoms_of_cost cost) && begun
 few_beside begun None = refl
 few_beside begun (Some c) = refl
 
--- beside a cost there are as many atoms as the limit where one less is there, and beside none where they are
+-- with a cost there are as many atoms as the limit, if one fewer is written
 pub one_beside : (n : ℕ) → nat_le (atom_limit - 1) n ≡ nat_le atom_limit (n + 1)
 one_beside n = grind (arith, nat_tests)
 
@@ -90,7 +90,7 @@ kept : (a b : Bool) → a && true && true && b ≡ a && b
 kept true b = refl
 kept false b = refl
 
--- what follows operates in an atom where it operates in what is written
+-- the code tests for an operator as the written text does
 operating_is : (behind : Option Piece) → standing.is_operating (inner_next behind) ≡ shown.is_operating behind
 operating_is None = refl
 operating_is (Some (In p)) = refl
@@ -132,7 +132,7 @@ full_never others (LeftSide (JointAfter before joint) e) atoms h = go (truth_of 
     go None t h = cc
     go (Some a) t h = rw (truth_begun e a t) refl
 
--- behind atoms that have ended no piece goes on with an expression
+-- after atoms that have ended no piece continues an expression
 joining_stops : (e : expression.Front) (joint : inner.Joint) → goes_on_with e (inner.Joining joint) ≡ false
 joining_stops e joint = go e.outer e.level e.operand
   where
@@ -151,20 +151,20 @@ ended_stops g p h = go g (expression_steps.step (expression_in g) p) h
     go (LeftSide c e) (Some more) h = cc
     go (RightSide c l sign e) (Some more) h = cc
 
--- what shows a rule too many
+-- the fault of one rule too many
 abbrev rules_shown : GuardOpening → Headed → GuardFront → Option Piece → Bool
 rules_shown fences.Mark h g next = is_word next && ends_expression (expression_in g) next && can_end (guards.finish g) && are_full (rule_with h NoGuard ∷ h.led.ruling.rules)
 rules_shown fences.Square h g next = false
 
 module _ (ts : Tokens) (at : ℕ) (next behind : Option Piece) (d : Draft) (digital : IsDigital next) where
-  -- what a guard shows
+  -- the faults of a guard
   guarded_shows : (fence : GuardOpening) (h : Headed) (g : GuardFront) → next_faults at (guarded fence h g) next behind
       ≡ fault_if (rules_shown fence h g next) (Limit TooManyRules) at ++ fault_if (is_full (atoms_of_cost h.led.cost) g && begins next) (Limit TooManyAtoms) at ++ fault_if (long_name next) (Limit LongName) at ++ token_faults at (open_expression_in (headed_names h) g) next behind
   guarded_shows fences.Mark h g = ap (λ xs. xs ++ fault_if (is_full (atoms_of_cost h.led.cost) g && begins next) (Limit TooManyAtoms) at ++ fault_if (long_name next) (Limit LongName) at ++ token_faults at (open_expression_in (headed_names h) g) next behind)
       (append-nil (fault_if (rules_shown fences.Mark h g next) (Limit TooManyRules) at))
   guarded_shows fences.Square h g = refl
 
-  -- a name behind `:|:` that begins an atom shows what the guard shows
+  -- a name after `:|:` that begins an atom has the faults of the guard
   word_shows : (h : Headed) (name : Name) (next : Option Piece) → next_faults at (fronts.WordRead h name) next behind ≡ next_faults at (fronts.MarkGuarding h (guard_named name)) next behind
   word_shows h name None = refl
   word_shows h name (Some (In (inner.Word n))) = refl
@@ -222,7 +222,7 @@ module _ (ts : Tokens) (at : ℕ) (next behind : Option Piece) (d : Draft) (digi
       ∙ (ap (λ m. nat_le atom_limit (m + cost_atoms (option_map term_of d.rule.cost)) && begins next) e
       ∙ ap (λ m. nat_le atom_limit (n + m) && begins next) (ap cost_atoms same ∙ cost_counted names cost)))
 
-  -- an atom is wanted
+  -- an atom must follow
   wanting_full : (l : Led) (names : List Name) (c : Conjoined) → KnowsLed ts l d → atoms_in d.rule.guard ≡ atoms_before names c → is_wanting d.rule.guard.state ≡ true → is_full (atoms_of_cost l.cost) (LeftSide c beginning) && begins next ≡ atoms_full d.rule next
   wanting_full l names NoAtoms k a w = few_beside (begins next) l.cost ∙ counted 0 l.cost (left_names l.left) (sym (length-terms atom_of d.rule.guard.atoms.items) ∙ ap length a) k.cost_is w
   wanting_full l names (JointAfter atoms joint) k a w = counted (count_of atoms) l.cost (left_names l.left) (as_many_atoms names atoms d.rule.guard a) k.cost_is w
@@ -309,7 +309,7 @@ module _ (ts : Tokens) (at : ℕ) (next behind : Option Piece) (d : Draft) (digi
   part_ended_shows fence h g led rules (part_ended_right k) = right_shows fence h g k
   part_ended_shows fence h g led rules (part_ended_end k) = ended_shows fence h g rules k
 
-  -- the front is that of the guard
+  -- the state is that of the guard
   front_shows : (fence : GuardOpening) (h : Headed) (g : GuardFront) (f : Front) → IsGuard next fence h g f → next_faults at f next behind ≡ next_faults at (guarded fence h g) next behind
   front_shows fences.Square h g f e = ap (λ f. next_faults at f next behind) e
   front_shows fences.Mark h g f (inl e) = ap (λ f. next_faults at f next behind) e
@@ -332,7 +332,7 @@ module _ (ts : Tokens) (at : ℕ) (next behind : Option Piece) (d : Draft) (digi
   marked_shows h k rules true false a b = fresh_shows h k
   marked_shows h k rules false w a b = fresh_shows h k
 
-  -- what a front behind a target shows at the next token is what the code finds there
+  -- the faults of a state after a target at the next token are those that the code finds
   pub tail_next : (state : TailState) (f : Front) → TailPartEnded ts next state d f → next_faults at f next behind ≡ tail_faults state d at next behind
   tail_next tails.Targeted f k = rw (k.1.0, as_many_rules k.0.led.ruling.rules d k.1.1.0.headed.led.rules_are) (simp append-nil)
   tail_next tails.GuardMarked f k = rw k.1.0 (marked_shows k.0 k.1.1 (as_many_rules k.0.led.ruling.rules d k.1.1.headed.led.rules_are) (is_word next) (is_open behind) refl refl)

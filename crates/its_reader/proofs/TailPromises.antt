@@ -1,4 +1,4 @@
--- What the functions of each place behind a target promise.
+-- What the functions of each place after a target promise.
 use Rattle.std.specs.Prelude.{◌≡◌, Bool, true, false, not, ◌&&◌, ◌||◌, [], map, Option, Some, None, refl}
 use Rattle.std.proofs.Common.{sym, ap, subst, ◌∙◌, inl, inr}
 use Rattle.model.specs.Programs.{Name}
@@ -38,7 +38,7 @@ use Rattle.its_reader.proofs.TailLaws.{whole_rule, whole_bare, whole_marked, who
 use Rattle.its_reader.proofs.GuardLaws.{guarded, ended_of, front_step, atom_each, atom_together, headed_stays}
 use Rattle.std.proofs.lemmas.Bool.{or_parts as neither}
 
--- where a piece leads whatever its number is
+-- the state after a piece whatever its number is
 always_tail : (state : TailState) (p : Piece) (behind : Option Piece) (old new : Draft) (result : Option ParserState)
     → ((ts : Tokens) (f : Front) → TailPartEnded ts (Some p) state old f → LeadsTo ts behind (step f p) result new) → TailLeads state old p behind result new
 always_tail state p behind old new result h = record {
@@ -46,11 +46,11 @@ always_tail state p behind old new result h = record {
   each = λ ts f k modest. h ts f k;
 }
 
--- the same for a state behind a target that is given by an equation
+-- the contract of a state after a target that is given by an equation
 pub in_tail_state : (state known : TailState) (old new : Draft) (p : Piece) (behind : Option Piece) (result : Option ParserState) → state ≡ known → TailLeads known old p behind result new → TailLeads state old p behind result new
 in_tail_state state known old new p behind result e h = subst (λ (q : TailState). TailLeads q old p behind result new) (sym e) h
 
--- `:|:` and `[` behind a target
+-- `:|:` and `[` after a target
 pub targeted_marks : (p : Piece) (behind : Option Piece) (d : Draft) → tests.marks p ≡ true → TailLeads tails.Targeted d p behind (Some (places.InTail tails.GuardMarked)) d
 targeted_marks p behind d m = always_tail tails.Targeted p behind d d _ (λ ts f k. rw k.1.0 (go ts k.0 k.1.1.0 p m))
   where
@@ -58,7 +58,7 @@ targeted_marks p behind d m = always_tail tails.Targeted p behind d d _ (λ ts f
     go ts h k GuardMark m = (h, (refl, k))
     go ts h k _ m = cc
 
--- a `[` behind a target opens a guard
+-- a `[` after a target opens a guard
 pub targeted_squares : (p : Piece) (behind : Option Piece) (d : Draft) → tests.opens_square p ≡ true → TailLeads tails.Targeted d p behind (Some (places.InTail tails.SquareOpened)) d
 targeted_squares p behind d m = always_tail tails.Targeted p behind d d _ (λ ts f k. rw k.1.0 (go ts k.0 k.1.1.0 p m))
   where
@@ -66,19 +66,19 @@ targeted_squares p behind d m = always_tail tails.Targeted p behind d d _ (λ ts
     go ts h k SquareOpen m = (h, (refl, k))
     go ts h k _ m = cc
 
--- what follows a rule without a guard
+-- the piece after a rule without a guard
 targeted_step : (h : Headed) (p : Piece) → tests.marks p ≡ false → tests.opens_square p ≡ false → step (fronts.Targeted h) p ≡ step (fronts.AfterRule (ruling_with h NoGuard)) p
 targeted_step h GuardMark m s = cc
 targeted_step h SquareOpen m s = cc
 targeted_step h (In _) m s = refl
 targeted_step h _ m s = refl
 
--- what follows a target and begins no guard leads on as behind a whole rule
+-- a piece after a target that begins no guard is taken as after a whole rule
 pub targeted_ends : (p : Piece) (behind : Option Piece) (old new : Draft) (result : Option ParserState) → tests.marks p ≡ false → tests.opens_square p ≡ false → WholeLeads old p result new → TailLeads tails.Targeted old p behind result new
 targeted_ends p behind old new result m s w = always_tail tails.Targeted p behind old new result (λ ts f k.
     subst (λ o. LeadsTo ts behind o result new) (sym (ap (λ f. step f p) k.1.0 ∙ targeted_step k.0 p m s)) (w.each ts behind k.0 NoGuard (whole_bare ts k.0 old k.1.1.0)))
 
--- an opening bracket comes next
+-- an opening bracket is the next piece
 open_is : (o : Option Piece) → tests.is_open o ≡ true → o ≡ Some open_bracket
 open_is None e = cc
 open_is (Some (In inner.Open)) e = refl
@@ -91,7 +91,7 @@ closed_is (Some (In inner.Open)) e = cc
 closed_is (Some (In _)) e = refl
 closed_is (Some _) e = refl
 
--- a name behind `:|:` begins a rule before an opening bracket
+-- a name after `:|:` begins a rule before an opening bracket
 module _ (ts : Tokens) (behind : Option Piece) (h : Headed) (name : Name) (new : Draft) where
   source_read : behind ≡ Some open_bracket → LeadsTo ts behind (Some (fronts.SourceNamed (ruling_with h (BehindMark None)) name)) (Some (places.InLeft lefts.SourceNamed)) new
       → LeadsTo ts behind (Some (fronts.WordRead h name)) (Some (places.InLeft lefts.SourceNamed)) new
@@ -105,7 +105,7 @@ module _ (ts : Tokens) (behind : Option Piece) (h : Headed) (name : Name) (new :
           (r, (n, (inr (h, (ap (fronts.WordRead h) same, (sym ruling, next))), known)))
       go r n (inr (g, (e, more))) known = cc
 
--- what ends before a rule, or before the end of the section, directly behind `:|:`
+-- a part that ends before a rule, or before the end of the section, directly after `:|:`
 pub marked_ends : (p : Piece) (behind : Option Piece) (old new : Draft) (result : Option ParserState) → tests.closes p || (tests.names p && tests.is_open behind) ≡ true → WholeLeads old p result new → TailLeads tails.GuardMarked old p behind result new
 marked_ends p behind old new result c w = always_tail tails.GuardMarked p behind old new result (λ ts f k. rw k.1.0 (go ts k.0 k.1.1 p c w))
   where
@@ -126,7 +126,7 @@ nothing_read ts h d next k = part_ended_none (subst (λ ns. IsWanting (headed_na
 unread_at : (ts : Tokens) (h : Headed) (d : Draft) (p : Piece) → IsHeaded ts h d → not (is_read d.rule.guard.state) || tests.joins p ≡ true
 unread_at ts h d p k = ap (λ state. not (is_read state) || tests.joins p) (k.guard (headed_names h)).state_is
 
--- an atom begins behind `:|:`
+-- an atom begins after `:|:`
 mark_step : (h : Headed) (p : Piece) → tests.closes p ≡ false → tests.names p ≡ false → step (fronts.GuardMarked h) p ≡ step (guarded fences.Mark h no_atoms) p
 mark_step h (In inner.Close) c n = cc
 mark_step h (In (inner.Word name)) c n = cc
@@ -169,7 +169,7 @@ module _ (ts : Tokens) (behind : Option Piece) (old new : Draft) (result : Optio
   marked_together (In (inner.Word name)) c a = leads_together ts behind (Some (fronts.WordRead h name)) result new (named_leads name c a)
   marked_together p c a = other_together p (neither (tests.closes p) (tests.names p && tests.is_open behind) c).0 refl a
 
--- directly behind `:|:` an atom begins where no rule begins and the section doesn't end
+-- directly after `:|:` an atom begins where no rule begins and the section doesn't end
 pub marked_goes_on : (p : Piece) (behind : Option Piece) (old new : Draft) (result : Option ParserState) → tests.closes p || (tests.names p && tests.is_open behind) ≡ false → AtomTakes fences.Mark old p behind result new
     → TailLeads tails.GuardMarked old p behind result new
 marked_goes_on p behind old new result c a = record {
@@ -177,13 +177,13 @@ marked_goes_on p behind old new result c a = record {
   each = λ ts f k modest. rw k.1.0 (marked_each ts behind old new result k.0 k.1.1 p c a modest);
 }
 
--- an atom begins behind `[`
+-- an atom begins after `[`
 square_step : (h : Headed) (p : Piece) → tests.closes_square p ≡ false → step (fronts.SquareOpened h) p ≡ step (guarded fences.Square h no_atoms) p
 square_step h SquareClose c = cc
 square_step h (In _) c = refl
 square_step h _ c = refl
 
--- directly behind `[` an atom begins where no `]` closes
+-- directly after `[` an atom begins where no `]` closes
 pub square_goes_on : (p : Piece) (behind : Option Piece) (old new : Draft) (result : Option ParserState) → tests.closes_square p ≡ false → AtomTakes fences.Square old p behind result new → TailLeads tails.SquareOpened old p behind result new
 square_goes_on p behind old new result c a = record {
   together = λ ts f k. subst (λ o. GoTogether o result) (sym (ap (λ f. step f p) k.1.0 ∙ square_step k.0 p c))
@@ -201,7 +201,7 @@ square_closes p behind old new c e = always_tail tails.SquareOpened p behind old
     go ts h k (In _) c = cc
     go ts h k _ c = cc
 
--- within a guard, where it goes on
+-- within a guard that continues
 pub atom_goes_on : (fence : GuardOpening) (p : Piece) (behind : Option Piece) (old new : Draft) (result : Option ParserState) → not (is_read old.rule.guard.state) || tests.joins p ≡ true → AtomTakes fence old p behind result new
     → TailLeads (tails.Guarding fence) old p behind result new
 atom_goes_on fence p behind old new result still a = record {
@@ -227,7 +227,7 @@ module _ (ts : Tokens) (h : Headed) (g : GuardFront) (old : Draft) (headed : Kno
   squares_known : (next : Option inner.Piece) (at : IsEnded next (headed_names h) g (names_in old.rule.variables) old.rule.guard) → KnowsWhole ts h (InSquares (Some at.atoms)) old
   squares_known next at = record { headed = headed; names_are = at.names_are; atoms_are = at.atoms_are ∙ ap (λ ns. map limited_atom (atoms_terms ns at.atoms)) at.names_are }
 
-  -- behind an atom that ends the guard a rule begins, or the section ends
+  -- after an atom that ends the guard a rule begins, or the section ends
   mark_ends : (p : Piece) (at : IsEnded (tests.inner_in p) (headed_names h) g (names_in old.rule.variables) old.rule.guard) → tests.joins p ≡ false
       → step (fronts.MarkGuarding h g) p ≡ step (fronts.AfterRule (ruling_with h (BehindMark (Some at.atoms)))) p
   mark_ends (In q) at j =
@@ -240,7 +240,7 @@ module _ (ts : Tokens) (h : Headed) (g : GuardFront) (old : Draft) (headed : Kno
   square_stops SquareClose at j c = cc
   square_stops _ at j c = refl
 
--- what follows a guard
+-- the piece after a guard
 guard_ends : (p : Piece) (behind : Option Piece) (old new : Draft) (result : Option ParserState) → not (is_read old.rule.guard.state) || tests.joins p ≡ false → WholeLeads old p result new → TailLeads (tails.Guarding fences.Mark) old p behind result new
 guard_ends p behind old new result still w = always_tail (tails.Guarding fences.Mark) p behind old new result (λ ts f k.
     let shut = read_here (is_read old.rule.guard.state) (tests.joins p) still in
@@ -270,7 +270,7 @@ guard_stops p behind old still c = always_tail (tails.Guarding fences.Square) p 
     let at = ended_of (headed_names k.0) (names_in old.rule.variables) old.rule.guard (tests.inner_in p) k.1.0 k.1.1.1.1.1 shut.0 in
     subst (λ o. LeadsTo ts behind o None old) (sym (front_step fences.Square k.0 k.1.0 f p k.1.1.0 ∙ square_stops ts k.0 k.1.0 old k.1.1.1.0 p at shut.1 c)) tt)
 
--- behind an atom a piece that joins no other leads on as what follows a guard does
+-- after an atom a piece that is no conjunction sign is taken as one that follows a guard
 pub behind_atoms : (fence : GuardOpening) (p : Piece) (behind : Option Piece) (old new : Draft) (result : Option ParserState) → not (is_read old.rule.guard.state) || tests.joins p ≡ false → GuardIsEnded fence old p result new
     → TailLeads (tails.Guarding fence) old p behind result new
 behind_atoms fences.Mark p behind old new result still w = guard_ends p behind old new result still w.by
@@ -280,13 +280,13 @@ behind_atoms fences.Square p behind old new result still w = go (tests.closes_sq
     go true e s = subst (λ r. TailLeads (tails.Guarding fences.Square) old p behind r new) (sym s.0) (guard_closes p behind old new still e s.1)
     go false e s = rw (s.0, s.1) (guard_stops p behind old still e)
 
--- a rule ends before what leaves it
+-- a piece that isn't a name doesn't begin a rule
 word_none : (p : Piece) → tests.names p ≡ false → tests.word p ≡ None
 word_none (In (inner.Word name)) e = cc
 word_none (In _) e = refl
 word_none _ e = refl
 
--- behind a whole rule nothing but a name and a closing bracket leads on
+-- after a whole rule only a name and a closing bracket can follow
 pub rule_stops : (p : Piece) (d : Draft) → tests.closes p || tests.names p ≡ false → WholeLeads d p None d
 rule_stops p d e = record { each = λ ts next h guard k. ruled_stops ts next p (ruling_with h guard) d none shut.0; sourced = λ name w. sourceless name w }
   where
@@ -299,15 +299,15 @@ rule_stops p d e = record { each = λ ts next h guard k. ruled_stops ts next p (
     sourceless : (name : Name) → tests.word p ≡ Some name → None ≡ Some (places.InLeft lefts.SourceNamed)
     sourceless name w = let n = word_none p shut.1 in cc
 
--- once a whole rule has become one of the rules, what follows leads on from these
+-- once a whole rule is in the list of rules, the next piece continues that list
 pub rule_leads : (p : Piece) (old middle new : Draft) (result : Option ParserState) → RuleEnds old middle → RuleLeads middle p result new → ((name : Name) → tests.word p ≡ Some name → result ≡ Some (places.InLeft lefts.SourceNamed)) → WholeLeads old p result new
 rule_leads p old middle new result e l s = record { each = λ ts next h guard k. l.each ts next (ruling_with h guard) (whole_rule ts h guard old middle k e) e.fresh; sourced = s }
 
--- what follows a guard behind `:|:`, and in square brackets
+-- the piece after a guard, after `:|:` and in square brackets
 pub mark_over : {old new : Draft} {p : Piece} {result : Option ParserState} (fence : GuardOpening) → fence ≡ fences.Mark → WholeLeads old p result new → GuardIsEnded fence old p result new
 mark_over {old} {new} {p} {result} fence e w = record { by = subst (λ f. GuardEnds f old p result new) (sym e) w }
 
--- what follows a guard in square brackets is decided by whether these close
+-- the piece after a guard in square brackets, by whether it closes them
 pub square_over : {old new : Draft} {p : Piece} {result : Option ParserState} (fence : GuardOpening) → fence ≡ fences.Square → SquareEnds old p result new → GuardIsEnded fence old p result new
 square_over {old} {new} {p} {result} fence e w = record { by = subst (λ f. GuardEnds f old p result new) (sym e) w }
 
@@ -315,6 +315,6 @@ square_over {old} {new} {p} {result} fence e w = record { by = subst (λ f. Guar
 pub square_closed : {old new : Draft} {p : Piece} → tests.closes_square p ≡ true → RuleEnds old new → SquareEnds old p (Some (places.InLeft lefts.AfterRule)) new
 square_closed {old} {new} {p} e r = record { has_closed = subst (λ v. ClosesIf v old (Some (places.InLeft lefts.AfterRule)) new) (sym e) (refl, r) }
 
--- no other piece shuts them, and none leads on
+-- a piece that doesn't close the square brackets is rejected
 pub square_open : {old : Draft} {p : Piece} → tests.closes_square p ≡ false → SquareEnds old p None old
 square_open {old} {p} e = record { has_closed = subst (λ v. ClosesIf v old None old) (sym e) (refl, refl) }

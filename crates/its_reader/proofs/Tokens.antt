@@ -1,4 +1,4 @@
--- What a text begins with is a token before those that are behind it.
+-- What a text begins with is a token before those that are after it.
 use Rattle.std.proofs.Common.{◌≡◌, ℕ, zero, suc, ◌+◌, ◌-◌, ◌≤◌, ◌<◌, Bool, true, false, List, [], ◌∷◌, length, take}
 use Rattle.std.proofs.Common.{drop, Option, Some, None, refl, ap, sym, ◌∙◌, arith, length-drop}
 use Rattle.std.specs.Prelude.{codes, if◌then◌else◌}
@@ -23,19 +23,19 @@ taken_within mode b others text l e is =
     let p = w.0 in let q = w.1 in
     (omega (arith, n, p), omega (arith, n, k, q))
 
--- the tokens of a text are that of its first lexeme, and those behind it
+-- the tokens of a text are that of its first lexeme, and those after it
 pub taken_first : (mode behind : Mode) (at b : ℕ) (others text rest : List ℕ) (l : Lexeme (Option Piece)) → text ≡ b ∷ others → l ≡ lexeme_in mode b others → behind ≡ mode_behind mode l.piece → rest ≡ drop l.len text
     → tokens_in lexer mode at 0 text ≡ token_then at l.len l.piece (tokens_in lexer behind (at + l.len) 0 rest)
 taken_first mode behind at b others text rest l e is mode_is rests =
     tokens_in-first lexer mode at text others rest b l e is (taken_within mode b others text l e is).0 rests
     ∙ ap (λ (m : Mode). token_then at l.len l.piece (tokens_in lexer m (at + l.len) 0 rest)) (sym mode_is)
 
--- as many elements as there are, are all
+-- taking as many elements as a list has gives the list
 whole : (xs : List ℕ) → take (length xs) xs ≡ xs
 whole [] = refl
 whole (x ∷ xs) = ap (λ ys. x ∷ ys) (whole xs)
 
--- all that is left behind this many elements
+-- the rest of a list after this many elements
 pub all_left : (n : ℕ) (xs : List ℕ) → take (length xs - n) (drop n xs) ≡ drop n xs
 all_left n xs = ap (λ k. take k (drop n xs)) (sym (length-drop n xs)) ∙ whole (drop n xs)
 
@@ -97,7 +97,7 @@ depth_is modes.AtKeyword = refl
 depth_is (modes.Within depth) = refl
 depth_is modes.InComment = refl
 
--- behind a piece at most one bracket more is open
+-- after a piece at most one bracket more is open
 pub behind_depth : (old new : code.Mode) (o : Option Piece) → mode_of new ≡ mode_behind (mode_of old) o → depth_of new ≤ depth_of old + 1
 behind_depth old new o e =
     let a = depth_is old in let b = depth_is new in let k : depth_in (mode_of new) ≡ depth_in (mode_behind (mode_of old) o) = ap depth_in e in let h = depth_behind (mode_of old) o in

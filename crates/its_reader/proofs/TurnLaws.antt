@@ -1,4 +1,4 @@
--- One turn of reading, where what is judged and where the next token leads are as promised.
+-- One turn of reading, if the judged faults and the state after the next token are as contracted.
 use Rattle.std.specs.Prelude.{◌≡◌, ℕ, ◌-◌, Bool, true, false, List, ◌∷◌, length, Option, Some, None, refl}
 use Rattle.std.proofs.Common.{sym, ap, subst, ◌∙◌}
 use Rattle.text_core.specs.Tokens.{Token}
@@ -27,14 +27,14 @@ use Rattle.its_reader.proofs.ReadingLaws.{position_is, reading_goes_on, reading_
 
 module _ (bytes : List ℕ) (state now : ParserState) (last : ℕ) (best first : Option (Fault Kind)) (old middle new : Draft) (t : Token Piece) (rest : Tokens) (r : IsReading bytes state last best old (t ∷ rest))
     (j : Judges state last best old (Some t.piece) (next_piece rest) t.at now first middle) where
-  -- what ends has ended, and the fault so far is the first that is shown
+  -- the part that ends here is ended, and the fault so far is the first one shown
   part_ended_here : PartEndedAt (tokens_of bytes) (Some t.piece) now middle r.front
   part_ended_here = j.part_ended (tokens_of bytes) r.front r.stands
 
   first_fault_here : first ≡ first_among programs best (front_faults (length bytes) r.done r.front (t ∷ rest))
   first_fault_here = j.first_fault_ahead (tokens_of bytes) (length bytes) r.done (t ∷ rest) r.front r.stands refl refl refl (sym r.last_is) r.digital.0
 
-  -- reading goes on
+  -- reading continues
   pub turn_goes_on : (reached : ParserState) → Advances now middle t (next_piece rest) (Some reached) new → AllowsName (left_wanted r.front) (tests.word t.piece) → IsModestPiece t.piece → IsReading bytes reached (t.upto - 1) first new rest
   turn_goes_on reached a allows modest = go (step r.front t.piece) refl (a.each (tokens_of bytes) r.front part_ended_here (position_is bytes state last best old t rest r) allows modest)
     where
@@ -42,7 +42,7 @@ module _ (bytes : List ℕ) (state now : ParserState) (last : ℕ) (best first :
       go None e h = absurd h
       go (Some g) e h = reading_goes_on bytes state last best old t rest r first g reached new first_fault_here e h
 
-  -- the text breaks off
+  -- the text is refused where it breaks off
   pub turn_breaks : Advances now middle t (next_piece rest) None new → verdict bytes ≡ Refused (first_of programs first (record { kind = break_kind r.front (t ∷ rest); at = t.at }))
   turn_breaks a = go (step r.front t.piece) refl (a.together (tokens_of bytes) r.front part_ended_here (position_is bytes state last best old t rest r))
     where
@@ -50,7 +50,7 @@ module _ (bytes : List ℕ) (state now : ParserState) (last : ℕ) (best first :
       go None e h = reading_breaks bytes state last best old t rest r first first_fault_here e
       go (Some g) e h = absurd h
 
-  -- one token is read: reading goes on, or its answer is that of the text
+  -- after one token reading continues, or its answer is that of the text
   pub turn_to : (reached : Option ParserState) → Advances now middle t (next_piece rest) reached new → TurnsTo bytes rest (token_result now first t reached) new
   turn_to None a =
       turn_breaks a
@@ -72,7 +72,7 @@ module _ (bytes : List ℕ) (state now : ParserState) (last : ℕ) (best first :
       go None e h = absurd h
       go (Some g) e h = by g e first refl
 
--- the same for each text
+-- one turn for each text
 pub turns : (state now : ParserState) (last : ℕ) (best first : Option (Fault Kind)) (old middle new : Draft) (t : Token Piece) (behind : Option Piece) (reached : Option ParserState) → Judges state last best old (Some t.piece) behind t.at now first middle
     → Advances now middle t behind reached new → Turns state last best old t behind (token_result now first t reached) new
 turns state now last best first old middle new t behind reached j a = record {
@@ -81,6 +81,6 @@ turns state now last best first old middle new t behind reached j a = record {
       (subst (λ b. Advances now middle t b reached new) (sym e) a);
 }
 
--- the same for a next state that is given by an equation
+-- the contract of a next state that is given by an equation
 pub turned_alike : {state : ParserState} {last : ℕ} {best : Option (Fault Kind)} {old new : Draft} {t : Token Piece} {behind : Option Piece} {a b : TokenResult} → a ≡ b → Turns state last best old t behind b new → Turns state last best old t behind a new
 turned_alike {state} {last} {best} {old} {new} {t} {behind} {a} {b} e h = subst (λ to. Turns state last best old t behind to new) (sym e) h

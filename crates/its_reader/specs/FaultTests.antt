@@ -64,7 +64,7 @@ abbrev pub repeats_in : SectionState → Sections → Option Piece → Option Pi
 repeats_in sections.Between s next behind = tests.is_open next && has_worded s (tests.word_of behind)
 repeats_in _ s next behind = false
 
--- a left argument is wanted
+-- a left argument must follow
 abbrev pub wants_argument : SourceState → Bool
 wants_argument lefts.LeftOpened = true
 wants_argument lefts.LeftParted = true
@@ -74,19 +74,19 @@ abbrev pub wants_left : ParserState → Bool
 wants_left (places.InLeft state) = wants_argument state
 wants_left _ = false
 
--- why a text breaks off, where a left argument is wanted or not
+-- the kind of refusal where a text breaks off, with a left argument expected or not
 abbrev pub break_kind_in : Bool → Piece → Kind
 break_kind_in wanted (In p) = if wanted && is_no_name p then LeftNotVariable else Syntax
 break_kind_in wanted Disjoining = Disjunction
 break_kind_in wanted Strange = NotAscii
 break_kind_in wanted _ = Syntax
 
--- a rule is wanted
+-- a rule must follow
 abbrev pub is_after_rule : SourceState → Bool
 is_after_rule lefts.AfterRule = true
 is_after_rule _ = false
 
--- what a name that is a left argument shows
+-- the faults of a name that is a left argument
 abbrev pub argument_name_faults : RuleDraft → ℕ → Name → Option Piece → FaultList
 argument_name_faults r at name behind =
     fault_if (is_operator behind) LeftNotVariable at
@@ -101,7 +101,7 @@ abbrev pub wanted_faults : Bool → RuleDraft → ℕ → Option Piece → Optio
 wanted_faults true r at next behind = left_argument_name_faults r at (tests.word_of next) behind
 wanted_faults false r at next behind = []
 
--- what the next token of a left term shows
+-- the faults of the next token of a left term
 abbrev pub left_faults : SourceState → Draft → ℕ → Option Piece → Option Piece → FaultList
 left_faults state d at next behind =
     fault_if (is_after_rule state && (is_word next && nat_le rule_limit (length d.rules.items))) (Limit TooManyRules) at
@@ -113,13 +113,13 @@ abbrev pub is_large_row : inner.Piece → Bool
 is_large_row (inner.Digits ds) = list_all is_ascii_digit ds && nat_lt coefficient_limit (number_of ds)
 is_large_row _ = false
 
--- a name that isn't the atom that always holds is new behind as many variables as the limit
+-- a name that isn't the atom that always holds is new after as many variables as the limit
 abbrev pub passes : Bool → RuleDraft → inner.Piece → Bool
 passes truth r (inner.Word name) = not truth && not (is_among name (names_in r.variables)) && nat_le variable_limit
     (length (names_in r.variables))
 passes truth r _ = false
 
--- what a piece shows that goes on with an expression
+-- the faults of a piece that continues an expression
 abbrev pub piece_faults : RuleDraft → ℕ → Bool → ℕ → inner.Piece → FaultList
 piece_faults r tokens truth at p =
     fault_if (is_large_row p) NumberTooLarge at
@@ -136,7 +136,7 @@ abbrev pub IsDigital : Option Piece → Type 0
 IsDigital (Some (In (inner.Digits ds))) = IsTrue (list_all is_ascii_digit ds)
 IsDigital _ = ⊤
 
--- the target's name is wanted: behind the arrow, or within `Com_1(`
+-- the target's name must follow: after the arrow, or within `Com_1(`
 abbrev pub wants_target_name : TargetState → Bool
 wants_target_name rights.Arrowed = true
 wants_target_name rights.ComOpened = true
@@ -165,14 +165,14 @@ abbrev pub is_many_named : Option Name → Bool
 is_many_named None = false
 is_many_named (Some name) = is_com name && not (is_same name (codes "Com_1"))
 
--- the next piece is such a name
+-- whether the next piece is a name of this form
 abbrev pub names_one : Option Piece → Bool
 names_one next = is_one_named (tests.word_of next)
 
 abbrev pub names_many : Option Piece → Bool
 names_many next = is_many_named (tests.word_of next)
 
--- an argument begins with it behind as many as the limit
+-- an argument begins with it after as many as the limit
 abbrev pub begins_full : RuleDraft → Option Piece → Bool
 begins_full r next = (r.expression.tokens == 0) && nat_le place_limit (length r.updates.items) && begins next
 
@@ -185,11 +185,11 @@ abbrev pub is_costing : CostState → Bool
 is_costing costs.Costing = true
 is_costing _ = false
 
--- what the next token within the braces of a cost shows
+-- the faults of the next token within the braces of a cost
 abbrev pub cost_faults : CostState → RuleDraft → ℕ → Option Piece → FaultList
 cost_faults state r at next = fault_if (long_name next) (Limit LongName) at ++ going_if (is_costing state) r at next
 
--- what the next token of a right term shows
+-- the faults of the next token of a right term
 abbrev pub right_faults : TargetState → RuleDraft → ℕ → Option Piece → Option Piece → FaultList
 right_faults state r at next behind =
     fault_if (is_within state && (names_one next && is_open behind)) Syntax at
@@ -198,12 +198,12 @@ right_faults state r at next behind =
     ++ fault_if (long_name next) (Limit LongName) at
     ++ going_if (can_read_argument state) r at next
 
--- a rule begins behind the one that is being read and as many as the limit
+-- the fault where a rule begins after the one being read and as many as the limit
 abbrev pub rule_faults : Draft → ℕ → Option Piece → FaultList
 rule_faults d at next =
     fault_if (is_word next && nat_le rule_limit (suc (length d.rules.items))) (Limit TooManyRules) at
 
--- the same, and a name that is too long
+-- the faults of a next token that begins a rule, and a name that is too long
 abbrev pub next_rule_faults : Draft → ℕ → Option Piece → FaultList
 next_rule_faults d at next = rule_faults d at next ++ fault_if (long_name next) (Limit LongName) at
 
@@ -212,7 +212,7 @@ abbrev pub truth_in : GuardReader → Option inner.Piece → Option inner.Piece 
 truth_in r None behind = false
 truth_in r (Some p) behind = is_wanting r.state && names_truth p && not (is_operating behind)
 
--- what the next token of an atom shows
+-- the faults of the next token of an atom
 abbrev pub atom_faults : RuleDraft → ℕ → Option Piece → Option Piece → FaultList
 atom_faults r at next behind =
     fault_if (long_name next) (Limit LongName) at
@@ -223,11 +223,11 @@ abbrev pub mark_faults : Bool → Draft → ℕ → Option Piece → Option Piec
 mark_faults true d at next behind = next_rule_faults d at next
 mark_faults false d at next behind = atom_faults d.rule at next behind
 
--- there are as many atoms as the limit, among which a cost counts as one
+-- there are as many atoms as the limit, where a cost counts as one
 abbrev pub atoms_fill : RuleDraft → Bool
 atoms_fill r = nat_le atom_limit (length r.guard.atoms.items + cost_atoms (option_map term_of r.cost))
 
--- an atom begins behind them
+-- an atom begins after them
 abbrev pub atoms_full : RuleDraft → Option Piece → Bool
 atoms_full r next = is_wanting r.guard.state && atoms_fill r && begins next
 
@@ -235,7 +235,7 @@ abbrev pub another_atom_faults : RuleDraft → ℕ → Option Piece → Option P
 another_atom_faults r at next behind = fault_if (atoms_full r next) (Limit TooManyAtoms) at
     ++ atom_faults r at next behind
 
--- the faults behind atoms that have ended
+-- the faults after atoms that have ended
 abbrev pub behind_atoms_faults : GuardOpening → Draft → ℕ → Option Piece → FaultList
 behind_atoms_faults fences.Mark d at next = next_rule_faults d at next
 behind_atoms_faults fences.Square d at next = fault_if (long_name next) (Limit LongName) at
@@ -244,14 +244,14 @@ abbrev pub guard_faults : Bool → GuardOpening → Draft → ℕ → Option Pie
 guard_faults true fence d at next behind = behind_atoms_faults fence d at next
 guard_faults false fence d at next behind = another_atom_faults d.rule at next behind
 
--- what the next token behind a target shows
+-- the faults of the next token after a target
 abbrev pub tail_faults : TailState → Draft → ℕ → Option Piece → Option Piece → FaultList
 tail_faults tails.Targeted d at next behind = next_rule_faults d at next
 tail_faults tails.GuardMarked d at next behind = mark_faults (is_word next && is_open behind) d at next behind
 tail_faults tails.SquareOpened d at next behind = atom_faults d.rule at next behind
 tail_faults (tails.Guarding fence) d at next behind = guard_faults (is_read d.rule.guard.state) fence d at next behind
 
--- what the next token shows
+-- the faults of the next token
 abbrev pub state_faults : ParserState → Draft → ℕ → Option Piece → Option Piece → FaultList
 state_faults (places.InSections state) d at next behind =
     fault_if (repeats_in state d.sections next behind) RepeatedSection at

@@ -24,7 +24,7 @@ abbrev pub symbol_in : Option SymbolEntry → Option Symbol
 symbol_in None = None
 symbol_in (Some l) = Some (record { name = l.name.now; arity = l.arity })
 
--- a symbol with this many places, where there is a number
+-- a symbol with this many places, if there is a number
 abbrev pub with_arity : Name → Option ℕ → Option Symbol
 with_arity name None = None
 with_arity name (Some arity) = Some (record { name = name; arity = arity })

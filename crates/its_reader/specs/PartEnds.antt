@@ -130,7 +130,7 @@ pub record GuardStands (state : TailState) (old : RuleDraft) (next : Option Piec
   pub stays : StaysInGuard old new
   pub variables : new.variables ≡ old.variables
 
--- behind a target
+-- after a target
 abbrev pub TailEndsPartBy : Bool → TailState → RuleDraft → Option Piece → ParserState → Option Kind → RuleDraft → Type 0
 TailEndsPartBy true state old next now refusal new = GuardStands state old next now refusal new
 TailEndsPartBy false state old next now refusal new = IsStill (places.InTail state) (λ at. fault_if

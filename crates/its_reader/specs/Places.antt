@@ -1,4 +1,4 @@
--- For each state of the parser's code, the written fronts that it represents, with the next piece in sight.
+-- For each state of the parser's code, the written states that it represents, with the next piece in sight.
 use Rattle.std.specs.Prelude.{◌≡◌, ◌⊎◌, true, false, List, [], ◌∷◌, length, Option, Some, None, ⊤}
 use Rattle.model.specs.Programs.{Name}
 use Rattle.its_text.specs.expr_text.Trees.{Sum}
@@ -55,7 +55,7 @@ InSections ts sections.Listing d f = (ss : List Section) × ((names : List Name)
     × KnowsBetween ts ss d))
 InSections ts sections.CommentNamed d f = (ss : List Section) × ((f ≡ fronts.CommentNamed ss) × KnowsBetween ts ss d)
 
--- a rule's source has been read; behind `:|:` that is known by the bracket that comes next
+-- a rule's source has been read; after `:|:` that is decided by an opening bracket as the next piece
 abbrev pub IsSource : Option Piece → Ruling → Name → Front → Type 0
 IsSource next r name f = (f ≡ fronts.SourceNamed r name) ⊎ ((h : Headed) × ((f ≡ fronts.WordRead h name)
     × ((r ≡ ruling_with h (BehindMark None)) × (next ≡ Some open_bracket))))
@@ -101,7 +101,7 @@ abbrev pub wrap_of : Wrap → fronts.Wrap
 wrap_of wraps.InCom = fronts.InCom
 wrap_of wraps.Alone = fronts.Alone
 
--- behind the right term
+-- after the right term
 abbrev pub behind_wrap : Wrap → ParserState
 behind_wrap wraps.InCom = places.InRight rights.TargetClosed
 behind_wrap wraps.Alone = places.InTail tails.Targeted
@@ -113,7 +113,7 @@ pub record IsAimed (ts : Tokens) (w : Wrap) (a : Aimed) (d : Draft) : Type 0 whe
   pub names_are : names_in d.rule.variables ≡ arrow_names a.led.left a.led.cost
   pub expression : expressions.IsFresh d.rule.expression
 
--- some of an argument behind others has been read
+-- some of an argument after others has been read
 pub record IsArguing (ts : Tokens) (w : Wrap) (a : Aimed) (arguments : List Sum) (e : expression.Front)
     (d : Draft) : Type 0 where
   pub wrap_is : a.wrap ≡ wrap_of w
@@ -151,13 +151,13 @@ InRight ts next rights.TargetClosed d f =
     (l : Led) × ((t : RightTerm) × ((f ≡ fronts.TargetClosed l t) × (IsHeaded ts (record { led = l; target = Marked t }) d
     × (d.rule.differs ≡ other_arity (with_right (symbols_behind l) t) t.name (length t.arguments)))))
 
--- some of a guard has been read; behind `:|:` a name begins one where no bracket comes next
+-- some of a guard has been read; after `:|:` a name begins one if no opening bracket is next
 abbrev pub IsGuard : Option Piece → GuardOpening → Headed → GuardFront → Front → Type 0
 IsGuard next fences.Mark h g f = (f ≡ fronts.MarkGuarding h g) ⊎ ((name : Name) × ((f ≡ fronts.WordRead h name)
     × ((g ≡ guard_named name) × (is_open next ≡ false))))
 IsGuard next fences.Square h g f = f ≡ fronts.SquareGuarding h g
 
--- behind the target, before what ends has ended
+-- the state after the target, before parts that end here have been ended
 abbrev pub InTail : Tokens → Option Piece → TailState → Draft → Front → Type 0
 InTail ts next tails.Targeted d f = (h : Headed) × ((f ≡ fronts.Targeted h) × (IsHeaded ts h d
     × (d.rule.differs ≡ bare_differs h.led h.target)))
@@ -168,7 +168,7 @@ InTail ts next (tails.Guarding fence) d f =
     × (expressions.IsFresh d.rule.expression
     × Reads (inner_next next) (headed_names h) g (names_in d.rule.variables) d.rule.guard))))
 
--- the same once what ends has ended
+-- the state after the target, once parts that end here have been ended
 abbrev pub TailPartEnded : Tokens → Option Piece → TailState → Draft → Front → Type 0
 TailPartEnded ts next tails.Targeted d f = InTail ts next tails.Targeted d f
 TailPartEnded ts next tails.GuardMarked d f = InTail ts next tails.GuardMarked d f
@@ -197,7 +197,7 @@ RightPartEnded ts next (rights.Argued w) d f =
     × ((f ≡ fronts.Arguing a arguments e) × IsArgued ts next w a arguments e s d))))
 RightPartEnded ts next state d f = InRight ts next state d f
 
--- the code stands for a written front, and once what ends has ended
+-- the code's state represents a written state, before and after parts that end here have been ended
 abbrev pub StandsAt : Tokens → Option Piece → ParserState → Draft → Front → Type 0
 StandsAt ts next (places.InSections state) d f = InSections ts state d f
 StandsAt ts next (places.InLeft state) d f = InLeft ts next state d f
@@ -212,7 +212,7 @@ PartEndedAt ts next (places.InCost state) d f = CostPartEnded ts next state d f
 PartEndedAt ts next (places.InRight state) d f = RightPartEnded ts next state d f
 PartEndedAt ts next (places.InTail state) d f = TailPartEnded ts next state d f
 
--- a piece leads the code where it leads in what is written
+-- the code's state after a piece represents the written state after it, and both reject the same pieces
 abbrev pub LeadsTo : Tokens → Option Piece → Option Front → Option ParserState → Draft → Type 0
 LeadsTo ts next None None d = ⊤
 LeadsTo ts next None (Some state) d = ⊥

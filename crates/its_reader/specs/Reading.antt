@@ -13,7 +13,7 @@ use Rattle.its_reader.specs.Places.{StandsAt}
 use Rattle.its_reader.specs.declared.draft.Draft.{Draft}
 use Rattle.its_reader.specs.declared.parser_state.ParserState.{ParserState}
 
--- the position behind the tokens that have been read
+-- the position after the tokens that have been read
 abbrev pub after : Tokens → ℕ
 after [] = 0
 after (t ∷ done) = t.upto
@@ -23,7 +23,7 @@ abbrev pub AreDigital : Tokens → Type 0
 AreDigital [] = ⊤
 AreDigital (t ∷ rest) = IsDigital (Some t.piece) × AreDigital rest
 
--- the code stands for a front that the text leads to, and the answer is that of what is left
+-- the code's state represents one that the text leads to, and the answer is that for the remaining tokens
 pub record IsReading (bytes : List ℕ) (state : ParserState) (last : ℕ) (best : Option (Fault Kind)) (d : Draft)
     (rest : Tokens) : Type 0 where
   pub done : Tokens

@@ -1,4 +1,4 @@
--- Which written front the code's knowledge of a text represents: the sections, the rules so far, and the rule that is
+-- Which written state the code's knowledge of a text represents: the sections, the rules so far, and the rule that is
 -- being read.
 use Rattle.std.specs.Prelude.{◌≡◌, ℕ, ◌+◌, List, [], ◌∷◌, ◌++◌, map, length, Option, Some, None, option_map, ⊤}
 use Rattle.model.specs.Programs as plain

@@ -1,4 +1,4 @@
--- The contracts of the code's parts at each state: a piece leads where it leads in the written text.
+-- The contracts of the code's parts at each state: a piece leads to the same state as in the written text.
 use Rattle.std.specs.Prelude.{◌≡◌, ℕ, Bool, true, false, not, ◌==◌, nat_lt, if◌then◌else◌, slice_index, List, [], ◌∷◌}
 use Rattle.std.specs.Prelude.{◌++◌, length, Option, Some, None, ⊤}
 use Rattle.model.specs.Programs.{Name}
@@ -50,7 +50,7 @@ abbrev pub IsNew : List Name → Option Name → Type 0
 IsNew names None = ⊤
 IsNew names (Some name) = is_among name names ≡ false
 
--- both lead somewhere, or both lead nowhere
+-- both accept the piece, or both reject it
 abbrev pub GoTogether : Option Front → Option ParserState → Type 0
 GoTogether None None = ⊤
 GoTogether None (Some state) = ⊥
@@ -68,7 +68,7 @@ pub record RuleLeads (old : Draft) (p : Piece) (result : Option ParserState) (ne
   pub each : (ts : Tokens) (next : Option Piece) (r : Ruling) → KnowsRuling ts r old → IsFreshRule old.rule
       → LeadsTo ts next (step (fronts.AfterRule r) p) result new
 
--- what stays as it was while an argument is read
+-- the parts of a draft that are unchanged while an argument is read
 pub record StaysAround (old new : Draft) : Type 0 where
   pub sections : new.sections ≡ old.sections
   pub rules : new.rules ≡ old.rules
@@ -79,7 +79,7 @@ pub record StaysAround (old new : Draft) : Type 0 where
   pub guard : new.rule.guard ≡ old.rule.guard
   pub cost : new.rule.cost ≡ old.rule.cost
 
--- a piece names a left argument, or leads nowhere
+-- a piece names a left argument, or is rejected
 abbrev pub Named : Option Name → Option ParserState → Draft → Draft → Type 0
 Named None result old new = (result ≡ None) × (new ≡ old)
 Named (Some name) result old new = (result ≡ Some (places.InLeft lefts.LeftRead)) × (StaysAround old new
@@ -88,7 +88,7 @@ Named (Some name) result old new = (result ≡ Some (places.InLeft lefts.LeftRea
 pub record ArgumentLeads (old : Draft) (p : Piece) (result : Option ParserState) (new : Draft) : Type 0 where
   pub each : Named (tests.word p) result old new
 
--- what stays as it was while a term's symbol is numbered
+-- the parts of a draft that are unchanged while a term's symbol is numbered
 pub record StaysBeside (old new : Draft) : Type 0 where
   pub sections : new.sections ≡ old.sections
   pub rules : new.rules ≡ old.rules
@@ -98,7 +98,7 @@ pub record StaysBeside (old new : Draft) : Type 0 where
   pub guard : new.rule.guard ≡ old.rule.guard
   pub cost : new.rule.cost ≡ old.rule.cost
 
--- a symbol is numbered that a term with this many arguments names
+-- the symbol of a term with this many arguments has its number
 pub record IsNumbered (name : Name) (arity : ℕ) (old new : Draft) : Type 0 where
   pub names : names_in new.symbols.names ≡ with_name (names_in old.symbols.names) name
   pub arities : new.symbols.arities.items ≡ (if nat_lt (position_of name (names_in old.symbols.names))
@@ -150,14 +150,14 @@ pub record RightLeads (state : TargetState) (old : Draft) (p : Piece) (result : 
   pub each : (ts : Tokens) (next : Option Piece) (f : Front) → RightPartEnded ts (Some p) state old f
       → IsModestPiece p → LeadsTo ts next (step f p) result new
 
--- behind the target
+-- after the target
 pub record TailLeads (state : TailState) (old : Draft) (p : Piece) (behind : Option Piece) (result : Option ParserState)
     (new : Draft) : Type 0 where
   pub together : (ts : Tokens) (f : Front) → TailPartEnded ts (Some p) state old f → GoTogether (step f p) result
   pub each : (ts : Tokens) (f : Front) → TailPartEnded ts (Some p) state old f → IsModestPiece p
       → LeadsTo ts behind (step f p) result new
 
--- a piece names the target, or leads nowhere
+-- a piece names the target, or is rejected
 abbrev pub Targets : Option Name → Wrap → Option ParserState → Draft → Draft → Type 0
 Targets None w result old new = (result ≡ None) × (new ≡ old)
 Targets (Some name) w result old new = (result ≡ Some (places.InRight (rights.TargetNamed w))) × (StaysBut old new
@@ -176,7 +176,7 @@ pub record StaysInRule (old new : RuleDraft) : Type 0 where
   pub guard : new.guard ≡ old.guard
   pub cost : new.cost ≡ old.cost
 
--- an inner piece goes on with the argument or the cost, or leads nowhere
+-- an inner piece continues the argument or the cost, or is rejected
 pub record GoesOn (old : Draft) (p : inner.Piece) (new : Draft) : Type 0 where
   pub leads : Leads (names_in old.rule.variables) old.rule.expression p
       (names_in new.rule.variables) new.rule.expression

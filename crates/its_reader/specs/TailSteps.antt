@@ -1,4 +1,4 @@
--- The contracts of the code's parts behind a target: a whole rule ends, and a piece leads where it leads in a guard.
+-- The contracts of the code's parts after a target: a whole rule ends, and a piece leads where it leads in a guard.
 use Rattle.std.specs.Prelude.{◌≡◌, ◌-◌, Bool, true, false, not, ◌&&◌, nat_lt, if◌then◌else◌, [], ◌∷◌, ◌++◌, map}
 use Rattle.std.specs.Prelude.{length, Option, Some, None, option_map}
 use Rattle.std.specs.List.{list_all}
@@ -61,7 +61,7 @@ pub record RuleEnds (old new : Draft) : Type 0 where
   pub rules : map rule_of new.rules.items ≡ map rule_of old.rules.items ++ rule_in old.rule ∷ []
   pub fresh : IsFreshRule new.rule
 
--- a whole rule ends before a piece, which leads on from the rules; a name begins another rule
+-- a whole rule ends before a piece, which continues the rules; a name begins another rule
 pub record WholeLeads (old : Draft) (p : Piece) (result : Option ParserState) (new : Draft) : Type 0 where
   pub each : (ts : Tokens) (next : Option Piece) (h : Headed) (guard : Guard) → KnowsWhole ts h guard old
       → LeadsTo ts next (step (fronts.AfterRule (ruling_with h guard)) p) result new
@@ -80,7 +80,7 @@ is_modest inner.Caret = true
 is_modest (inner.Related sign) = true
 is_modest (inner.Joining joint) = true
 
--- a piece goes on with the expression of an atom
+-- a piece continues the expression of an atom
 abbrev pub goes_on_in : GuardReader → inner.Piece → Bool
 goes_on_in r p = not (is_read r.state) && goes_on_from (front_of r.expression).outer (front_of r.expression).operand p
 
@@ -88,7 +88,8 @@ goes_on_in r p = not (is_read r.state) && goes_on_from (front_of r.expression).o
 abbrev pub guarding_if : Bool → GuardOpening → Option ParserState
 guarding_if test fence = if test then Some (places.InTail (tails.Guarding fence)) else None
 
--- a modest piece leads where it leads in the guard; one that isn't leads on where it goes on with an expression
+-- a small piece leads to the same state as in the written guard; a literal that is too large is taken if it continues
+-- an expression
 abbrev pub TakesInner : Bool → GuardOpening → RuleDraft → inner.Piece → Option inner.Piece → Option ParserState → RuleDraft → Type 0
 TakesInner true fence old p behind result new =
     (taken : Bool) × ((result ≡ guarding_if taken fence)
@@ -99,7 +100,7 @@ abbrev pub TakesAtom : GuardOpening → RuleDraft → Option inner.Piece → Opt
 TakesAtom fence old (Some p) behind result new = TakesInner (is_modest p) fence old p behind result new
 TakesAtom fence old None behind result new = result ≡ None
 
--- the same as records, so that their arguments are found
+-- the contract `TakesInner` as a record, so that its arguments can be inferred
 pub record TakesPiece (fence : GuardOpening) (old : RuleDraft) (p : inner.Piece) (behind : Option inner.Piece)
     (result : Option ParserState) (new : RuleDraft) : Type 0 where
   pub by : TakesInner (is_modest p) fence old p behind result new
@@ -127,7 +128,7 @@ pub record AtomTakes (fence : GuardOpening) (old : Draft) (p : Piece) (behind : 
   pub rules : new.rules ≡ old.rules
   pub symbols : new.symbols ≡ old.symbols
 
--- the brackets of a guard close behind an atom
+-- the brackets of a guard close after an atom
 abbrev pub ClosesIf : Bool → Draft → Option ParserState → Draft → Type 0
 ClosesIf true old result new = (result ≡ Some (places.InLeft lefts.AfterRule)) × RuleEnds old new
 ClosesIf false old result new = (result ≡ None) × (new ≡ old)
@@ -135,7 +136,7 @@ ClosesIf false old result new = (result ≡ None) × (new ≡ old)
 pub record SquareEnds (old : Draft) (p : Piece) (result : Option ParserState) (new : Draft) : Type 0 where
   pub has_closed : ClosesIf (tests.closes_square p) old result new
 
--- what follows a guard: behind `:|:` what follows a rule, and in square brackets the closing one
+-- the piece after a guard: after `:|:` one that follows a rule, and in square brackets the closing one
 abbrev pub GuardEnds : GuardOpening → Draft → Piece → Option ParserState → Draft → Type 0
 GuardEnds fences.Mark old p result new = WholeLeads old p result new
 GuardEnds fences.Square old p result new = SquareEnds old p result new

@@ -32,12 +32,12 @@ abbrev pub closes_cost : Piece → Bool
 closes_cost CostClose = true
 closes_cost _ = false
 
--- a piece is what a comment says
+-- whether a piece is the content of a comment
 abbrev pub remarks : Piece → Bool
 remarks (Remark bytes) = true
 remarks _ = false
 
--- a piece is a name, what joins atoms, `:|:`, `[`, `]`
+-- a piece is a name, a conjunction sign, `:|:`, `[`, `]`
 abbrev pub names : Piece → Bool
 names (In (inner.Word name)) = true
 names _ = false
@@ -77,7 +77,7 @@ abbrev pub says : Name → Piece → Bool
 says wanted (In (inner.Word name)) = is_same name wanted
 says wanted _ = false
 
--- the same of a piece that may be there
+-- whether there is such a piece
 abbrev pub is_open : Option Piece → Bool
 is_open None = false
 is_open (Some p) = opens p

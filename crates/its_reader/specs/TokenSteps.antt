@@ -1,5 +1,5 @@
--- The contract of one turn of reading: parts that end before the next token have ended, the faults here have been taken
--- into account, and the token leads to the state that it leads to in the written text.
+-- The contract of one turn of reading: parts that end before the next token are ended, the faults here are taken into
+-- account, and the token leads to the same state as in the written text.
 use Rattle.std.specs.Prelude.{◌≡◌, ℕ, ◌-◌, Bool, true, false, ◌&&◌, ◌||◌, ◌==◌, nat_lt, nat_le, List, [], ◌∷◌, length}
 use Rattle.std.specs.Prelude.{Option, Some, None, Result, ⊤}
 use Rattle.model.specs.Programs.{Name}
@@ -34,7 +34,7 @@ use Rattle.its_reader.specs.declared.parser_state.ParserState.{ParserState}
 use Rattle.its_reader.specs.declared.reading.TokenStep.{TokenStep}
 use Rattle.its_reader.specs.declared.reading.TokenStep.TheVariants as turns
 
--- what ends before the next piece has ended, and what the last byte that was read shows is found
+-- the part that ends before the next piece is ended, and the faults at the last byte read are found
 pub record EndsPart (state : ParserState) (old : Draft) (next : Option Piece) (now : ParserState) (found : ℕ
     → List (Fault Kind)) (new : Draft) : Type 0 where
   pub part_ended : (ts : Tokens) (f : Front) → StandsAt ts next state old f → PartEndedAt ts next now new f
@@ -54,7 +54,7 @@ abbrev pub AllowsName : Option (List Name) → Option Name → Type 0
 AllowsName (Some arguments) (Some name) = is_among name arguments ≡ false
 AllowsName _ _ = ⊤
 
--- the next token leads where it leads in what is written
+-- the next token leads to the same state as in the written text
 pub record Advances (state : ParserState) (old : Draft) (t : Token Piece) (behind : Option Piece) (result : Option ParserState)
     (new : Draft) : Type 0 where
   pub together : (ts : Tokens) (f : Front) → PartEndedAt ts (Some t.piece) state old f
@@ -64,16 +64,16 @@ pub record Advances (state : ParserState) (old : Draft) (t : Token Piece) (behin
       → IsModestPiece t.piece
       → LeadsTo ts behind (step f t.piece) result new
 
--- nothing behind a token comes before a refusal of this number at the token's last byte
+-- nothing after a token comes before a refusal of this number at the token's last byte
 abbrev pub least_of : Piece → ℕ
 least_of (In (inner.Digits ds)) = 9
 least_of _ = 8
 
--- a refusal so far is the answer behind a token
+-- a refusal so far is the answer after a token
 abbrev pub is_final : Fault Kind → Token Piece → Bool
 is_final x t = nat_lt x.at (t.upto - 1) || ((x.at == t.upto - 1) && nat_le (kind_number x.kind) (least_of t.piece))
 
--- what a token leads to: a place, the last byte and the refusal so far, or the answer
+-- the result of a token: a state, with the last byte and the refusal so far; or the answer
 pub data TokenResult : Type 0 where
   On : ParserState → ℕ → Option (Fault Kind) → TokenResult
   Over : Fault Kind → TokenResult
@@ -82,7 +82,7 @@ abbrev pub on_or_over : Bool → ParserState → Token Piece → Fault Kind → 
 on_or_over true reached t x = Over x
 on_or_over false reached t x = On reached (t.upto - 1) (Some x)
 
--- behind a token that can follow
+-- after a token that can follow
 abbrev pub behind_token : Option (Fault Kind) → ParserState → Token Piece → TokenResult
 behind_token None reached t = On reached (t.upto - 1) None
 behind_token (Some x) reached t = on_or_over (is_final x t) reached t x
@@ -96,7 +96,7 @@ token_result state best t None = Over (first_of programs best (record {
 }))
 token_result state best t (Some reached) = behind_token best reached t
 
--- reading goes on, or its answer is that of the text
+-- reading continues, or its answer is that of the text
 abbrev pub TurnsTo : List ℕ → Tokens → TokenResult → Draft → Type 0
 TurnsTo bytes rest (On state last best) d = IsReading bytes state last best d rest
 TurnsTo bytes rest (Over x) d = verdict bytes ≡ Refused x

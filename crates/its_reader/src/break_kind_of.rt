@@ -19,7 +19,7 @@ pub(crate) fn break_kind(state: ParserState, next: Piece<'_>) -> Kind
     break_kind_of_wanted(state.wants_left(), next)
 }
 
-// The same where a left argument is wanted, or not.
+// The same where a left argument must follow, or not.
 fn break_kind_of_wanted(wanted: bool, next: Piece<'_>) -> Kind
     ensures { kind_of result ≡ break_kind_in wanted (plain_of next.entry) }
 {

@@ -23,7 +23,7 @@ use model::{ATOM_LIMIT, Memory};
 use std::alloc::Global;
 
 impl<'a> Draft<'a> {
-    /// The state behind a piece within the braces of a cost. None where the piece can't follow.
+    /// The state after a piece within the braces of a cost. None where the piece can't follow.
     pub(crate) fn advance_in_cost(
         &mut self,
         alloc: Global,

@@ -43,7 +43,7 @@ pub(crate) fn refusal_of(alloc: Global, made: &Expr) -> Result<Option<Kind>, Mem
     Ok(kind_of(fault))
 }
 
-// Whether the next piece doesn't go on with an expression.
+// Whether the next piece doesn't continue an expression.
 fn ends(expression: &Expression, next: Option<Inner<'_>>) -> bool
     ensures { result ≡ not (goes_on expression.now (piece_in next.entry)) }
 {
@@ -54,7 +54,7 @@ fn ends(expression: &Expression, next: Option<Inner<'_>>) -> bool
 }
 
 impl<'a> Draft<'a> {
-    /// The state behind a piece of the expression, within the expression. None where the piece doesn't continue it.
+    /// The state after a piece of the expression, within the expression. None where the piece doesn't continue it.
     pub(crate) fn take_expression(
         &mut self,
         alloc: Global,

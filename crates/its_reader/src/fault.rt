@@ -1,4 +1,4 @@
-//! A refusal with its position, and which of two comes first.
+//! A refusal with its position, and which of two is reported.
 
 ghost use Rattle.std.specs.Prelude.{◌≡◌, Some};
 ghost use Rattle.text_core.specs.Reading.{is_before as plain_before, first_of as plain_first, first_among};
@@ -51,7 +51,7 @@ fn limit_number(kind: LimitKind) -> u8
 }
 
 impl Kind {
-    /// Of two kinds at one byte the one with the lesser number comes first.
+    /// The number of the kind: of two kinds at one byte the one with the lesser number is reported.
     pub(crate) fn number(self) -> u8
         ensures { result ≡ kinds.kind_number (kind_of self) }
     {
@@ -91,7 +91,7 @@ impl Kind {
 }
 
 impl Fault {
-    /// Whether this fault comes before another.
+    /// Whether this fault is reported rather than another.
     fn is_before(self, other: Fault) -> bool
         ensures { result ≡ plain_before programs (fault_of self) (fault_of other) }
     {

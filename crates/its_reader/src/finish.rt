@@ -56,7 +56,7 @@ fn symbols_from(alloc: Global, symbols: &Symbols<'_>) -> Result<Vec<Symbol>, Mem
 }
 
 impl<'a> Draft<'a> {
-    /// The program of a text of this many bytes, if it has no fault but what only the whole text shows.
+    /// The program of a text of this many bytes, if it has no fault of those that only the whole text shows.
     pub(crate) fn finish(self, alloc: Global, len: usize) -> Result<Program, ReadError>
         ensures { Finishes self.entry len result }
     {

@@ -28,7 +28,7 @@ fn leads_if(test: bool, behind: SourceState) -> Option<ParserState>
 }
 
 impl<'a> Draft<'a> {
-    /// The state behind a piece up to the end of a left term. None where the piece can't follow.
+    /// The state after a piece up to the end of a left term. None where the piece can't follow.
     pub(crate) fn advance_in_left(
         &mut self,
         state: SourceState,

@@ -155,7 +155,7 @@ fn lexeme_in<'a>(mode: Mode, text: &'a [u8], first: u8, others: &'a [u8]) -> Lex
     }
 }
 
-// The mode behind a piece that may be there.
+// The mode after a piece that may be there.
 fn mode_after(mode: Mode, piece: Option<Piece<'_>>) -> Mode
     requires { depth_of mode < usize.MAX }
     ensures { mode_of result ≡ lexing.mode_behind (mode_of mode) (maybe_of piece.entry) }

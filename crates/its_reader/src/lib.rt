@@ -1,10 +1,10 @@
 //! The parser of program texts in KoAT's ITS format: from bytes to a program whose symbols and variables are numbered.
 //!
 //! Builds on `its_text` (what a text spells, and its faults) and `expr_reader` (expressions and guards). Tokens are
-//! read one after the other with one token of lookahead: a `Place` is the parser's state, a `Draft` is what has been
-//! read, and together they represent the written front of `its_text`. Main guarantee: `read` gives the verdict on a
-//! text, which is its one program where it spells one within the limits, and else its first fault; and the program is
-//! valid.
+//! read one after the other with one token of lookahead: a `ParserState` is the parser's state, a `Draft` has the
+//! parts read so far, and together they represent the written state of `its_text`. Main guarantee: `read` gives the
+//! verdict on a text: the one program that it spells within the limits, which is then valid; or, if there is none, its
+//! first fault.
 #![tactic(auto)]
 
 mod break_kind_of;

@@ -22,7 +22,7 @@ use crate::parser_state::{ParserState, SectionState, SourceState};
 use crate::piece::{Piece, is_open, word_of};
 use model::{NAME_LIMIT, PLACE_LIMIT, RULE_LIMIT};
 
-/// The next piece, the one behind it, and the position of the next one.
+/// The next piece, the one after it, and the position of the next one.
 #[derive(Clone, Copy)]
 pub(crate) struct Lookahead<'a> {
     pub next: Option<Piece<'a>>,
@@ -95,7 +95,7 @@ impl<'a> Draft<'a> {
         first_with_long_name(wanted, lookahead)
     }
 
-    // Whether a rule begins behind as many as the limit.
+    // Whether a rule begins after as many as the limit.
     fn begins_too_many(&self, state: SourceState, next: Option<Piece<'a>>) -> bool
         ensures { result ≡ (is_after_rule state && (is_word_next (maybe_of next.entry) && nat_le rule_limit
             (length self.now.rules.items))) }
@@ -167,7 +167,7 @@ impl<'a> Sections<'a> {
 }
 
 impl<'a> RuleDraft<'a> {
-    // Those of a left argument, where one is wanted.
+    // Those of a left argument, where one must follow.
     fn first_fault_of_wanted(
         &self,
         best: Option<Fault>,

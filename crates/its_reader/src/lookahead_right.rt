@@ -45,7 +45,7 @@ fn is_com(name: &[u8]) -> bool
     }
 }
 
-// Whether the next piece is `Com_1`, and a bracket opens behind it.
+// Whether the next piece is `Com_1`, and a bracket opens after it.
 fn opens_one(lookahead: Lookahead<'_>) -> bool
     ensures { result ≡ (names_one (maybe_of lookahead.entry.next) && is_open_next (maybe_of lookahead.entry.behind)) }
 {
@@ -61,7 +61,7 @@ fn is_one(name: Option<&[u8]>) -> bool
     }
 }
 
-// Whether the next piece is `Com_` and other digits, and a bracket opens behind it.
+// Whether the next piece is `Com_` and other digits, and a bracket opens after it.
 fn opens_many(lookahead: Lookahead<'_>) -> bool
     ensures { result ≡ (names_many (maybe_of lookahead.entry.next) && is_open_next (maybe_of lookahead.entry.behind)) }
 {
@@ -181,7 +181,7 @@ impl<'a> RuleDraft<'a> {
         self.first_fault_if_going(named, state.goes(), lookahead)
     }
 
-    // Whether an argument begins behind as many as the limit.
+    // Whether an argument begins after as many as the limit.
     fn begins_another(&self, state: TargetState, next: Option<Piece<'a>>) -> bool
         ensures { result ≡ (is_in_argument state && begins_full self.now (maybe_of next.entry)) }
     {
@@ -196,7 +196,7 @@ impl<'a> RuleDraft<'a> {
             && begins_expression(next)
     }
 
-    /// Those of a token that goes on with an argument or a cost, where one can be read.
+    /// Those of a token that continues an argument or a cost, where one can be read.
     pub(crate) fn first_fault_if_going(
         &self,
         best: Option<Fault>,
@@ -213,7 +213,7 @@ impl<'a> RuleDraft<'a> {
         }
     }
 
-    /// Those of a token that goes on with an expression, and may be the atom that always holds.
+    /// Those of a token that continues an expression, and may be the atom that always holds.
     pub(crate) fn first_fault_going_on(
         &self,
         best: Option<Fault>,
@@ -287,7 +287,7 @@ impl<'a> RuleDraft<'a> {
         Fault::first_where(counted, long, Kind::Limit(LimitKind::Tokens), at)
     }
 
-    // Whether a piece is a new variable behind 64 others.
+    // Whether a piece is a new variable after 64 others.
     fn passes(&self, truth: bool, piece: Inner<'a>) -> bool
         ensures { result ≡ plain_passes truth self.now (inner_plain piece.entry) }
     {

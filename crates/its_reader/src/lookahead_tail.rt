@@ -1,4 +1,4 @@
-//! The faults at the next token behind a target.
+//! The faults at the next token after a target.
 
 ghost use Rattle.std.specs.Prelude.{◌≡◌, ◌&&◌, suc, nat_le, length};
 ghost use Rattle.model.specs.Limits.{rule_limit};
@@ -25,7 +25,7 @@ use expr_reader::{GuardState, Piece as Inner};
 use model::RULE_LIMIT;
 
 impl<'a> Draft<'a> {
-    /// The first of a fault so far and those at the next token behind a target.
+    /// The first of a fault so far and those at the next token after a target.
     pub(crate) fn first_fault_in_tail(
         &self,
         best: Option<Fault>,
@@ -49,7 +49,7 @@ impl<'a> Draft<'a> {
         }
     }
 
-    // A rule that begins with the next token behind 1,000 others.
+    // A rule that begins with the next token after 1,000 others.
     fn first_fault_of_rule(&self, best: Option<Fault>, lookahead: Lookahead<'a>) -> Option<Fault>
         ensures { maybe_fault result ≡ first_among programs (maybe_fault best) (rule_faults self.now lookahead.entry.at
             (maybe_of lookahead.entry.next)) }
@@ -58,7 +58,7 @@ impl<'a> Draft<'a> {
         Fault::first_where(best, full, Kind::Limit(LimitKind::Rules), lookahead.at)
     }
 
-    // Whether a rule begins behind the one that is being read and as many as the limit.
+    // Whether a rule begins after the one that is being read and as many as the limit.
     fn passes_rules(&self, next: Option<Piece<'a>>) -> bool
         ensures { result ≡ (is_word_next (maybe_of next.entry) && nat_le rule_limit (suc
             (length self.now.rules.items))) }
@@ -113,7 +113,7 @@ impl<'a> Draft<'a> {
         }
     }
 
-    // Those behind atoms that have ended.
+    // Those after atoms that have ended.
     fn first_fault_behind_atoms(
         &self,
         best: Option<Fault>,
@@ -137,7 +137,7 @@ fn is_last_rule(rules: usize) -> bool
     rules >= RULE_LIMIT - 1
 }
 
-// Whether a name is next, and a bracket opens behind it.
+// Whether a name is next, and a bracket opens after it.
 fn begins_source(lookahead: Lookahead<'_>) -> bool
     ensures { result ≡ (is_word_next (maybe_of lookahead.entry.next) && is_open_next (maybe_of lookahead.entry.behind)) }
 {
@@ -145,7 +145,7 @@ fn begins_source(lookahead: Lookahead<'_>) -> bool
 }
 
 impl<'a> RuleDraft<'a> {
-    // Those of a token that begins or goes on with an atom.
+    // Those of a token that begins or continues an atom.
     fn first_fault_of_another(&self, best: Option<Fault>, lookahead: Lookahead<'a>) -> Option<Fault>
         ensures { maybe_fault result ≡ first_among programs (maybe_fault best)
             (another_atom_faults self.now lookahead.entry.at (maybe_of lookahead.entry.next) (maybe_of lookahead.entry.behind)) }
@@ -155,21 +155,21 @@ impl<'a> RuleDraft<'a> {
         self.first_fault_of_atom(counted, lookahead)
     }
 
-    // Whether an atom begins behind as many as the limit.
+    // Whether an atom begins after as many as the limit.
     fn passes_atoms(&self, next: Option<Piece<'a>>) -> bool
         ensures { result ≡ plain_full self.now (maybe_of next.entry) }
     {
         self.wants_atom() && self.has_atoms() && begins_expression(next)
     }
 
-    // An atom is wanted.
+    // An atom must follow.
     fn wants_atom(&self) -> bool
         ensures { result ≡ is_wanting self.now.guard.state }
     {
         self.guard.state == GuardState::AtomWanted
     }
 
-    // Those of a token that goes on with an atom.
+    // Those of a token that continues an atom.
     fn first_fault_of_atom(&self, best: Option<Fault>, lookahead: Lookahead<'a>) -> Option<Fault>
         ensures { maybe_fault result ≡ first_among programs (maybe_fault best) (atom_faults self.now lookahead.entry.at
             (maybe_of lookahead.entry.next) (maybe_of lookahead.entry.behind)) }

@@ -13,15 +13,15 @@ use crate::piece::Piece;
 pub(crate) enum Mode {
     /// Between sections.
     Outside,
-    /// Behind the bracket that opens a section.
+    /// After the bracket that opens a section.
     AtKeyword,
-    /// Within a section, with this many brackets open in it.
+    /// Within a section, with this many open brackets.
     Within(usize),
-    /// Behind the keyword of a comment.
+    /// After the keyword of a comment.
     InComment,
 }
 
-/// The mode behind a piece, where fewer brackets are open than numbers go.
+/// The mode after a piece, where fewer brackets are open than numbers go.
 pub(crate) fn mode_behind(mode: Mode, piece: Piece<'_>) -> Mode
     requires { depth_of mode < usize.MAX }
     ensures { mode_of result ≡ plain_behind (mode_of mode) (Some (plain_of piece.entry)) }

@@ -23,7 +23,8 @@ pub(crate) enum GuardOpening {
     Square,
 }
 
-/// A state outside rules; its variants say what was read last, and what can follow.
+/// A state outside rules; its variants are named for the part that was read last, and so for the pieces that can
+/// follow.
 #[derive(Clone, Copy)]
 pub(crate) enum SectionState {
     /// Nothing, or a section; `(`
@@ -97,7 +98,7 @@ pub(crate) enum TargetState {
     TargetClosed,
 }
 
-/// A state behind the target.
+/// A state after the target.
 #[derive(Clone, Copy)]
 pub(crate) enum TailState {
     /// The target; `:|:`, `[`, a rule's source, or `)`
@@ -106,7 +107,7 @@ pub(crate) enum TailState {
     GuardMarked,
     /// `[`; an atom, or `]`
     SquareOpened,
-    /// A part of a guard; more of it, or what follows it
+    /// Within a guard: more of it can follow, or a piece after it
     Guarding(GuardOpening),
 }
 
@@ -128,7 +129,7 @@ impl SourceState {
         matches!(self, SourceState::AfterRule)
     }
 
-    /// Whether a left argument is wanted.
+    /// Whether a left argument must follow.
     pub(crate) fn wants_argument(self) -> bool
         ensures { result ≡ plain_wanting self }
     {
@@ -153,14 +154,14 @@ impl CostState {
 }
 
 impl TargetState {
-    /// Whether the target's name is wanted.
+    /// Whether the target's name must follow.
     pub(crate) fn targets(self) -> bool
         ensures { result ≡ plain_targets self }
     {
         matches!(self, TargetState::Arrowed | TargetState::ComOpened)
     }
 
-    /// Whether it is wanted within `Com_1(`.
+    /// Whether it must follow within `Com_1(`.
     pub(crate) fn is_within(self) -> bool
         ensures { result ≡ plain_within self }
     {
@@ -216,7 +217,7 @@ impl TailState {
 }
 
 impl ParserState {
-    /// Whether a left argument is wanted.
+    /// Whether a left argument must follow.
     pub(crate) fn wants_left(self) -> bool
         ensures { result ≡ plain_left self }
     {

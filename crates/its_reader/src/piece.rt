@@ -38,7 +38,7 @@ pub(crate) enum Piece<'a> {
     Strange,
 }
 
-/// A piece, the position of its first byte, and the one behind its last byte.
+/// A piece, the position of its first byte, and the one after its last byte.
 #[derive(Clone, Copy)]
 pub(crate) struct Token<'a> {
     pub piece: Piece<'a>,

@@ -32,7 +32,7 @@ pub(crate) struct ReaderState {
     pub best: Option<Fault>,
 }
 
-/// What reading a token leads to: the parser's next state, or the first refusal of the text.
+/// The result of a token: the parser's next state, or the first refusal of the text.
 #[derive(Clone, Copy)]
 pub(crate) enum TokenStep {
     On(ReaderState),
@@ -46,7 +46,7 @@ fn last_of(token: Token<'_>) -> usize
     token.upto.saturating_sub(1)
 }
 
-// No refusal behind a token comes before one of this number at the token's last byte.
+// No refusal after a token comes before one of this number at the token's last byte.
 fn least_behind(piece: Piece<'_>) -> u8
     ensures { result ≡ least_of (plain_of piece.entry) }
 {
@@ -56,7 +56,7 @@ fn least_behind(piece: Piece<'_>) -> u8
     }
 }
 
-// Whether a refusal so far is the answer behind a token that could follow: no later one can come before it.
+// Whether a refusal so far is the answer after a token that could follow: no later one can come before it.
 fn is_final(fault: Fault, token: Token<'_>) -> bool
     ensures { result ≡ plain_final (fault_of fault) (token_of token.entry) }
 {
@@ -93,7 +93,7 @@ fn goes_on_or_ends(fault: Fault, state: ParserState, token: Token<'_>) -> TokenS
     }
 }
 
-// The text breaks off at a token.
+// The result where the text breaks off at a token.
 fn breaks_off(state: ParserState, best: Option<Fault>, token: Token<'_>) -> TokenStep
     ensures { token_result_of result ≡ token_result state (maybe_fault best) (token_of token.entry) None }
 {
@@ -101,7 +101,7 @@ fn breaks_off(state: ParserState, best: Option<Fault>, token: Token<'_>) -> Toke
     TokenStep::Over(Fault::first_of(best, fault))
 }
 
-// The result of a token, by the state that it leads to.
+// The result of a token, by the state after it.
 fn turned_by(
     state: ParserState,
     best: Option<Fault>,
@@ -138,7 +138,7 @@ impl<'a> Draft<'a> {
         })
     }
 
-    // The place that the next token leads to. None where it can't follow.
+    // The state after the next token. None where it can't follow.
     fn advance(
         &mut self,
         alloc: Global,
@@ -193,7 +193,7 @@ impl<'a> Draft<'a> {
         Ok(turned_by(judged.state, judged.best, token, reached))
     }
 
-    // The end of a text of this many bytes.
+    // The result at the end of a text of this many bytes.
     fn end(mut self, alloc: Global, stand: ReaderState, len: usize) -> Result<Program, ReadError>
         ensures { Closes stand.state stand.last (maybe_fault stand.best) self.entry len result }
     {
@@ -213,7 +213,7 @@ impl<'a> Draft<'a> {
     }
 }
 
-/// Reads the program that a text spells: `Ok` exactly where the bytes spell a program within the limits, and then with
+/// Reads the program that a text spells: `Ok` exactly if the bytes spell a program within the limits, and then with
 /// that program, by numbers, which is valid.
 ///
 /// # Errors

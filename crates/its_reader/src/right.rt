@@ -37,7 +37,7 @@ fn behind_right(wrap: Wrap) -> ParserState
 }
 
 impl<'a> Draft<'a> {
-    /// The state behind a piece from the arrow to the end of the target. None where the piece can't follow.
+    /// The state after a piece from the arrow to the end of the target. None where the piece can't follow.
     pub(crate) fn advance_in_right(
         &mut self,
         alloc: Global,

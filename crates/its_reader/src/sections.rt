@@ -21,7 +21,7 @@ fn leads_if(test: bool, behind: SectionState) -> Option<ParserState>
 }
 
 impl<'a> Draft<'a> {
-    /// The state behind a piece outside rules, at this position. None where the piece can't follow.
+    /// The state after a piece outside rules, at this position. None where the piece can't follow.
     pub(crate) fn advance_in_sections(
         &mut self,
         alloc: Global,

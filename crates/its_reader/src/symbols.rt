@@ -104,7 +104,7 @@ impl<'a> Symbols<'a> {
         }
     }
 
-    // A new symbol has this many places.
+    // Stores the number of places of a new symbol.
     fn keep(&mut self, number: usize, arity: u32) -> Result<(), Memory>
         ensures arities { OnOk result (self.new.arities.items
             ≡ (if nat_lt number (length self.old.arities.items) then self.old.arities.items else

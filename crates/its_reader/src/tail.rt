@@ -1,4 +1,4 @@
-//! The steps of parsing behind the target of a rule.
+//! The steps of parsing after the target of a rule.
 
 ghost use Rattle.std.specs.Prelude.{◌≡◌, ◌&&◌, ◌||◌, not, IfOk};
 ghost use Rattle.its_reader.specs.Views.{piece_of as plain_of, maybe_of};
@@ -21,7 +21,7 @@ use model::Memory;
 use std::alloc::{AllocError, Global};
 
 impl<'a> Draft<'a> {
-    /// The state behind a piece behind a target, given the piece after it. None where the piece can't follow.
+    /// The state after a piece after a target, given the piece after it. None where the piece can't follow.
     pub(crate) fn advance_in_tail(
         &mut self,
         alloc: Global,
@@ -192,7 +192,7 @@ fn leaves_rule(piece: Piece<'_>) -> bool
     piece.closes() || piece.names()
 }
 
-// Behind `:|:` the end of the section, or a rule's source.
+// After `:|:` the end of the section, or a rule's source.
 fn ends_mark(piece: Piece<'_>, behind: Option<Piece<'_>>) -> bool
     ensures { result ≡ (tests.closes (plain_of piece.entry) || (tests.names (plain_of piece.entry) && tests.is_open
         (maybe_of behind.entry))) }
@@ -215,7 +215,7 @@ impl<'a> RuleDraft<'a> {
         !self.has_read_atom() || piece.joins()
     }
 
-    // A piece goes on with the expression of an atom.
+    // A piece continues the expression of an atom.
     fn atom_goes_on(&self, piece: Inner<'a>) -> bool
         ensures { result ≡ goes_on_in self.now.guard (inner_plain piece.entry) }
     {

@@ -1,5 +1,5 @@
--- Along each step what is read is within the limits exactly where it was before, and the front is quiet: within the
--- arguments of a right term, and behind it.
+-- Along each step what is read is within the limits exactly if it was before, and the state is quiet: within the
+-- arguments of a right term, and after it.
 use Rattle.std.proofs.Common.{◌≡◌, false, not, ◌↔◌, List, [], ◌∷◌, length, Option, Some, None, refl, ap, sym, subst}
 use Rattle.std.proofs.Common.{arith}
 use Rattle.expr_text.specs.model.Limits.{place_limit}
@@ -26,7 +26,7 @@ use Rattle.its_text.proofs.SectionTurns.{Turns}
 use Rattle.its_text.proofs.ExpressionRoom.{goes_on, goes_off, room_for_token, plain_going, room_for_piece, room_for_one}
 use Rattle.its_text.proofs.ExpressionRoom.{some_begun}
 
--- an argument goes on
+-- a step within an argument that continues it
 pub argument_goes_on : (a : Aimed) (arguments : List Sum) (e f : expression.Front) (p : inner.Piece)
     (behind : Option Piece) → expression_steps.step e p ≡ Some f
     → IsArguingKept a arguments f ↔ (IsArguingKept a arguments e × IsArgumentQuiet a arguments e (Some (In p)) behind)
@@ -58,7 +58,7 @@ argument_goes_on a arguments e f p behind same =
           },
     )
 
--- an argument that is wanted
+-- an argument that must follow
 pub argument_wanted : (a : Aimed) (arguments : List Sum) → IsArguingKept a arguments expression.beginning
     ↔ HasRight a.led (record { name = a.name; arguments = arguments })
 argument_wanted a arguments = (
@@ -78,7 +78,7 @@ argument_wanted a arguments = (
   },
 )
 
--- a right term without arguments is within the limits exactly where what was read before it is
+-- a right term without arguments is within the limits exactly if what was read before it is
 pub no_argument : (a : Aimed) → HasRight a.led (record { name = a.name; arguments = [] }) ↔ IsAimedKept a
 no_argument a = (
   λ h. (h.led, h.symbol),
@@ -134,7 +134,7 @@ pub shut_kept : (l : Led) (wrap : Wrap) (t : RightTerm) (ps : List Piece) → Is
 shut_kept l InCom t ps = (λ h. h, λ h. h)
 shut_kept l Alone t ps = (λ h. h, λ h. h)
 
--- behind the bracket of a right term
+-- a step that begins an argument after the bracket of a right term
 opened : (a : Aimed) (f : expression.Front) (p : inner.Piece) (ps : List Piece)
     → expression_steps.step expression.beginning p ≡ Some f → Turns (RightOpened a) (In p) ps (Some (Arguing a [] f))
 opened a f p ps same =
@@ -145,7 +145,7 @@ opened a f p ps same =
       λ h. on.1 (wanted.1 (none.1 h.0), record { argument = λ ends. tt; few = refl; going = h.1 }),
     )
 
--- behind the bracket of a right term each step keeps the limits exactly where the front is quiet
+-- after the bracket of a right term each step keeps the limits exactly if the state is quiet
 pub opened_turns : (a : Aimed) (p : inner.Piece) (ps : List Piece) → Turns (RightOpened a) (In p) ps (behind_open a p)
 opened_turns a (inner.Word n) ps = opened a _ (inner.Word n) ps refl
 opened_turns a (inner.Digits ds) ps = opened a _ (inner.Digits ds) ps refl
@@ -207,7 +207,7 @@ arguing_by : (a : Aimed) (arguments : List Sum) (e : expression.Front) (p : inne
 arguing_by a arguments e p ps (Some f) same = argument_goes_on a arguments e f p (first ps) same
 arguing_by a arguments e p ps None same = argued_by a arguments e p ps (expression_steps.finish e) refl same
 
--- within an argument each step keeps the limits exactly where the front is quiet
+-- within an argument each step keeps the limits exactly if the state is quiet
 pub arguing_turns : (a : Aimed) (arguments : List Sum) (e : expression.Front) (p : inner.Piece) (ps : List Piece)
     → Turns (Arguing a arguments e) (In p) ps (step (Arguing a arguments e) (In p))
 arguing_turns a arguments e p ps = arguing_by a arguments e p ps (expression_steps.step e p) refl
@@ -230,19 +230,20 @@ parted_by a arguments e ps (Some s) same =
       λ h. wanted.1 (ends.1 (h.0, subst (IsArgumentExpanded (names_with a.led arguments)) same (h.1.argument refl))),
     )
 
--- a comma behind an argument keeps the limits exactly where the front is quiet
+-- a comma after an argument keeps the limits exactly if the state is quiet
 pub parted_turns : (a : Aimed) (arguments : List Sum) (e : expression.Front) (ps : List Piece)
     → Turns (Arguing a arguments e) Comma ps (behind_comma a arguments (expression_steps.finish e))
 parted_turns a arguments e ps = parted_by a arguments e ps (expression_steps.finish e) refl
 
--- behind `Com_1(` and its term
+-- a step after `Com_1(` and its term
 pub right_shut_turns : (l : Led) (t : RightTerm) (ps : List Piece)
     → Turns (TargetClosed l t) (In inner.Close) ps (step (TargetClosed l t) (In inner.Close))
 right_shut_turns l t ps =
     let same = arity_same (with_right (symbols_behind l) t) t.name (length t.arguments) in
     (λ h. (h.0, same.1 h.1), λ h. (h.0, same.0 h.1))
 
--- behind a target
+-- a target's term is within the limits and has its symbol's arity exactly if the target is within the limits and no
+-- arity differs
 pub target_kept : (l : Led) (target : Target) → (HasRight l (term_in target) × HasTargetArity l (term_in target))
     ↔ (IsTargetKept l target × (bare_differs l target ≡ false))
 target_kept l (Marked t) = (λ h. (h, refl), λ h. h.0)

@@ -1,4 +1,4 @@
--- A text goes on from each front that pieces lead to.
+-- A text can be completed from each state that pieces lead to.
 use Rattle.std.specs.Prelude.{◌≡◌, List, [], ◌∷◌, codes, Some, None, refl}
 use Rattle.std.proofs.Common.{◌∙◌, ap}
 use Rattle.expr_text.specs.model.Programs.{Name}
@@ -26,11 +26,11 @@ use Rattle.its_text.specs.Steps.{square_ended, shut_by, right_shut, left_shut, b
 use Rattle.its_text.specs.Grammar.{programs}
 use Rattle.its_text.proofs.Ends.{ends}
 
--- pieces lead to a front
+-- pieces lead to a state
 abbrev pub At : List Piece → Front → Type 0
 At done f = reached programs done ≡ Some f
 
--- where one piece more can go on, so can what is before it
+-- if pieces with one more can be completed, so can they without it
 back : (p : Piece) (done : List Piece) → IsBeginning programs (p ∷ done) → IsBeginning programs done
 back p done b = (b.0, p ∷ b.1, b.2)
 
@@ -145,7 +145,7 @@ arguing_steps : (a : Aimed) (arguments : List Sum) (done : List Piece) (e f : ex
     → At done (Arguing a arguments e) → expression_steps.step e p ≡ Some f → At (In p ∷ done) (Arguing a arguments f)
 arguing_steps a arguments done e f p at same = onward done (Arguing a arguments e) (Arguing a arguments f) (In p) at (ap (λ o. argument_step a arguments e o p) same)
 
--- the closing bracket behind an argument that can end
+-- the closing bracket after an argument that can end
 pub argument_closes : (a : Aimed) (arguments : List Sum) (e : expression.Front) (s : Sum) → expression_steps.finish e ≡ Some s
     → step (Arguing a arguments e) close_bracket ≡ Some (right_shut a (s ∷ arguments))
 argument_closes a arguments e s same = ap (λ o. argument_step a arguments e o inner.Close) (close_ends e s same) ∙ ap (λ o. behind_argument a arguments o inner.Close) same
@@ -189,7 +189,7 @@ square_goes : (h : Headed) (g : guards.GuardFront) (done : List Piece) → At do
 square_goes h g done at =
     guard_completed In (λ behind k. At behind (SquareGuarding h k)) (λ behind. IsBeginning programs behind) (square_steps h) back (square_ends h) g done at
 
--- a text goes on from each front that pieces lead to
+-- a text can be completed from each state that pieces lead to
 pub goes_on : (done : List Piece) (f : Front) → reached programs done ≡ Some f → IsBeginning programs done
 goes_on done (Between ss) at = between_goes ss done at
 goes_on done (Opened ss) at = opened_goes ss done at

@@ -1,4 +1,4 @@
--- Along each step what is read is within the limits exactly where it was before, and the front is quiet: behind a left
+-- Along each step what is read is within the limits exactly if it was before, and the state is quiet: after a left
 -- term, and within a cost.
 use Rattle.std.proofs.Common.{◌≡◌, ◌≤◌, false, ◌↔◌, List, length, Option, Some, None, refl, ap, sym, subst, arith}
 use Rattle.std.proofs.lemmas.List.{length-reverse}
@@ -29,11 +29,11 @@ places_kept r t =
     let same = arity_same (symbols_led r t) t.name (length t.arguments) in
     (λ h. (h.0, same.1 h.1), λ h. (h.0, same.0 h.1))
 
--- and its variables are fewer than may be in a rule
+-- the variables of a left term are fewer than may be in a rule
 few_left : (t : LeftTerm) → AreLeft t.arguments → length (left_names t) ≤ variable_limit
 few_left t left = let few = left.1 in let same = length-reverse t.arguments in omega (arith, few, same)
 
--- `->` keeps the limits exactly where the front is quiet
+-- `->` keeps the limits exactly if the state is quiet
 pub arrow_turns : (r : Ruling) (t : LeftTerm) (ps : List Piece)
     → Turns (SourceClosed r t) Arrow ps (Some (behind_left r t None))
 arrow_turns r t ps =
@@ -42,7 +42,7 @@ arrow_turns r t ps =
       λ h. record { source = places.1 h; cost = tt; variables = few_left t h.0.1 },
     )
 
--- the same for `-{`
+-- `-{` keeps the limits exactly if the state is quiet
 pub cost_turns : (r : Ruling) (t : LeftTerm) (ps : List Piece)
     → Turns (SourceClosed r t) CostOpen ps (Some (Costing r t expression.beginning))
 cost_turns r t ps =
@@ -51,7 +51,7 @@ cost_turns r t ps =
       λ h. record { source = places.1 h; tokens = omega arith; variables = few_left t h.0.1 },
     )
 
--- a cost goes on
+-- a step within a cost that continues it
 cost_goes_on : (r : Ruling) (t : LeftTerm) (e f : expression.Front) (p : inner.Piece) (behind : Option Piece)
     → expression_steps.step e p ≡ Some f
     → IsCostingKept r t f ↔ (IsCostingKept r t e × IsCostQuiet r t e (Some (In p)) behind)
@@ -99,7 +99,7 @@ cost_ends r t e c same =
       },
     )
 
--- within a cost each step keeps the limits exactly where the front is quiet
+-- within a cost each step keeps the limits exactly if the state is quiet
 pub costing_turns : (r : Ruling) (t : LeftTerm) (e : expression.Front) (p : inner.Piece) (ps : List Piece)
     → Turns (Costing r t e) (In p) ps (cost_step r t (expression_steps.step e p))
 costing_turns r t e p ps = go (expression_steps.step e p) refl
@@ -109,7 +109,7 @@ costing_turns r t e p ps = go (expression_steps.step e p) refl
     go None same = tt
     go (Some f) same = cost_goes_on r t e f p (first ps) same
 
--- `}>` behind a cost keeps the limits exactly where the front is quiet
+-- `}>` after a cost keeps the limits exactly if the state is quiet
 pub cost_closed_turns : (r : Ruling) (t : LeftTerm) (e : expression.Front) (ps : List Piece)
     → Turns (Costing r t e) CostClose ps (cost_ended r t (expression_steps.finish e))
 cost_closed_turns r t e ps = go (expression_steps.finish e) refl

@@ -62,7 +62,7 @@ pub distinct_reverse : (names : List Name) → AreDistinct names → AreDistinct
 distinct_reverse [] h = tt
 distinct_reverse (n ∷ names) h = subst AreDistinct (sym (reverse-cons n names)) (distinct_one_more (reverse names) n (distinct_reverse names h.1) (none_in_reverse n names h.0))
 
--- what holds of each element of a list does so in the other order
+-- a property of each element of a list holds in the reversed list
 pub all_reverse : {X : Type 0} (P : X → Type 0) (xs : List X) → AllByRecursion P xs → AllByRecursion P (reverse xs)
 all_reverse P [] h = tt
 all_reverse P (x ∷ xs) h = subst (AllByRecursion P) (sym (reverse-cons x xs)) (all_one_more P (reverse xs) x (all_reverse P xs h.1) h.0)
@@ -80,7 +80,7 @@ good_with names n g is = go (is_among n names) refl
     go false e = (all_one_more IsName names n g.0 is, distinct_one_more names n g.1 e)
 
 mutual
-  -- what comes before an expression has names for words
+  -- if the words of an expression after pieces are names, so are those of the pieces
   sum_peel : (s : Sum) (before : List Piece) → AreNamed (sum_behind In s before) → AreNamed before
   sum_peel (Alone p) before h = product_peel p before h
   sum_peel (Added s p) before h = sum_peel s before (product_peel p (In inner.Plus ∷ sum_behind In s before) h).1
@@ -124,7 +124,7 @@ mutual
   base_good (Named n) before names g h = good_with names n g h.0
   base_good (Bracketed s) before names g h = sum_good s (In inner.Open ∷ before) names g h.1
 
--- and an atom, and atoms
+-- if the words of atoms after pieces are names, so are those of the pieces, and the variables stay names that differ
 atom_peel : (a : Atom) (before : List Piece) → AreNamed (atom_behind In a before) → AreNamed before
 atom_peel (Always t) before h = h.1
 atom_peel (Compared l sign r) before h = sum_peel l before (sum_peel r (In (inner.Related sign) ∷ sum_behind In l before) h).1
@@ -143,7 +143,7 @@ atoms_good (First a) before names g h = atom_good a before names g h
 atoms_good (Joined atoms joint a) before names g h =
     atom_good a (In (inner.Joining joint) ∷ atoms_behind In atoms before) (with_atoms names atoms) (atoms_good atoms before names g (atom_peel a (In (inner.Joining joint) ∷ atoms_behind In atoms before) h).1) h
 
--- arguments
+-- if the words of arguments after pieces are names, so are those of the pieces, and the variables stay such names
 sums_peel : (sums : List Sum) (before : List Piece) → AreNamed (sums_behind sums before) → AreNamed before
 sums_peel [] before h = h
 sums_peel (s ∷ []) before h = sum_peel s before h
@@ -160,7 +160,7 @@ names_named [] before h = (tt, h)
 names_named (a ∷ []) before h = ((h.0, tt), h.1)
 names_named (a ∷ b ∷ names) before h = let x = names_named (b ∷ names) before h.1.1 in ((h.0, x.0), x.1)
 
--- what a left term, a right one and a target have for names
+-- the words of a left term, of a right one and of a target are names
 pub record LeftNamed (t : LeftTerm) (before : List Piece) : Type 0 where
   pub name : IsName t.name
   pub arguments : AllByRecursion IsName t.arguments
@@ -194,7 +194,7 @@ arrow_good : (cost : Option Sum) (before : List Piece) (names : List Name) → A
 arrow_good None before names g h = g
 arrow_good (Some c) before names g h = sum_good c (CostOpen ∷ before) names g h.1
 
--- and a guard
+-- if the words of a guard after pieces are names, so are those of the pieces, and its variables are names that differ
 pub record GuardNamed (g : Guard) (before : List Piece) : Type 0 where
   pub good : (names : List Name) → AreGood names → AreGood (with_guard names g)
   pub earlier : AreNamed before

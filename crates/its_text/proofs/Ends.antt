@@ -11,7 +11,7 @@ use Rattle.its_text.proofs.EveryStep.{ended}
 use Rattle.its_text.proofs.StepLaws.{Leads, step_leads}
 use Rattle.its_text.proofs.Shapes.{IsFront, Keeps, step_keeps}
 
--- what is known of a front that pieces lead to: it is written as they are, and its targets are as they are to be
+-- a state that pieces lead to is written as they are, and its targets have the right form
 abbrev pub Known : List Piece → Option Front → Type 0
 Known done None = ⊤
 Known done (Some f) = (front_pieces f ≡ done) × IsFront f
@@ -28,7 +28,7 @@ reached_known : (done : List Piece) → Known done (reached programs done)
 reached_known [] = (refl, tt)
 reached_known (p ∷ done) = next_known done p (reached programs done) (reached_known done)
 
--- a front that pieces lead to is written as they are
+-- a state that pieces lead to is written as they are
 pub front_known : (done : List Piece) (f : Front) → reached programs done ≡ Some f → (front_pieces f ≡ done) × IsFront f
 front_known done f at = subst (λ o. Known done o) at (reached_known done)
 

@@ -1,4 +1,4 @@
--- What holds of each step that leads somewhere holds of every step, and a text ends between sections alone.
+-- A property of each accepting step is one of every step, and a text can end only between sections.
 use Rattle.std.proofs.Common.{◌≡◌, List, Option, Some, ap}
 use Rattle.its_text.specs.Pieces.{Piece}
 use Rattle.its_text.specs.Fronts.{Front, Between, Opened, GoalNamed, GoalRead, StartNamed, StartOpened, StartListed}
@@ -20,7 +20,7 @@ use Rattle.its_text.proofs.RuleCases.{guard_marked_case, word_read_case, mark_gu
 use Rattle.its_text.proofs.RuleCases.{square_guarding_case}
 
 module _ (P : Front → Piece → Option Front → Type 0) (each : HoldsOfSteps P) where
-  -- by the front before the step
+  -- by the state before the step
   pub of_step : (f : Front) (p : Piece) → P f p (step f p)
   of_step (Between ss) p = between_case P each ss p
   of_step (Opened ss) p = opened_case P each ss p
@@ -54,7 +54,7 @@ module _ (P : Front → Piece → Option Front → Type 0) (each : HoldsOfSteps 
   of_step (SquareOpened h) p = square_opened_case P each h p
   of_step (SquareGuarding h g) p = square_guarding_case P each h g p
 
--- where a text can end, what has been read are its sections
+-- if a text can end in a state, the state has its sections
 pub ended : (f : Front) (ss : List Section) → finish f ≡ Some ss → f ≡ Between ss
 ended (Between ts) ss same = let e : ts ≡ ss = cc in ap Between e
 ended (Opened ts) ss same = cc

@@ -1,5 +1,5 @@
--- Room for what an expression's next piece adds: it is within the limits exactly where what was before it is, and the
--- test of the limit fails.
+-- Room for one more piece of an expression: the expression with it is within the limits exactly if the one before is,
+-- and the test of the limit fails.
 use Rattle.std.proofs.Common.{◌≡◌, ℕ, zero, suc, ◌+◌, ◌≤◌, min, Bool, true, false, not, if◌then◌else◌, ◌&&◌, ◌==◌, ◌↔◌}
 use Rattle.std.proofs.Common.{nat_le, List, [], ◌∷◌, ◌++◌, length, length-append, Option, Some, None, refl, ap, sym}
 use Rattle.std.proofs.Common.{◌∙◌, arith}
@@ -18,15 +18,15 @@ use Rattle.its_text.specs.FrontFaults.{OpenExpression, is_operating}
 use Rattle.its_text.proofs.RoomLaws.{below, not_at, is_zero, not_zero, and_true}
 use Rattle.its_text.proofs.KeptFronts.{begun}
 
--- a piece goes on with an expression exactly where its step leads somewhere
+-- a piece continues an expression exactly if its step accepts it
 pub goes_on : (e f : expression.Front) (p : inner.Piece) → expression_steps.step e p ≡ Some f → goes_on_with e p ≡ true
 goes_on e f p same = ap is_front same
 
--- where its step leads nowhere a piece doesn't go on with an expression
+-- a piece that an expression's step rejects doesn't continue it
 pub goes_off : (e : expression.Front) (p : inner.Piece) → expression_steps.step e p ≡ None → goes_on_with e p ≡ false
 goes_off e p same = ap is_front same
 
--- a token more is within the limit exactly where there was room
+-- a token more is within the limit exactly if there was room
 pub room_for_token : (e f : expression.Front) (p : inner.Piece) → expression_steps.step e p ≡ Some f
     → (token_count f ≤ token_limit) ↔ ((token_count e ≤ token_limit) × (nat_le token_limit (token_count e) ≡ false))
 room_for_token e f p same =
@@ -52,7 +52,7 @@ name_room names n false e =
       λ h. let few = below variable_limit (length names) h.1 in omega (arith, few, same),
     )
 
--- with a name the variables are within the limit exactly where they were and there was room for it
+-- with a name the variables are within the limit exactly if they were and there was room for it
 pub room_for_name : (names : List Name) (n : Name)
     → (length (with_name names n) ≤ variable_limit)
     ↔ ((length names ≤ variable_limit) × ((not (is_among n names) && nat_le variable_limit (length names)) ≡ false))
@@ -78,7 +78,7 @@ piece_room names e inner.Caret behind = (λ h. (h, refl), λ h. h.0)
 piece_room names e (inner.Related sign) behind = (λ h. (h, refl), λ h. h.0)
 piece_room names e (inner.Joining joint) behind = (λ h. (h, refl), λ h. h.0)
 
--- with a piece the variables are within the limit exactly where they were and the test for it fails
+-- with a piece the variables are within the limit exactly if they were and the test for it fails
 pub room_for_piece : (names : List Name) (e f : expression.Front) (p : inner.Piece) (behind : Option Piece)
     → expression_steps.step e p ≡ Some f
     → (length (with_front names f) ≤ variable_limit)
@@ -114,13 +114,13 @@ begun_room limit n e f p same false e0 =
     let some = not_zero (token_count e) e0 in
     (λ h. (omega (arith, h, some, more), refl), λ h. let few = h.0 in omega (arith, few, some, more))
 
--- with one more that a piece begins a limit is kept exactly where it was and there was room
+-- with one more that a piece begins a limit is kept exactly if it was and there was room
 pub room_for_one : (limit n : ℕ) (e f : expression.Front) (p : inner.Piece) → expression_steps.step e p ≡ Some f
     → (n + begun f ≤ limit)
     ↔ ((n + begun e ≤ limit) × (((token_count e == 0) && nat_le limit n && begins_expression p) ≡ false))
 room_for_one limit n e f p same = begun_room limit n e f p same (token_count e == 0) refl
 
--- what has a token is begun
+-- an expression with a token has begun
 pub some_begun : (e : expression.Front) → ¬ (token_count e ≡ 0) → begun e ≡ 1
 some_begun e some = go (token_count e) some
   where
@@ -149,7 +149,7 @@ word_room names e n behind true is =
     (λ h. (omega (arith, h, same), refl), λ h. let few = h.0 in omega (arith, few, same))
 word_room names e n behind false is = room_for_name (with_front names e) n
 
--- where the atom that always holds can come, there is room exactly where there was and the test for it fails
+-- where the atom that always holds can come, there is room exactly if there was and the test for it fails
 pub leading_room : (names : List Name) (e : expression.Front) (p : inner.Piece) (behind : Option Piece)
     → (length (if begins_truth e p && not (is_operating behind) then names else with_piece (with_front names e) p) ≤
     variable_limit)

@@ -31,7 +31,7 @@ pub chosen_first : {X : Type 0} (v : Bool) (x y : X) → v ≡ true → (if v th
 chosen_first true x y e = refl
 chosen_first false x y e = cc
 
--- the variables that count in behind one more piece
+-- the variables that count in after one more piece
 counted_more : (names : List Name) (c : Conjoined) (e f : expression.Front) (p : inner.Piece) (behind : Option Piece)
     → expression_steps.step e p ≡ Some f
     → counted names c f behind
@@ -43,7 +43,7 @@ counted_more names c e f p behind same =
     ∙ ap (λ ns. if begins_truth e p && not (is_operating behind) then with_conjoined names c else ns)
     (names_more (with_conjoined names c) e f p same)
 
--- and before it
+-- the variables that count in before one more piece
 counted_before : (names : List Name) (c : Conjoined) (e f : expression.Front) (p : inner.Piece)
     → expression_steps.step e p ≡ Some f
     → counted names c e (Some (In p)) ≡ with_front (with_conjoined names c) e
@@ -51,7 +51,7 @@ counted_before names c e f p same =
     chosen_second (is_some (truth_of e) && not (operates p)) (with_conjoined names c)
     (with_front (with_conjoined names c) e) (truth_goes_on e f p same)
 
--- a name more in a left side counts in exactly where there is room for it
+-- a name more in a left side counts in exactly if there is room for it
 pub room_in_left : (names : List Name) (c : Conjoined) (e f : expression.Front) (p : inner.Piece)
     (behind : Option Piece)
     → expression_steps.step e p ≡ Some f
@@ -68,7 +68,7 @@ room_in_left names c e f p behind same =
       λ h. subst (λ n. n ≤ variable_limit) (sym more) (room.1 (subst (λ n. n ≤ variable_limit) before h.0, h.1)),
     )
 
--- an atom more, beside the rule's cost, keeps the limit exactly where there is room for it
+-- an atom more, beside the rule's cost, keeps the limit exactly if there is room for it
 pub room_for_atom : (cost : Option Sum) (c : Conjoined) (e f : expression.Front) (p : inner.Piece)
     → expression_steps.step e p ≡ Some f
     → ((conjoined_count c + atoms_of_cost cost) + begun f ≤ atom_limit)

@@ -1,4 +1,4 @@
--- Along each step of a guard what is read is within the limits exactly where it was before, and the guard is quiet.
+-- Along each step of a guard what is read is within the limits exactly if it was before, and the guard is quiet.
 use Rattle.std.proofs.Common.{◌≡◌, ℕ, suc, ◌+◌, ◌≤◌, true, false, not, ◌&&◌, ◌↔◌, is_some, List}
 use Rattle.std.proofs.Common.{length, Option, Some, None, refl, ap, sym, subst, ◌∙◌, arith}
 use Rattle.std.specs.Prelude.{⊤}
@@ -29,7 +29,7 @@ use Rattle.its_text.proofs.KeptFronts.{IsGuardKept, IsRightExpanded, IsAtomExpan
 use Rattle.its_text.proofs.ExpressionRoom.{goes_on, goes_off, room_for_token, room_for_piece, some_begun}
 use Rattle.its_text.proofs.GuardRoom.{chosen_second, chosen_first, room_in_left, room_for_atom}
 
--- a piece leads nowhere, or to a guard that keeps the limits exactly where the one before does and is quiet
+-- a piece is rejected, or leads to a guard that keeps the limits exactly if the one before does and is quiet
 abbrev GuardTurns : ℕ → List Name → GuardFront → inner.Piece → Option Piece → Option GuardFront → Type 0
 GuardTurns others names g p behind None = ⊤
 GuardTurns others names g p behind (Some k) =
@@ -40,7 +40,7 @@ module _ (cost : Option Sum) (names : List Name) where
   abbrev others : ℕ
   others = atoms_of_cost cost
 
-  -- an atom's left side goes on
+  -- a step within an atom's left side that continues it
   left_goes_on : (c : Conjoined) (e f : expression.Front) (p : inner.Piece) (behind : Option Piece)
       → expression_steps.step e p ≡ Some f → GuardTurns others names (LeftSide c e) p behind (Some (LeftSide c f))
   left_goes_on c e f p behind same =
@@ -64,7 +64,7 @@ module _ (cost : Option Sum) (names : List Name) where
             },
       )
 
-  -- the same for its right side
+  -- a step within an atom's right side that continues it
   right_goes_on : (c : Conjoined) (l : Sum) (sign : inner.Sign) (e f : expression.Front) (p : inner.Piece)
       (behind : Option Piece) → expression_steps.step e p ≡ Some f
       → GuardTurns others names (RightSide c l sign e) p behind (Some (RightSide c l sign f))
@@ -133,7 +133,7 @@ module _ (cost : Option Sum) (names : List Name) where
     pub within : AreAtomsWithin (with_atoms names atoms) atoms
     pub variables : length (with_atoms names atoms) ≤ variable_limit
 
-  -- the atom that always holds, behind others
+  -- the number of atoms with the atom that always holds after others
   always_count : (c : Conjoined) (a : Atom) → count_of (atoms_with c a) ≡ suc (conjoined_count c)
   always_count NoAtoms a = refl
   always_count (JointAfter atoms joint) a = refl
@@ -178,7 +178,7 @@ module _ (cost : Option Sum) (names : List Name) where
             },
       )
 
-  -- two expressions and a relation, behind others
+  -- the variables of two expressions and a relation after other atoms
   compared_names : (c : Conjoined) (l : Sum) (sign : inner.Sign) (r : Sum)
       → with_atoms names (atoms_with c (Compared l sign r)) ≡ with_sum (with_sum (with_conjoined names c) l) r
   compared_names NoAtoms l sign r = refl
@@ -225,7 +225,7 @@ module _ (cost : Option Sum) (names : List Name) where
             },
       )
 
-  -- a guard ends with atoms that are within the limits exactly where it was, and the last atom can be expanded
+  -- a guard ends with atoms that are within the limits exactly if it was, and the last atom can be expanded
   some_is : {X : Type 0} (P : X → Type 0) (x y : X) → Some x ≡ Some y → P x → P y
   some_is P x y e h = subst P (let same : x ≡ y = cc in same) h
 
@@ -253,7 +253,7 @@ module _ (cost : Option Sum) (names : List Name) where
         λ h. ends.1 (h.0, subst (IsRightExpanded (with_sum (with_conjoined names c) l) l sign) same (h.1 off)),
       )
 
-  -- atoms that end are within the limits exactly where the guard was, and the last can be expanded
+  -- atoms that end are within the limits exactly if the guard was, and the last can be expanded
   pub guard_ends : (g : GuardFront) (atoms : Atoms) (next : Option Piece) → guards.finish g ≡ Some atoms
       → is_operating next ≡ false → ends_expression (guards.expression_in g) next ≡ true
       → AreEnded atoms ↔ (IsGuardKept others names g next × IsAtomExpanded names g next)
@@ -261,7 +261,7 @@ module _ (cost : Option Sum) (names : List Name) where
   guard_ends (RightSide c l sign e) atoms next same operates off =
       right_ends c l sign e atoms next (expression_steps.finish e) refl same off
 
-  -- the next atom is wanted
+  -- the next atom must follow
   atom_wanted : (atoms : Atoms) (joint : inner.Joint) (behind : Option Piece)
       → IsLeftKept others names (JointAfter atoms joint) expression.beginning behind ↔ AreEnded atoms
   atom_wanted atoms joint behind = (
@@ -335,7 +335,7 @@ module _ (cost : Option Sum) (names : List Name) where
   within_turns (LeftSide c e) p behind None same = behind_turns (LeftSide c e) p behind same
   within_turns (RightSide c l sign e) p behind None same = behind_turns (RightSide c l sign e) p behind same
 
-  -- along each step a guard is within the limits exactly where it was before, and it is quiet
+  -- along each step a guard is within the limits exactly if it was before, and it is quiet
   pub guard_turns : (g k : GuardFront) (p : inner.Piece) (behind : Option Piece) → guards.step g p ≡ Some k
       → IsGuardKept others names k behind ↔ (IsGuardKept others names g (Some (In p)) × IsGuardQuiet others names g (Some (In p)) behind)
   guard_turns g k p behind same =

@@ -1,4 +1,4 @@
--- What has been read is within the limits, front by front, and what a front has to find next so that it shows nothing.
+-- The pieces read so far are within the limits, state by state; and when a state shows no fault at the next piece.
 use Rattle.std.proofs.Common.{◌≡◌, ℕ, suc, ◌+◌, ◌≤◌, min, true, false, not, if◌then◌else◌, ◌&&◌, is_some, nat_le, List}
 use Rattle.std.proofs.Common.{[], ◌∷◌, length, Option, Some, None}
 use Rattle.std.specs.Prelude.{⊤}
@@ -50,7 +50,7 @@ pub record AreDone (ss : List Section) : Type 0 where
   pub named : HaveRules (rules_of ss)
   pub within : HaveRulesWithin (rules_of ss)
 
--- the same for the rules so far, of the first section of rules
+-- the rules so far, of the first section of rules, are within the limits
 pub record IsRulingKept (r : Ruling) : Type 0 where
   pub sections : AreDone r.sections
   pub once : has is_rules r.sections ≡ false
@@ -58,7 +58,7 @@ pub record IsRulingKept (r : Ruling) : Type 0 where
   pub rules : AreRules (symbols_of r.rules) r.rules
   pub within : AreRulesWithin r.rules
 
--- and another rule may come
+-- a ruling is within the limits, and another rule may come
 abbrev pub IsOpenRuling : Ruling → Type 0
 IsOpenRuling r = IsRulingKept r × (suc (length r.rules) ≤ rule_limit)
 
@@ -66,7 +66,7 @@ IsOpenRuling r = IsRulingKept r × (suc (length r.rules) ≤ rule_limit)
 abbrev pub AreLeft : List Name → Type 0
 AreLeft arguments = AreDistinct arguments × (length arguments ≤ place_limit)
 
--- a left term with such arguments, and as many of them as its symbol has places
+-- a left term is within the limits, and has as many arguments as its symbol has places
 abbrev pub IsSourceOpen : Ruling → LeftTerm → Type 0
 IsSourceOpen r t = IsOpenRuling r × AreLeft t.arguments
 
@@ -96,7 +96,7 @@ pub record HasRight (l : Led) (t : RightTerm) : Type 0 where
   pub arguments : AreArgumentsWithin (names_with l t.arguments) t.arguments
   pub variables : length (names_with l t.arguments) ≤ variable_limit
 
--- with as many arguments as its symbol has places
+-- a right term has as many arguments as its symbol has places
 abbrev pub HasTargetArity : Led → RightTerm → Type 0
 HasTargetArity l t = arity_of (with_right (symbols_behind l) t) t.name ≡ length t.arguments
 
@@ -107,7 +107,7 @@ IsTargetKept l (Bare t) = HasRight l t
 abbrev pub IsHeadedKept : Headed → Type 0
 IsHeadedKept h = HasRight h.led (term_in h.target) × HasTargetArity h.led (term_in h.target)
 
--- some of an argument behind others
+-- 1 if some of an argument was read, else 0
 abbrev pub begun : expression.Front → ℕ
 begun e = min (token_count e) 1
 
@@ -133,7 +133,7 @@ counted names c e next =
     if is_some (truth_of e) && not (is_operating next) then with_conjoined names c else with_front
     (with_conjoined names c) e
 
--- some of an atom's left side, and of its right side, where the rule's cost counts as so many atoms
+-- some of an atom's left side, and of its right side, where the rule's cost counts as this many atoms
 pub record IsLeftKept (others : ℕ) (names : List Name) (c : Conjoined) (e : expression.Front) (next : Option Piece)
     : Type 0 where
   pub atoms : AreConjoined (with_conjoined names c) c
@@ -156,12 +156,12 @@ IsGuardKept others names (RightSide c l sign e) next = IsRightKept others names 
 abbrev pub HasGuardKept : Headed → GuardFront → Option Piece → Type 0
 HasGuardKept h g next = IsGuardKept (atoms_of_cost h.led.cost) (headed_names h) g next
 
--- a name behind `:|:` begins another rule before a bracket, and else an atom
+-- a name after `:|:` begins another rule before a bracket, and else an atom
 pub record IsWordKept (h : Headed) (name : Name) (next : Option Piece) : Type 0 where
   pub rule : is_open next ≡ true → suc (suc (length h.led.ruling.rules)) ≤ rule_limit
   pub atom : is_open next ≡ false → HasGuardKept h (guard_named name) next
 
--- what has been read is within the limits, where these pieces follow
+-- the pieces read so far are within the limits, if these pieces follow
 abbrev pub IsKept : Front → List Piece → Type 0
 IsKept (Between ss) ps = AreDone ss
 IsKept (Opened ss) ps = AreDone ss × (repeats ss (Some (In inner.Open)) (first ps) ≡ false)
@@ -195,7 +195,7 @@ IsKept (MarkGuarding h g) ps = IsHeadedKept h × HasGuardKept h g (first ps)
 IsKept (SquareOpened h) ps = IsHeadedKept h
 IsKept (SquareGuarding h g) ps = IsHeadedKept h × HasGuardKept h g (first ps)
 
--- a name that is wanted as a left argument is new, there is room for it, and no operator follows
+-- a name that must follow as a left argument is new, there is room for it, and no operator follows
 abbrev pub IsLeftQuiet : List Name → Option Piece → Option Piece → Type 0
 IsLeftQuiet arguments (Some (In (inner.Word name))) behind =
     (is_operator behind ≡ false) × (is_among name arguments ≡ false) × (nat_le place_limit (length arguments) ≡ false)
@@ -208,7 +208,7 @@ IsGoingQuiet (Some g) (Some (In p)) behind =
     (nat_le token_limit (token_count g.front) ≡ false)
 IsGoingQuiet _ _ behind = ⊤
 
--- and no literal is too large
+-- if the next token continues an expression, it is no literal that is too large
 abbrev pub IsGoingSmall : Option OpenExpression → Option Piece → Type 0
 IsGoingSmall (Some g) (Some (In p)) = goes_on_with g.front p ≡ true → is_large p ≡ false
 IsGoingSmall _ _ = ⊤
@@ -218,7 +218,7 @@ abbrev pub IsArgumentExpanded : List Name → Option Sum → Type 0
 IsArgumentExpanded names None = ⊤
 IsArgumentExpanded names (Some s) = polynomials.first_fault (sum_term (with_sum names s) s) ≡ None
 
--- and so can an atom
+-- an atom that has ended can be expanded
 abbrev pub IsRightExpanded : List Name → Sum → inner.Sign → Option Sum → Type 0
 IsRightExpanded names l sign None = ⊤
 IsRightExpanded names l sign (Some r) =
@@ -250,7 +250,8 @@ pub record IsArgumentQuiet (a : Aimed) (arguments : List Sum) (e : expression.Fr
   pub few : shown.passes_arguments (Arguing a arguments e) next ≡ false
   pub going : IsGoingQuiet (shown.open_expression (Arguing a arguments e) next behind) next behind
 
--- a front shows nothing against the next piece and the one behind it, their length and size aside
+-- a state shows no fault at the next piece and the one after it, except for the length of a name and the size of a
+-- number
 abbrev pub IsQuiet : Front → Option Piece → Option Piece → Type 0
 IsQuiet (Between ss) next behind = repeats ss next behind ≡ false
 IsQuiet (Opened ss) next behind = ⊤
@@ -291,6 +292,6 @@ IsQuiet (MarkGuarding h g) next behind =
 IsQuiet (SquareOpened h) next behind = IsGoingQuiet (shown.open_expression (SquareOpened h) next behind) next behind
 IsQuiet (SquareGuarding h g) next behind = HasGuardQuiet h g next behind
 
--- the next piece is within its limits as a word or, where an expression goes on with it, as a literal
+-- the next piece is within its limits: as a word, or as a literal of the expression that it continues
 abbrev pub IsNextSmall : Front → Option Piece → Option Piece → Type 0
 IsNextSmall f next behind = (shown.long_name next ≡ false) × IsGoingSmall (shown.open_expression f next behind) next

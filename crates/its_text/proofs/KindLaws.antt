@@ -28,7 +28,7 @@ kind_at n =
     else if n == 18 then StartUnknown
     else Disjunction
 
--- it is that of the number of each
+-- each kind is the kind at its number
 number_back : (k : Kind) → kind_at (kind_number k) ≡ k
 number_back NotAscii = refl
 number_back Syntax = refl

@@ -1,4 +1,4 @@
--- Along each step what is read is within the limits exactly where it was before, and the front is quiet: from a
+-- Along each step what is read is within the limits exactly if it was before, and the state is quiet: from a
 -- rule's beginning up to the name of its target.
 use Rattle.std.proofs.Common.{◌≡◌, Bool, true, false, not, if◌then◌else◌, ◌&&◌, ◌↔◌, nat_le, codes, List, [], ◌∷◌}
 use Rattle.std.proofs.Common.{length, Some, refl, ap, sym, ◌∙◌, arith}
@@ -17,14 +17,14 @@ use Rattle.its_text.proofs.RoomLaws.{below, not_at, and_true}
 use Rattle.its_text.proofs.KeptFronts.{first, IsRulingKept, IsOpenRuling, AreLeft}
 use Rattle.its_text.proofs.SectionTurns.{Turns, rules_done}
 
--- another rule may come exactly where there are fewer than the limit
+-- another rule may come exactly if there are fewer than the limit
 pub room_for_rule : (r : Ruling) → IsOpenRuling r ↔ (IsRulingKept r × (nat_le rule_limit (length r.rules) ≡ false))
 room_for_rule r = (
   λ h. (h.0, not_at rule_limit (length r.rules) h.1),
   λ h. (h.0, below rule_limit (length r.rules) h.1),
 )
 
--- between rules each step keeps the limits exactly where the front is quiet
+-- between rules each step keeps the limits exactly if the state is quiet
 pub ruled_turns : (r : Ruling) (p : inner.Piece) (ps : List Piece) → Turns (AfterRule r) (In p) ps (behind_rule r p)
 ruled_turns r (inner.Word name) ps = room_for_rule r
 ruled_turns r inner.Close ps = (λ h. ((rules_done r).0 h, refl), λ h. (rules_done r).1 h.0)
@@ -48,7 +48,7 @@ left_more a earlier = (
 no_left : AreLeft []
 no_left = (tt, omega arith)
 
--- the first left argument keeps the limits exactly where the front is quiet
+-- the first left argument keeps the limits exactly if the state is quiet
 pub left_opened_turns : (r : Ruling) (name a : Name) (ps : List Piece)
     → Turns (LeftOpened r name) (word a) ps (Some (LeftRead r name a []))
 left_opened_turns r name a ps =
@@ -57,22 +57,22 @@ left_opened_turns r name a ps =
       λ h. (h.0, more.1 (no_left, h.1.1, h.1.2), h.1.0),
     )
 
--- a left term without arguments keeps the limits exactly where what came before does
+-- a left term without arguments keeps the limits exactly if the pieces before it do
 pub left_closed_turns : (r : Ruling) (name : Name) (ps : List Piece)
     → Turns (LeftOpened r name) (In inner.Close) ps (step (LeftOpened r name) (In inner.Close))
 left_closed_turns r name ps = (λ h. (h.0, tt), λ h. (h.0, no_left))
 
--- the same for a left term with a comma behind an argument
+-- a comma after a left argument keeps the limits
 pub left_comma_turns : (r : Ruling) (name a : Name) (earlier : List Name) (ps : List Piece)
     → Turns (LeftRead r name a earlier) Comma ps (Some (LeftParted r name a earlier))
 left_comma_turns r name a earlier ps = (λ h. ((h.0, h.1, refl), tt), λ h. (h.0.0, h.0.1))
 
--- and so does a left term that is closed behind an argument
+-- the bracket that closes a left term after an argument keeps the limits
 pub left_shut_turns : (r : Ruling) (name a : Name) (earlier : List Name) (ps : List Piece)
     → Turns (LeftRead r name a earlier) (In inner.Close) ps (step (LeftRead r name a earlier) (In inner.Close))
 left_shut_turns r name a earlier ps = (λ h. ((h.0, h.1, refl), tt), λ h. (h.0.0, h.0.1))
 
--- each further left argument keeps the limits exactly where the front is quiet
+-- each further left argument keeps the limits exactly if the state is quiet
 pub left_parted_turns : (r : Ruling) (name a b : Name) (earlier : List Name) (ps : List Piece)
     → Turns (LeftParted r name a earlier) (word b) ps (Some (LeftRead r name b (a ∷ earlier)))
 left_parted_turns r name a b earlier ps =
@@ -97,7 +97,7 @@ inside_com true false o k = (λ h. (refl, h), λ h. h.1)
 inside_com false true o k = let e = k refl in absurd (let f : false ≡ true = e in cc)
 inside_com false false o k = (λ h. (refl, refl), λ h. refl)
 
--- a name behind the arrow keeps the limits exactly where the front is quiet
+-- a name after the arrow keeps the limits exactly if the state is quiet
 pub arrowed_turns : (l : Led) (name : Name) (ps : List Piece) (v : Bool) → is_same name (codes "Com_1") ≡ v
     → Turns (Arrowed l) (word name) ps (Some (if v then ComNamed l else behind_target_name l Alone name))
 arrowed_turns l name ps true e =
@@ -110,7 +110,7 @@ arrowed_turns l name ps false e =
     = ap (λ (v : Bool). is_com name && not v && is_open (first ps)) e ∙ other_open (is_com name) (is_open (first ps)) in
     (λ h. (h.0, same ∙ h.1), λ h. (h.0, sym same ∙ h.1))
 
--- a name within `Com_1` keeps the limits exactly where the front is quiet
+-- a name within `Com_1` keeps the limits exactly if the state is quiet
 pub com_opened_turns : (l : Led) (name : Name) (ps : List Piece)
     → Turns (ComOpened l) (word name) ps (step (ComOpened l) (word name))
 com_opened_turns l name ps =
@@ -119,7 +119,7 @@ com_opened_turns l name ps =
     (λ e. ap is_com (same_equal name (codes "Com_1") e)) in
     (λ h. (h.0, inside.0 h.1), λ h. (h.0, inside.1 h.1))
 
--- the bracket behind the target's name keeps the limits exactly where what came before does
+-- the bracket after the target's name keeps the limits exactly if the pieces before it do
 pub target_opened_turns : (a : Aimed) (ps : List Piece)
     → Turns (TargetNamed a) (In inner.Open) ps (step (TargetNamed a) (In inner.Open))
 target_opened_turns a ps =

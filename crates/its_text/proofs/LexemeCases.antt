@@ -1,4 +1,4 @@
--- What holds of each mark, each word and each literal holds of every lexeme of a program's text.
+-- A property of each mark, each word and each literal holds of every lexeme of a program's text.
 use Rattle.std.proofs.Common.{◌≡◌, ℕ, ◌+◌, Bool, true, false, if◌then◌else◌, ◌&&◌, ◌==◌, nat_lt, List, [], ◌∷◌, length}
 use Rattle.std.proofs.Common.{Option, Some, None, refl}
 use Rattle.std.specs.Prelude.{⊤}
@@ -70,7 +70,7 @@ remark_is_mark b bytes None = tt
 remark_is_mark b bytes (Some len) = tt
 
 module _ (P : Option Piece → Type 0) (each : HoldsOfPieces P) where
-  -- what a byte begins outside of remarks
+  -- the lexeme of a byte outside of comments
   of_lexeme_at : (b : ℕ) (bytes : List ℕ) → P (lexeme_at b bytes).piece
   of_lexeme_at b bytes = of_either P (is_white_space b) _ _ (each.marks None tt) (named (begins_name b) refl)
     where
@@ -84,7 +84,7 @@ module _ (P : Option Piece → Type 0) (each : HoldsOfPieces P) where
       named true e = each.words b bytes e
       named false e = numbered (is_ascii_digit b) refl
 
-  -- what a byte begins in each mode
+  -- the lexeme of a byte in each mode
   pub of_lexeme : (mode : Mode) (b : ℕ) (bytes : List ℕ) → P (lexeme_in mode b bytes).piece
   of_lexeme Outside b bytes = of_lexeme_at b bytes
   of_lexeme AtKeyword b bytes = of_lexeme_at b bytes

@@ -18,7 +18,7 @@ use Rattle.its_text.specs.Lexing.{lexeme, minus_at, related_at, pair_at, guard_m
 use Rattle.its_text.specs.Lexing.{Opening, Closing, Neither, bend_of, one_more, closing_by, closing_at, Mode, Outside}
 use Rattle.its_text.specs.Lexing.{AtKeyword, Within, InComment, remark_of, lexeme_in, lexer, tokens_of}
 
--- a lexeme has a byte at least, and no more than so many
+-- a lexeme has a byte at least, and no more than this many
 abbrev Fits : ℕ → Lexeme (Option Piece) → Type 0
 Fits most l = (0 < l.len) × (l.len ≤ most)
 

@@ -1,5 +1,5 @@
--- Rules are within the limits with one more exactly where its head and its guard are: names and symbols that come
--- later change nothing of what came before.
+-- Rules with one more are within the limits exactly if its head and its guard are: names and symbols that come later
+-- don't change those before.
 use Rattle.std.proofs.Common.{◌≤◌, ◌↔◌, length, Some, None, sym, ◌∙◌, arith}
 use Rattle.expr_text.specs.model.Limits.{variable_limit}
 use Rattle.expr_text.specs.Guards.{Atoms}
@@ -22,7 +22,7 @@ HasGuard h guard =
     × IsGuardWithin (atoms_of_cost h.led.cost) (rule_names (rule_with h guard)) guard
 
 module _ (h : Headed) (guard : Guard) where
-  -- so the rules are with that one exactly where its head and its guard are
+  -- so the rules are with that one exactly if its head and its guard are
   pub rule_made : IsRulingKept (ruling_with h guard) ↔ (IsHeadedKept h × HasGuard h guard)
   rule_made =
       let l = h.led in
@@ -122,19 +122,19 @@ module _ (h : Headed) (guard : Guard) where
   pub empty_made : (IsHeadedKept h → HasGuard h guard) → IsRulingKept (ruling_with h guard) ↔ IsHeadedKept h
   empty_made has = (λ k. (rule_made.0 k).0, λ k. rule_made.1 (k, has k))
 
--- a rule without a guard is within the limits exactly where its head is
+-- a rule without a guard is within the limits exactly if its head is
 pub no_guard : (h : Headed) → IsRulingKept (ruling_with h NoGuard) ↔ IsHeadedKept h
 no_guard h = empty_made h NoGuard (λ k. (k.0.variables, tt))
 
--- so is a rule with nothing behind `:|:`
+-- a rule with no atom after `:|:` is within the limits exactly if its head is
 pub no_marked : (h : Headed) → IsRulingKept (ruling_with h (BehindMark None)) ↔ IsHeadedKept h
 no_marked h = empty_made h (BehindMark None) (λ k. (k.0.variables, tt))
 
--- and one with nothing in square brackets
+-- a rule with nothing in square brackets is within the limits exactly if its head is
 pub no_squared : (h : Headed) → IsRulingKept (ruling_with h (InSquares None)) ↔ IsHeadedKept h
 no_squared h = empty_made h (InSquares None) (λ k. (k.0.variables, tt))
 
--- and one whose guard has some
+-- a rule whose guard has atoms is within the limits exactly if its head and its atoms are
 pub marked : (h : Headed) (atoms : Atoms) → IsRulingKept (ruling_with h (BehindMark (Some atoms)))
     ↔ (IsHeadedKept h × AreEnded h.led.cost (headed_names h) atoms)
 marked h atoms =
@@ -143,7 +143,7 @@ marked h atoms =
       λ k. made.1 (k.0, (k.1.variables, (k.1.few, k.1.within))),
     )
 
--- a rule with atoms in square brackets is within the limits exactly where its head and these are
+-- a rule with atoms in square brackets is within the limits exactly if its head and these are
 pub in_squares : (h : Headed) (atoms : Atoms) → IsRulingKept (ruling_with h (InSquares (Some atoms)))
     ↔ (IsHeadedKept h × AreEnded h.led.cost (headed_names h) atoms)
 in_squares h atoms =

@@ -19,7 +19,7 @@ abbrev pub AreNamed : List Piece → Type 0
 AreNamed [] = ⊤
 AreNamed (p ∷ ps) = IsNamed p × AreNamed ps
 
--- what is found is no word, or a name
+-- the piece found is no word, or a name
 abbrev IsFound : Option Piece → Type 0
 IsFound None = ⊤
 IsFound (Some p) = IsNamed p
@@ -55,7 +55,7 @@ tokens_named (b ∷ bytes) mode zero at =
 pub text_named : (bytes : List ℕ) → AreNamed (pieces (tokens_of bytes))
 text_named bytes = tokens_named bytes Outside 0 0
 
--- the same for the pieces that come before others, the last one first
+-- the words among the pieces before others, the last one first, are names
 pub before_named : (done rest : List Piece) → AreNamed (onto done rest) → AreNamed done × AreNamed rest
 before_named [] rest h = (tt, h)
 before_named (p ∷ done) rest h = let x = before_named done (p ∷ rest) h in ((x.1.0, x.0), x.1.1)

@@ -1,4 +1,4 @@
--- A front shows faults at the last byte that was read or at the next token only.
+-- A state shows faults only at the last byte that was read, or at the next token.
 use Rattle.std.specs.Prelude.{◌≡◌, ℕ, ◌≤◌, Bool, true, false, nat_le, length, if◌then◌else◌, List, [], ◌∷◌, ◌++◌}
 use Rattle.std.specs.Prelude.{Option, Some, None, ◌⊎◌, ⊤, refl}
 use Rattle.std.proofs.Common.{◌∙◌, ap, inl, inr, arith}
@@ -178,7 +178,7 @@ split x (y ∷ xs) ys (inr more) = go (split x xs ys more)
     go (inl m) = inl (inr m)
     go (inr m) = inr m
 
--- a fault that a front shows is at the last byte that was read, or at the next token
+-- a fault that a state shows is at the last byte that was read, or at the next token
 pub stands : (n : ℕ) (done : Tokens) (f : Front) (rest : Tokens) (x : Fault Kind) → Among x (shown.front_faults n done f rest) → (x.at ≡ last_byte done) ⊎ (x.at ≡ next_at n rest)
 stands n done f rest x m = go (split x (last_faults (last_byte done) f (next_piece rest)) _ m)
   where

@@ -1,4 +1,4 @@
--- A front shows nothing exactly where it is quiet about the next piece, and that one is small.
+-- A state shows no fault exactly if it is quiet about the next piece, and that piece is small.
 use Rattle.std.proofs.Common.{◌≡◌, ℕ, Bool, true, false, if◌then◌else◌, ◌↔◌, nat_le, List, [], ◌∷◌, ◌++◌, length}
 use Rattle.std.proofs.Common.{Option, Some, None, refl, ap, ◌∙◌}
 use Rattle.expr_text.specs.model.Programs.{Name}
@@ -41,7 +41,7 @@ neither (x ∷ xs) ys h = cc
 both : (xs ys : FaultList) → xs ≡ [] → ys ≡ [] → xs ++ ys ≡ []
 both xs ys a b = ap (λ zs. zs ++ ys) a ∙ b
 
--- a test shows nothing exactly where it fails
+-- a test shows nothing exactly if it fails
 if_quiet : (test : Bool) (kind : Kind) (at : ℕ) → (fault_if test kind at ≡ []) ↔ (test ≡ false)
 if_quiet true kind at = (λ h. cc, λ h. cc)
 if_quiet false kind at = (λ h. refl, λ h. refl)
@@ -50,7 +50,7 @@ choice_quiet : (test : Bool) (xs : FaultList) → ((if test then xs else []) ≡
 choice_quiet true xs = (λ h e. h, λ h. h refl)
 choice_quiet false xs = (λ h e. cc, λ h. refl)
 
--- what has ended shows nothing exactly where it can be expanded
+-- an expansion has no fault exactly if it succeeds
 expansion_quiet : (at : ℕ) (o : Option polynomials.Fault) → (expansion_faults at o ≡ []) ↔ (o ≡ None)
 expansion_quiet at None = (λ h. refl, λ h. refl)
 expansion_quiet at (Some x) = (λ h. cc, λ h. cc)
@@ -75,7 +75,7 @@ atom_quiet at names (RightSide c l sign e) next =
     let y = right_quiet at (with_sum (with_conjoined names c) l) l sign (expression_steps.finish e) in
     (λ h k. y.0 (x.0 h k), λ h. x.1 (λ k. y.1 (h k)))
 
--- a left argument shows nothing exactly where it may come
+-- a left argument shows nothing exactly if it may come
 left_word : (at : ℕ) (arguments : List Name) (name : Name) (behind : Option Piece)
     → (left_of at (Some arguments) (Some (In (inner.Word name))) behind ≡ [])
     ↔ IsLeftQuiet arguments (Some (In (inner.Word name))) behind
@@ -115,7 +115,7 @@ left_quiet at arguments (Some (Remark bytes)) behind = (λ h. tt, λ h. refl)
 left_quiet at arguments (Some Wrong) behind = (λ h. tt, λ h. refl)
 left_quiet at arguments (Some Strange) behind = (λ h. tt, λ h. refl)
 
--- the next token of an expression shows nothing exactly where it leaves room and is small
+-- the next token of an expression shows nothing exactly if it leaves room and is small
 record IsTokenQuiet (o : Option OpenExpression) (next behind : Option Piece) : Type 0 where
   going : IsGoingQuiet o next behind
   small : IsGoingSmall o next
@@ -152,7 +152,7 @@ token_quiet at (Some g) (Some (Remark bytes)) behind = (λ h. record { going = t
 token_quiet at (Some g) (Some Wrong) behind = (λ h. record { going = tt; small = tt }, λ h. refl)
 token_quiet at (Some g) (Some Strange) behind = (λ h. record { going = tt; small = tt }, λ h. refl)
 
--- what a front shows is nothing where each part is
+-- each kind of fault is absent
 record IsSilent (last at : ℕ) (f : Front) (next behind : Option Piece) : Type 0 where
   arity : shown.has_other_arity f ≡ false
   ended : ended_faults last f next ≡ []
@@ -211,9 +211,9 @@ shows_none last at f next behind s =
     ((if_quiet _ _ _).1 s.name))
     s.tokens)
 
--- front by front
+-- the laws below are stated state by state
 module _ (last at : ℕ) (next behind : Option Piece) where
-  -- a cost or an argument that has ended shows nothing exactly where it can be expanded
+  -- a cost or an argument that has ended shows nothing exactly if it can be expanded
   ended_quiet : (names : List Name) (e : expression.Front)
       → ((if ends_expression e next then argument_faults last names (expression_steps.finish e) else []) ≡ [])
       ↔ (ends_expression e next ≡ true → IsArgumentExpanded names (expression_steps.finish e))
@@ -231,7 +231,7 @@ module _ (last at : ℕ) (next behind : Option Piece) where
   token_of f q m =
       (token_quiet at (shown.open_expression f next behind) next behind).1 (record { going = q; small = m.1 })
 
-  -- what is silent is quiet
+  -- a silent state is quiet
   quiet_of : (f : Front) → IsSilent last at f next behind → IsQuiet f next behind
   quiet_of (Between ss) s = s.repeated
   quiet_of (Opened ss) s = tt
@@ -286,7 +286,7 @@ module _ (last at : ℕ) (next behind : Option Piece) where
         going = going_of (SquareGuarding h g) s;
       }
 
-  -- all parts of what a front shows are nothing
+  -- a state that shows no fault of any kind is silent
   all_silent : (f : Front) → shown.has_other_arity f ≡ false → ended_faults last f next ≡ []
       → shown.targets_again f next behind ≡ false
       → shown.repeats_at f next behind ≡ false → shown.targets_many f next behind ≡ false
@@ -308,7 +308,7 @@ module _ (last at : ℕ) (next behind : Option Piece) where
         tokens = tokens;
       }
 
-  -- and what is quiet, before a small piece, is silent
+  -- a quiet state, before a small piece, is silent
   silent_of : (f : Front) → IsQuiet f next behind → IsNextSmall f next behind → IsSilent last at f next behind
   silent_of (Between ss) q m = all_silent (Between ss) refl refl refl q refl refl refl refl refl m.0 refl
   silent_of (Opened ss) q m = all_silent (Opened ss) refl refl refl refl refl refl refl refl refl m.0 refl
@@ -362,7 +362,7 @@ module _ (last at : ℕ) (next behind : Option Piece) where
       all_silent (SquareGuarding h g) refl ((atom_quiet last (headed_names h) g next).1 q.atom) refl refl refl refl
       refl refl q.few m.0 (token_of (SquareGuarding h g) q.going m)
 
--- a front shows nothing exactly where it is quiet, and the next piece is small
+-- a state shows no fault exactly if it is quiet, and the next piece is small
 pub shows_nothing : (last at : ℕ) (f : Front) (next behind : Option Piece)
     → (last_faults last f next ++ next_faults at f next behind ≡ []) ↔ (IsQuiet f next behind × IsNextSmall f next behind)
 shows_nothing last at f next behind = (

@@ -22,7 +22,7 @@ programs_laws = record { goes_on = goes_on; ends = ends; reads = reads; differ =
 pub answers_all_texts : AnswersAll programs
 answers_all_texts = answers_all programs programs_laws
 
--- and one first fault at most
+-- a text has one first fault at most
 pub one_first_fault : OneFirst programs
 one_first_fault = one_first_each programs programs_laws
 
@@ -30,6 +30,6 @@ one_each : (bytes : List ℕ) (p q : Program) → Spells bytes p → Spells byte
 one_each bytes p q s t =
     some_is (sym s.numbered ∙ (ap program_numbered ((one_tree_each programs programs_laws).each s.written t.written (pieces (tokens_of bytes)) s.text t.text) ∙ t.numbered))
 
--- and it spells one program at most
+-- a text spells one program at most
 pub one_program : OneProgram
 one_program = record { each = one_each }

@@ -1,4 +1,4 @@
--- Each program that is written can be read: its pieces lead from front to front.
+-- Each program that is written can be read: its pieces lead from state to state.
 use Rattle.std.specs.Prelude.{◌≡◌, List, [], ◌∷◌, codes, if◌then◌else◌, Option, Some, None, ◌⊎◌, refl, IsFalse}
 use Rattle.std.proofs.Common.{sym, ◌∙◌, ap, subst, inl, inr}
 use Rattle.expr_text.specs.model.Programs.{Name}
@@ -30,7 +30,7 @@ use Rattle.its_text.specs.Steps.{left_shut, behind_left, cost_ended, beginning, 
 use Rattle.its_text.specs.Grammar.{IsTarget, HaveTargets, IsSection, AreSections, Writes, programs}
 use Rattle.its_text.proofs.Completing.{At, onward, costing_steps, argument_closes}
 
--- nothing isn't something, and what is the same thing is the same
+-- an optional value is this one, if there is one
 abbrev pub Is : {X : Type 0} → X → Option X → Type 0
 Is x None = ⊥
 Is x (Some y) = x ≡ y
@@ -39,7 +39,7 @@ Is x (Some y) = x ≡ y
 pub none_is_some : {X : Type 0} {x : X} → None ≡ Some x → ⊥
 none_is_some {x = x} e = subst (λ o. Is x o) (sym e) refl
 
--- answers that are the same hold the same
+-- equal optional values have equal contents
 pub some_is : {X : Type 0} {x y : X} → Some x ≡ Some y → x ≡ y
 some_is {x = x} e = subst (λ o. Is x o) e refl
 
@@ -72,7 +72,7 @@ arrow_read r t (Some c) done at =
     (onward done (SourceClosed r t) (Costing r t expression.beginning) CostOpen at refl))
     (ap (λ o. cost_ended r t o) (sum_finish c))
 
--- an argument that is wanted: behind the bracket, or behind a comma
+-- an argument must follow or has begun: after the bracket, or after a comma
 abbrev pub Argues : Aimed → List Sum → List Piece → expression.Front → Type 0
 Argues a arguments done e = (At done (Arguing a arguments e)) ⊎ ((At done (RightOpened a)) × (arguments ≡ []) × (e ≡ expression.beginning))
 
@@ -102,7 +102,7 @@ argument_read : (a : Aimed) (arguments : List Sum) (s : Sum) (done : List Piece)
     → Argues a arguments (sum_behind In s done) (behind_sum [] s)
 argument_read a arguments s done at = expression_is_read In (Argues a arguments) (argues_step a arguments) s done at
 
--- a front is no beginning once an argument can end
+-- in a state where an argument can end, the argument has begun
 argued_at : (a : Aimed) (arguments : List Sum) (done : List Piece) (e : expression.Front) (s : Sum) → expression_steps.finish e ≡ Some s → Argues a arguments done e → At done (Arguing a arguments e)
 argued_at a arguments done e s same (inl at) = at
 argued_at a arguments done e s same (inr at) = absurd (none_is_some (subst (λ g. expression_steps.finish g ≡ Some s) at.2 same))
@@ -120,7 +120,7 @@ right_read a [] done at = onward done (RightOpened a) (right_shut a []) close_br
 right_read a (s ∷ arguments) done at =
     onward (sums_behind (s ∷ arguments) done) (Arguing a arguments (behind_sum [] s)) (right_shut a (s ∷ arguments)) close_bracket (sums_read a s arguments done at) (argument_closes a arguments (behind_sum [] s) s (sum_finish s))
 
--- what a rule leads to
+-- the state after a target's name
 bare_name : (l : Led) (name : Name) → IsFalse (is_same name (codes "Com_1")) → behind_arrow l name ≡ behind_target_name l Alone name
 bare_name l name other = ap (λ v. if v then ComNamed l else behind_target_name l Alone name) other
 
@@ -137,7 +137,7 @@ target_read l (Bare t) done is at =
     (onward (word t.name ∷ done) (behind_target_name l Alone t.name) _ open_bracket
     (onward done (Arrowed l) (behind_target_name l Alone t.name) (word t.name) at (ap (λ f. Some f) (bare_name l t.name is))) refl)
 
--- a guard behind `:|:`: its front, or the front before it
+-- the state within a guard after `:|:`, or just before it
 abbrev pub Marks : Headed → List Piece → guards.GuardFront → Type 0
 Marks h done g = (At done (MarkGuarding h g)) ⊎ (((At done (GuardMarked h)) × (g ≡ guards.no_atoms)) ⊎ ((name : Name) × (At done (WordRead h name)) × (g ≡ guard_named name)))
 
@@ -181,7 +181,7 @@ mark_ends h g atoms p f done ends stops same word_goes (inr (inr at)) =
     (word_goes at.0 ∙ (ap (λ o. mark_guard_step h (guard_named at.0) o p) (subst (λ k. guards.step k p ≡ None) at.2 stops)
     ∙ (ap (λ o. guard_ended h o p) (subst (λ k. guards.finish k ≡ Some atoms) at.2 ends) ∙ same)))
 
--- pieces lead behind a rule, by its guard, and behind rules
+-- pieces lead to the state after a rule, by its guard, and after rules
 abbrev pub Behind : Headed → Guard → List Piece → Type 0
 Behind h NoGuard done = At done (Targeted h)
 Behind h (BehindMark None) done = At done (GuardMarked h)
@@ -192,7 +192,7 @@ abbrev pub BehindRules : List Section → List WrittenRule → List Piece → Ty
 BehindRules ss [] done = At done (AfterRule (record { sections = ss; rules = [] }))
 BehindRules ss (r ∷ rules) done = Behind (headed_at ss rules r) r.guard done
 
--- behind a rule the next one begins
+-- the next rule can begin after a rule
 opens_behind : (h : Headed) (guard : Guard) (name : Name) (done : List Piece) → Behind h guard done
     → At (open_bracket ∷ word name ∷ done) (LeftOpened (ruling_with h guard) name)
 opens_behind h NoGuard name done at =
@@ -207,7 +207,7 @@ opens_behind h (BehindMark (Some atoms)) name done at =
 opens_behind h (InSquares atoms) name done at =
     onward (word name ∷ done) (SourceNamed (ruling_with h (InSquares atoms)) name) _ open_bracket (onward done (AfterRule (ruling_with h (InSquares atoms))) (SourceNamed (ruling_with h (InSquares atoms)) name) (word name) at refl) refl
 
--- or the section ends
+-- after a rule the section can end
 closes_behind : (h : Headed) (guard : Guard) (done : List Piece) → Behind h guard done → At (close_bracket ∷ done) (Between (section_of (ruling_with h guard)))
 closes_behind h NoGuard done at = onward done (Targeted h) _ close_bracket at refl
 closes_behind h (BehindMark None) done at = onward done (GuardMarked h) _ close_bracket at refl
@@ -226,7 +226,7 @@ rules_close : (ss : List Section) (rules : List WrittenRule) (done : List Piece)
 rules_close ss [] done at = onward done (AfterRule (record { sections = ss; rules = [] })) _ close_bracket at refl
 rules_close ss (r ∷ rules) done at = closes_behind (headed_at ss rules r) r.guard done at
 
--- a guard in square brackets: its front, or the front before it
+-- the state within a guard in square brackets, or just before it
 abbrev pub Squares : Headed → List Piece → guards.GuardFront → Type 0
 Squares h done g = (At done (SquareGuarding h g)) ⊎ ((At done (SquareOpened h)) × (g ≡ guards.no_atoms))
 
@@ -239,7 +239,7 @@ squares_close : (h : Headed) (g : guards.GuardFront) (atoms : Atoms) (done : Lis
 squares_close h g atoms done ends (inl at) = onward done (SquareGuarding h g) (AfterRule (ruling_with h (InSquares (Some atoms)))) SquareClose at (ap (λ o. square_ended h o) ends)
 squares_close h g atoms done ends (inr at) = absurd (none_is_some (subst (λ k. guards.finish k ≡ Some atoms) at.1 ends))
 
--- a guard behind a target
+-- reading a guard after a target
 guard_read : (h : Headed) (guard : Guard) (done : List Piece) → At done (Targeted h) → Behind h guard (guard_behind guard done)
 guard_read h NoGuard done at = at
 guard_read h (BehindMark None) done at = onward done (Targeted h) (GuardMarked h) GuardMark at refl
@@ -265,7 +265,7 @@ words_read : (ss : List Section) (names : List Name) (done : List Piece) → At 
 words_read ss [] done at = at
 words_read ss (a ∷ names) done at = onward (words_behind names done) (Listing ss names) (Listing ss (a ∷ names)) (word a) (words_read ss names done at) refl
 
--- a section behind others
+-- the bracket of a section after others
 section_opens : (ss : List Section) (done : List Piece) → At done (Between ss) → At (open_bracket ∷ done) (Opened ss)
 section_opens ss done at = onward done (Between ss) (Opened ss) open_bracket at refl
 

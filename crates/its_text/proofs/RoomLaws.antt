@@ -64,12 +64,12 @@ pub and_true : (v : Bool) → (v && true) ≡ v
 and_true true = refl
 and_true false = refl
 
--- a term has as many arguments as its symbol has places exactly where the test for another number fails
+-- a term has as many arguments as its symbol has places exactly if the test for another number fails
 pub arity_same : (symbols : List Symbol) (name : Name) (arity : ℕ) → (other_arity symbols name arity ≡ false)
     ↔ (arity_of symbols name ≡ arity)
 arity_same symbols name arity = (same_number (arity_of symbols name) arity, number_same (arity_of symbols name) arity)
 
--- a symbol that is there keeps its places behind more symbols
+-- a known symbol keeps its number of places when others are added
 arity_append : (symbols : List Symbol) (s : Symbol) (n : Name) → is_among n (names_of symbols) ≡ true
     → arity_of (symbols ++ s ∷ []) n ≡ arity_of symbols n
 arity_append [] s n h = cc
@@ -91,14 +91,14 @@ arity_stays symbols n name arity h = go (is_among name (names_of symbols))
     go true = refl
     go false = arity_append symbols (record { name = name; arity = arity }) n h
 
--- rules are as they are to be exactly where they were before another symbol came
+-- rules are as they are to be exactly if they were before another symbol came
 rule_same : (symbols last : List Symbol) (r : WrittenRule) → arity_of last r.left.name ≡ arity_of symbols r.left.name
     → arity_of last (term_in r.target).name ≡ arity_of symbols (term_in r.target).name
     → IsRule symbols r → IsRule last r
 rule_same symbols last r a b h =
     record { left = h.left; target = h.target; source_arity = a ∙ h.source_arity; target_arity = b ∙ h.target_arity }
 
--- rules whose symbols are there are as they are to be exactly where they are so with one symbol more
+-- rules whose symbols are there are as they are to be exactly if they are so with one symbol more
 pub rules_stay : (symbols : List Symbol) (name : Name) (arity : ℕ) (rules : List WrittenRule)
     → AllByRecursion (IsKnown symbols) rules → AreRules symbols rules ↔ AreRules (with_symbol symbols name arity) rules
 rules_stay symbols name arity [] known = (λ h. tt, λ h. tt)
@@ -110,7 +110,7 @@ rules_stay symbols name arity (r ∷ rules) known =
       λ h. (rule_same (with_symbol symbols name arity) symbols r (sym a) (sym b) h.0, ih.1 h.1),
     )
 
--- arguments are within the limits over more names exactly where they were
+-- arguments are within the limits over more names exactly if they were
 module _ (names last : List Name) (e : Extends names last) where
   argument_stays : (s : Sum) → SumReads names s → IsArgumentWithin names s ↔ IsArgumentWithin last s
   argument_stays s h =
@@ -122,7 +122,7 @@ module _ (names last : List Name) (e : Extends names last) where
         λ w. record { tokens = w.tokens; expanded = sym same ∙ w.expanded },
       )
 
-  -- arguments are within the limits over their variables exactly where they are over more
+  -- arguments are within the limits over their variables exactly if they are over more
   pub arguments_stay : (sums : List Sum) → AllRead names sums → AreArgumentsWithin names sums
       ↔ AreArgumentsWithin last sums
   arguments_stay [] h = (λ w. tt, λ w. tt)
@@ -131,12 +131,12 @@ module _ (names last : List Name) (e : Extends names last) where
       let b = arguments_stay sums h.1 in
       (λ w. (a.0 w.0, b.0 w.1), λ w. (a.1 w.0, b.1 w.1))
 
-  -- the same for a cost
+  -- a cost within the limits stays so over more names
   pub cost_stays : (cost : Option Sum) → CostReads names cost → IsCostWithin names cost ↔ IsCostWithin last cost
   cost_stays None h = (λ w. tt, λ w. tt)
   cost_stays (Some c) h = argument_stays c h
 
-  -- and atoms
+  -- atoms within the limits stay so over more names
   atom_stays : (a : Atom) → AtomReads names a → IsAtomWithin names a ↔ IsAtomWithin last a
   atom_stays (Always t) h = (λ w. tt, λ w. tt)
   atom_stays (Compared l sign r) h =
@@ -148,7 +148,7 @@ module _ (names last : List Name) (e : Extends names last) where
       ∙ ap (λ t. first_of_all (differences (sum_term names l) (relation_of sign) t)) right in
       (λ w. (w.0, w.1, same ∙ w.2), λ w. (w.0, w.1, sym same ∙ w.2))
 
-  -- atoms are within the limits over their variables exactly where they are over more
+  -- atoms are within the limits over their variables exactly if they are over more
   pub atoms_stay : (atoms : Atoms) → AtomsRead names atoms → AreAtomsWithin names atoms ↔ AreAtomsWithin last atoms
   atoms_stay (First a) h = atom_stays a h
   atoms_stay (Joined atoms joint a) h =

@@ -1,4 +1,4 @@
--- What holds of each step that leads somewhere holds of each step in the rules behind an arrow.
+-- A property of each accepting step is one of each step in the rules after an arrow.
 use Rattle.std.specs.Prelude.{List, Option}
 use Rattle.expr_text.specs.model.Programs.{Name}
 use Rattle.expr_text.specs.Pieces as inner
@@ -16,7 +16,7 @@ use Rattle.its_text.specs.Steps.{step}
 use Rattle.its_text.proofs.StepCases.{HoldsOfSteps}
 
 module _ (P : Front → Piece → Option Front → Type 0) (each : HoldsOfSteps P) where
-  -- behind the arrow
+  -- the steps after the arrow
   pub arrowed_case : (l : Led) (p : Piece) → P (Arrowed l) p (step (Arrowed l) p)
   arrowed_case l (In (inner.Word name)) = each.arrowed_word l name
   arrowed_case l (In (inner.Digits ds)) = each.nowhere (Arrowed l) (In (inner.Digits ds))
@@ -40,7 +40,7 @@ module _ (P : Front → Piece → Option Front → Type 0) (each : HoldsOfSteps 
   arrowed_case l Wrong = each.nowhere (Arrowed l) Wrong
   arrowed_case l Strange = each.nowhere (Arrowed l) Strange
 
-  -- behind `Com_1`
+  -- the steps after `Com_1`
   pub com_named_case : (l : Led) (p : Piece) → P (ComNamed l) p (step (ComNamed l) p)
   com_named_case l (In (inner.Word name)) = each.nowhere (ComNamed l) (In (inner.Word name))
   com_named_case l (In (inner.Digits ds)) = each.nowhere (ComNamed l) (In (inner.Digits ds))
@@ -64,7 +64,7 @@ module _ (P : Front → Piece → Option Front → Type 0) (each : HoldsOfSteps 
   com_named_case l Wrong = each.nowhere (ComNamed l) Wrong
   com_named_case l Strange = each.nowhere (ComNamed l) Strange
 
-  -- behind `Com_1(`
+  -- the steps after `Com_1(`
   pub com_opened_case : (l : Led) (p : Piece) → P (ComOpened l) p (step (ComOpened l) p)
   com_opened_case l (In (inner.Word name)) = each.com_opened_word l name
   com_opened_case l (In (inner.Digits ds)) = each.nowhere (ComOpened l) (In (inner.Digits ds))
@@ -88,7 +88,7 @@ module _ (P : Front → Piece → Option Front → Type 0) (each : HoldsOfSteps 
   com_opened_case l Wrong = each.nowhere (ComOpened l) Wrong
   com_opened_case l Strange = each.nowhere (ComOpened l) Strange
 
-  -- behind the name of a right term
+  -- the steps after the name of a right term
   pub target_named_case : (a : Aimed) (p : Piece) → P (TargetNamed a) p (step (TargetNamed a) p)
   target_named_case a (In (inner.Word name)) = each.nowhere (TargetNamed a) (In (inner.Word name))
   target_named_case a (In (inner.Digits ds)) = each.nowhere (TargetNamed a) (In (inner.Digits ds))
@@ -112,7 +112,7 @@ module _ (P : Front → Piece → Option Front → Type 0) (each : HoldsOfSteps 
   target_named_case a Wrong = each.nowhere (TargetNamed a) Wrong
   target_named_case a Strange = each.nowhere (TargetNamed a) Strange
 
-  -- behind the bracket that opens right arguments
+  -- the steps after the bracket that opens right arguments
   pub right_opened_case : (a : Aimed) (p : Piece) → P (RightOpened a) p (step (RightOpened a) p)
   right_opened_case a (In p) = each.right_opened_piece a p
   right_opened_case a Comma = each.nowhere (RightOpened a) Comma
@@ -143,7 +143,7 @@ module _ (P : Front → Piece → Option Front → Type 0) (each : HoldsOfSteps 
   in_argument_case a arguments e Wrong = each.nowhere (Arguing a arguments e) Wrong
   in_argument_case a arguments e Strange = each.nowhere (Arguing a arguments e) Strange
 
-  -- behind the right term within `Com_1(`
+  -- the steps after the right term within `Com_1(`
   pub right_shut_case : (l : Led) (t : RightTerm) (p : Piece) → P (TargetClosed l t) p (step (TargetClosed l t) p)
   right_shut_case l t (In (inner.Word name)) = each.nowhere (TargetClosed l t) (In (inner.Word name))
   right_shut_case l t (In (inner.Digits ds)) = each.nowhere (TargetClosed l t) (In (inner.Digits ds))
@@ -167,7 +167,7 @@ module _ (P : Front → Piece → Option Front → Type 0) (each : HoldsOfSteps 
   right_shut_case l t Wrong = each.nowhere (TargetClosed l t) Wrong
   right_shut_case l t Strange = each.nowhere (TargetClosed l t) Strange
 
-  -- behind the target
+  -- the steps after the target
   pub targeted_case : (h : Headed) (p : Piece) → P (Targeted h) p (step (Targeted h) p)
   targeted_case h (In p) = each.targeted_piece h p
   targeted_case h Comma = each.nowhere (Targeted h) Comma
@@ -182,7 +182,7 @@ module _ (P : Front → Piece → Option Front → Type 0) (each : HoldsOfSteps 
   targeted_case h Wrong = each.nowhere (Targeted h) Wrong
   targeted_case h Strange = each.nowhere (Targeted h) Strange
 
-  -- behind `:|:`
+  -- the steps after `:|:`
   pub guard_marked_case : (h : Headed) (p : Piece) → P (GuardMarked h) p (step (GuardMarked h) p)
   guard_marked_case h (In p) = each.guard_marked_piece h p
   guard_marked_case h Comma = each.nowhere (GuardMarked h) Comma
@@ -197,7 +197,7 @@ module _ (P : Front → Piece → Option Front → Type 0) (each : HoldsOfSteps 
   guard_marked_case h Wrong = each.nowhere (GuardMarked h) Wrong
   guard_marked_case h Strange = each.nowhere (GuardMarked h) Strange
 
-  -- behind a name after `:|:`
+  -- the steps after a name after `:|:`
   pub word_read_case : (h : Headed) (name : Name) (p : Piece) → P (WordRead h name) p (step (WordRead h name) p)
   word_read_case h name (In p) = each.word_read_piece h name p
   word_read_case h name Comma = each.nowhere (WordRead h name) Comma
@@ -228,7 +228,7 @@ module _ (P : Front → Piece → Option Front → Type 0) (each : HoldsOfSteps 
   mark_guarding_case h g Wrong = each.nowhere (MarkGuarding h g) Wrong
   mark_guarding_case h g Strange = each.nowhere (MarkGuarding h g) Strange
 
-  -- behind `[`
+  -- the steps after `[`
   pub square_opened_case : (h : Headed) (p : Piece) → P (SquareOpened h) p (step (SquareOpened h) p)
   square_opened_case h (In p) = each.square_opened_piece h p
   square_opened_case h Comma = each.nowhere (SquareOpened h) Comma

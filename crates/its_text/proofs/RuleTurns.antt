@@ -1,4 +1,4 @@
--- Along each step what is read is within the limits exactly where it was before, and the front is quiet: behind a
+-- Along each step what is read is within the limits exactly if it was before, and the state is quiet: after a
 -- target, up to the end of the rule.
 use Rattle.std.proofs.Common.{◌≡◌, ℕ, ◌+◌, Bool, true, false, not, ◌&&◌, ◌==◌, ◌↔◌, nat_le, List, ◌∷◌, length}
 use Rattle.std.proofs.Common.{Option, Some, None, refl, ap, sym, ◌∙◌, arith}
@@ -31,7 +31,7 @@ use Rattle.its_text.proofs.ExpressionRoom.{goes_off}
 use Rattle.its_text.proofs.ArgumentTurns.{target_kept}
 use Rattle.its_text.proofs.GuardTurns.{guard_ends, guard_turns, guard_begins}
 
--- behind a target
+-- a step after a target that ends the rule
 pub targeted_turns : (h : Headed) (p : inner.Piece) (ps : List Piece)
     → Turns (Targeted h) (In p) ps (behind_rule (ruling_with h NoGuard) p)
 targeted_turns h (inner.Word name) ps =
@@ -57,13 +57,13 @@ targeted_turns h inner.Caret ps = tt
 targeted_turns h (inner.Related sign) ps = tt
 targeted_turns h (inner.Joining joint) ps = tt
 
--- `:|:` behind a target keeps the limits exactly where the front is quiet
+-- `:|:` after a target keeps the limits exactly if the state is quiet
 pub marks_turns : (h : Headed) (ps : List Piece) → Turns (Targeted h) GuardMark ps (Some (GuardMarked h))
 marks_turns h ps =
     let kept = target_kept h.led h.target in
     (λ k. let y = kept.0 k in (y.0, (y.1, refl)), λ k. kept.1 (k.0, k.1.0))
 
--- `[` behind a target keeps the limits exactly where the front is quiet
+-- `[` after a target keeps the limits exactly if the state is quiet
 pub square_turns : (h : Headed) (ps : List Piece) → Turns (Targeted h) SquareOpen ps (Some (SquareOpened h))
 square_turns h ps =
     let kept = target_kept h.led h.target in
@@ -82,7 +82,7 @@ guard_first h g p behind same =
           (k.0, turns.1 (begins, record { atom = tt; few = refl; going = k.1 })),
     )
 
--- a piece that goes on with a guard begins no rule
+-- a piece that a guard rejects doesn't continue the expression being read there
 off_within : (g : GuardFront) (p : inner.Piece) → guards.step g p ≡ None
     → expression_steps.step (guards.expression_in g) p ≡ None
 off_within (LeftSide c e) p same = go (expression_steps.step e p) same
@@ -96,7 +96,7 @@ off_within (RightSide c l sign e) p same = go (expression_steps.step e p) same
     go None k = refl
     go (Some f) k = cc
 
--- a piece that leads on within an atom goes on with the expression that is read there
+-- a piece that continues a guard within an atom continues the expression being read there
 pub goes_within : (g k : GuardFront) (p : inner.Piece) → guards.step_behind g p ≡ None → guards.step g p ≡ Some k
     → goes_on_with (guards.expression_in g) p ≡ true
 goes_within (LeftSide c e) k p behind same = go (expression_steps.step e p) same
@@ -145,7 +145,7 @@ not_full others (LeftSide (JointAfter earlier joint) e) atoms same = go (truth_o
         let some : (token_count e == 0) ≡ false = grind (arith, nat_tests, one) in
         ap (λ (v : Bool). v && nat_le atom_limit (count_of earlier + others)) some
 
--- a guard behind `:|:` that ends before another rule, or before the end of the section
+-- a guard after `:|:` that ends before another rule, or before the end of the section
 module _ (h : Headed) (g : GuardFront) (atoms : Atoms) (ends : guards.finish g ≡ Some atoms) (ps : List Piece) where
   abbrev full : Bool
   full = nat_le rule_limit (length (rule_with h NoGuard ∷ h.led.ruling.rules))
@@ -210,7 +210,7 @@ module _ (h : Headed) (g : GuardFront) (atoms : Atoms) (ends : guards.finish g �
   rule_ends (inner.Related sign) off = tt
   rule_ends (inner.Joining joint) off = tt
 
-  -- and one in square brackets
+  -- the closing square bracket ends a guard in square brackets
   square_ends : Turns (SquareGuarding h g) SquareClose ps (square_ended h (Some atoms))
   square_ends =
       let made = in_squares h atoms in
@@ -222,7 +222,7 @@ module _ (h : Headed) (g : GuardFront) (atoms : Atoms) (ends : guards.finish g �
         λ k. made.1 (k.0.0, ended.1 (k.0.1, k.1.atom)),
       )
 
--- atoms behind `:|:`
+-- a step that ends the atoms after `:|:`
 guard_ended_turns : (h : Headed) (g : GuardFront) (p : inner.Piece) (ps : List Piece) (o : Option Atoms)
     → guards.finish g ≡ o → expression_steps.step (guards.expression_in g) p ≡ None
     → Turns (MarkGuarding h g) (In p) ps (guard_ended h o p)
@@ -238,7 +238,7 @@ guarding_turns h g p ps (Some k) same =
     )
 guarding_turns h g p ps None same = guard_ended_turns h g p ps (guards.finish g) refl (off_within g p same)
 
--- in a guard behind `:|:` each step keeps the limits exactly where the front is quiet
+-- in a guard after `:|:` each step keeps the limits exactly if the state is quiet
 pub mark_guarding_turns : (h : Headed) (g : GuardFront) (p : inner.Piece) (ps : List Piece)
     → Turns (MarkGuarding h g) (In p) ps (mark_guard_step h g (guards.step g p) p)
 mark_guarding_turns h g p ps = guarding_turns h g p ps (guards.step g p) refl
@@ -256,7 +256,7 @@ square_guarding_turns h g p ps = go (guards.step g p) refl
           λ x. (x.0.0, turns.1 (x.0.1, x.1)),
         )
 
--- `]` behind atoms keeps the limits exactly where the front is quiet
+-- `]` after atoms keeps the limits exactly if the state is quiet
 pub square_ended_turns : (h : Headed) (g : GuardFront) (ps : List Piece)
     → Turns (SquareGuarding h g) SquareClose ps (square_ended h (guards.finish g))
 square_ended_turns h g ps = go (guards.finish g) refl
@@ -265,7 +265,7 @@ square_ended_turns h g ps = go (guards.finish g) refl
     go None ends = tt
     go (Some atoms) ends = square_ends h g atoms ends ps
 
--- the first piece in square brackets keeps the limits exactly where the front is quiet
+-- the first piece in square brackets keeps the limits exactly if the state is quiet
 pub square_opened_turns : (h : Headed) (p : inner.Piece) (ps : List Piece)
     → Turns (SquareOpened h) (In p) ps (square_guard_step h (guards.step guards.no_atoms p))
 square_opened_turns h p ps = go (guards.step guards.no_atoms p) refl
@@ -276,7 +276,7 @@ square_opened_turns h p ps = go (guards.step guards.no_atoms p) refl
         let begins = guard_first h g p (first ps) same in
         (begins.0, begins.1)
 
--- `]` right behind `[` keeps the limits exactly where the front is quiet
+-- `]` right after `[` keeps the limits exactly if the state is quiet
 pub square_closed_turns : (h : Headed) (ps : List Piece)
     → Turns (SquareOpened h) SquareClose ps (step (SquareOpened h) SquareClose)
 square_closed_turns h ps =

@@ -1,4 +1,4 @@
--- What holds of each step that leads somewhere holds of each step outside the rules.
+-- A property of each accepting step is one of each step outside the rules.
 use Rattle.std.specs.Prelude.{List, Option}
 use Rattle.expr_text.specs.model.Programs.{Name}
 use Rattle.expr_text.specs.Pieces as inner
@@ -35,7 +35,7 @@ module _ (P : Front → Piece → Option Front → Type 0) (each : HoldsOfSteps 
   between_case ss Wrong = each.nowhere (Between ss) Wrong
   between_case ss Strange = each.nowhere (Between ss) Strange
 
-  -- behind the bracket that opens a section
+  -- the steps after the bracket that opens a section
   pub opened_case : (ss : List Section) (p : Piece) → P (Opened ss) p (step (Opened ss) p)
   opened_case ss (In (inner.Word name)) = each.opened_word ss name
   opened_case ss (In (inner.Digits ds)) = each.nowhere (Opened ss) (In (inner.Digits ds))
@@ -59,7 +59,7 @@ module _ (P : Front → Piece → Option Front → Type 0) (each : HoldsOfSteps 
   opened_case ss Wrong = each.nowhere (Opened ss) Wrong
   opened_case ss Strange = each.nowhere (Opened ss) Strange
 
-  -- behind `(GOAL`
+  -- the steps after `(GOAL`
   pub goal_named_case : (ss : List Section) (p : Piece) → P (GoalNamed ss) p (step (GoalNamed ss) p)
   goal_named_case ss (In (inner.Word name)) = each.goal_named_word ss name
   goal_named_case ss (In (inner.Digits ds)) = each.nowhere (GoalNamed ss) (In (inner.Digits ds))
@@ -83,7 +83,7 @@ module _ (P : Front → Piece → Option Front → Type 0) (each : HoldsOfSteps 
   goal_named_case ss Wrong = each.nowhere (GoalNamed ss) Wrong
   goal_named_case ss Strange = each.nowhere (GoalNamed ss) Strange
 
-  -- behind `(GOAL COMPLEXITY`
+  -- the steps after `(GOAL COMPLEXITY`
   pub goal_said_case : (ss : List Section) (p : Piece) → P (GoalRead ss) p (step (GoalRead ss) p)
   goal_said_case ss (In (inner.Word name)) = each.nowhere (GoalRead ss) (In (inner.Word name))
   goal_said_case ss (In (inner.Digits ds)) = each.nowhere (GoalRead ss) (In (inner.Digits ds))
@@ -107,7 +107,7 @@ module _ (P : Front → Piece → Option Front → Type 0) (each : HoldsOfSteps 
   goal_said_case ss Wrong = each.nowhere (GoalRead ss) Wrong
   goal_said_case ss Strange = each.nowhere (GoalRead ss) Strange
 
-  -- behind `(STARTTERM`
+  -- the steps after `(STARTTERM`
   pub start_named_case : (ss : List Section) (p : Piece) → P (StartNamed ss) p (step (StartNamed ss) p)
   start_named_case ss (In (inner.Word name)) = each.nowhere (StartNamed ss) (In (inner.Word name))
   start_named_case ss (In (inner.Digits ds)) = each.nowhere (StartNamed ss) (In (inner.Digits ds))
@@ -131,7 +131,7 @@ module _ (P : Front → Piece → Option Front → Type 0) (each : HoldsOfSteps 
   start_named_case ss Wrong = each.nowhere (StartNamed ss) Wrong
   start_named_case ss Strange = each.nowhere (StartNamed ss) Strange
 
-  -- behind the bracket after `STARTTERM`
+  -- the steps after the bracket after `STARTTERM`
   pub start_opened_case : (ss : List Section) (p : Piece) → P (StartOpened ss) p (step (StartOpened ss) p)
   start_opened_case ss (In (inner.Word name)) = each.start_opened_word ss name
   start_opened_case ss (In (inner.Digits ds)) = each.nowhere (StartOpened ss) (In (inner.Digits ds))
@@ -155,7 +155,7 @@ module _ (P : Front → Piece → Option Front → Type 0) (each : HoldsOfSteps 
   start_opened_case ss Wrong = each.nowhere (StartOpened ss) Wrong
   start_opened_case ss Strange = each.nowhere (StartOpened ss) Strange
 
-  -- behind `FUNCTIONSYMBOLS`
+  -- the steps after `FUNCTIONSYMBOLS`
   pub start_listed_case : (ss : List Section) (p : Piece) → P (StartListed ss) p (step (StartListed ss) p)
   start_listed_case ss (In (inner.Word name)) = each.start_listed_word ss name
   start_listed_case ss (In (inner.Digits ds)) = each.nowhere (StartListed ss) (In (inner.Digits ds))
@@ -179,7 +179,7 @@ module _ (P : Front → Piece → Option Front → Type 0) (each : HoldsOfSteps 
   start_listed_case ss Wrong = each.nowhere (StartListed ss) Wrong
   start_listed_case ss Strange = each.nowhere (StartListed ss) Strange
 
-  -- behind the start symbol
+  -- the steps after the start symbol
   pub start_said_case : (ss : List Section) (start : Name) (p : Piece)
       → P (StartRead ss start) p (step (StartRead ss start) p)
   start_said_case ss start (In (inner.Word name)) = each.nowhere (StartRead ss start) (In (inner.Word name))
@@ -204,7 +204,7 @@ module _ (P : Front → Piece → Option Front → Type 0) (each : HoldsOfSteps 
   start_said_case ss start Wrong = each.nowhere (StartRead ss start) Wrong
   start_said_case ss start Strange = each.nowhere (StartRead ss start) Strange
 
-  -- behind the bracket that closes on the start symbol
+  -- the steps after the bracket that closes on the start symbol
   pub start_shut_case : (ss : List Section) (start : Name) (p : Piece)
       → P (StartClosed ss start) p (step (StartClosed ss start) p)
   start_shut_case ss start (In (inner.Word name)) = each.nowhere (StartClosed ss start) (In (inner.Word name))
@@ -229,7 +229,7 @@ module _ (P : Front → Piece → Option Front → Type 0) (each : HoldsOfSteps 
   start_shut_case ss start Wrong = each.nowhere (StartClosed ss start) Wrong
   start_shut_case ss start Strange = each.nowhere (StartClosed ss start) Strange
 
-  -- behind `(VAR` and names
+  -- the steps after `(VAR` and names
   pub listing_case : (ss : List Section) (names : List Name) (p : Piece)
       → P (Listing ss names) p (step (Listing ss names) p)
   listing_case ss names (In (inner.Word name)) = each.listing_word ss names name
@@ -254,7 +254,7 @@ module _ (P : Front → Piece → Option Front → Type 0) (each : HoldsOfSteps 
   listing_case ss names Wrong = each.nowhere (Listing ss names) Wrong
   listing_case ss names Strange = each.nowhere (Listing ss names) Strange
 
-  -- behind `(COMMENT`
+  -- the steps after `(COMMENT`
   pub comment_named_case : (ss : List Section) (p : Piece) → P (CommentNamed ss) p (step (CommentNamed ss) p)
   comment_named_case ss (In (inner.Word name)) = each.nowhere (CommentNamed ss) (In (inner.Word name))
   comment_named_case ss (In (inner.Digits ds)) = each.nowhere (CommentNamed ss) (In (inner.Digits ds))

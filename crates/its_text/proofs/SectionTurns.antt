@@ -1,4 +1,4 @@
--- Along each step what is read is within the limits exactly where it was before, and the front is quiet: between
+-- Along each step what is read is within the limits exactly if it was before, and the state is quiet: between
 -- sections, and within all but those of rules.
 use Rattle.std.proofs.Common.{◌≡◌, ℕ, suc, ◌≤◌, Bool, true, false, if◌then◌else◌, ◌&&◌, ◌||◌, ◌↔◌, codes, List, [], ◌∷◌}
 use Rattle.std.proofs.Common.{Option, Some, None, refl, ap, sym, subst, ◌∙◌, arith}
@@ -17,7 +17,7 @@ use Rattle.its_text.specs.FrontFaults.{is_goal, is_start, is_variables, is_rules
 use Rattle.its_text.specs.Spelling.{times, HaveRules, HaveRulesWithin}
 use Rattle.its_text.proofs.KeptFronts.{first, AreDone, IsRulingKept, IsKept, IsQuiet}
 
--- a piece leads nowhere, or to a front that keeps the limits exactly where the one before does and is quiet
+-- a piece is rejected, or leads to a state that keeps the limits exactly if the one before does and is quiet
 abbrev pub Turns : Front → Piece → List Piece → Option Front → Type 0
 Turns f p ps None = ⊤
 Turns f p ps (Some g) = IsKept g ps ↔ (IsKept f (p ∷ ps) × IsQuiet f (Some p) (first ps))
@@ -28,7 +28,7 @@ pub when_turns : (v : Bool) (f : Front) (p : Piece) (ps : List Piece) (g : Front
 when_turns true f p ps g h = h
 when_turns false f p ps g h = tt
 
--- there are no sections of a kind exactly where they are none
+-- there are no sections of a kind exactly if they are none
 times_none : (test : Section → Bool) (ss : List Section) → has test ss ≡ false → times test ss ≡ 0
 times_none test [] h = refl
 times_none test (s ∷ ss) h = go (test s) h (λ k. times_none test ss k)
@@ -47,7 +47,7 @@ none_times test (s ∷ ss) h = go (test s) h (λ k. none_times test ss k)
     go true k ih = absurd (omega (arith, k))
     go false k ih = ih k
 
--- where one comes once, it wasn't there before
+-- there is at most one such section with another, exactly if there is none without it
 once_more : (test : Section → Bool) (ss : List Section) → (suc (times test ss) ≤ 1) ↔ (has test ss ≡ false)
 once_more test ss = (
   λ h. none_times test ss (omega (arith, h)),
@@ -89,7 +89,7 @@ goal_done ss = (
   },
 )
 
--- sections with one more of a start symbol are as they are to be exactly where they were and had none
+-- sections with one more of a start symbol are as they are to be exactly if they were and had none
 pub start_done : (ss : List Section) (name : Name) → AreDone (Start name ∷ ss)
     ↔ (AreDone ss × (has is_start ss ≡ false))
 start_done ss name = (
@@ -114,7 +114,7 @@ start_done ss name = (
   },
 )
 
--- sections with one more of variables are as they are to be exactly where they were and had none
+-- sections with one more of variables are as they are to be exactly if they were and had none
 pub variables_done : (ss : List Section) (names : List Name) → AreDone (Variables names ∷ ss)
     ↔ (AreDone ss × (has is_variables ss ≡ false))
 variables_done ss names = (
@@ -139,7 +139,7 @@ variables_done ss names = (
   },
 )
 
--- sections with a comment more are as they are to be exactly where they were
+-- sections with a comment more are as they are to be exactly if they were
 pub comment_done : (ss : List Section) (bytes : List ℕ) → AreDone (Comment bytes ∷ ss) ↔ AreDone ss
 comment_done ss bytes = (
   λ h. record {
@@ -160,7 +160,7 @@ comment_done ss bytes = (
   },
 )
 
--- sections that end with rules are as they are to be exactly where the rules so far are
+-- sections that end with rules are as they are to be exactly if the rules so far are
 pub rules_done : (r : Ruling) → AreDone (section_of r) ↔ IsRulingKept r
 rules_done r = (
   λ h.
@@ -222,7 +222,7 @@ module _ (ss : List Section) (name : Name) (ps : List Piece) where
     λ h. kept.1 (h.0.0, sym named ∙ h.0.1),
   )
 
-  -- or a comment
+  -- the word `COMMENT` after an opening bracket begins a comment
   comment_turns : (v : Bool) → is_same name (codes "COMMENT") ≡ v
       → Turns (Opened ss) (word name) ps (if v then Some (CommentNamed ss) else None)
   comment_turns false e = tt

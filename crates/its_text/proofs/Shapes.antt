@@ -1,4 +1,4 @@
--- A target without `Com_1(..)` around it isn't named `Com_` and digits, in each front that a piece leads to.
+-- A target without `Com_1(..)` around it isn't named `Com_` and digits, in each state that a piece leads to.
 use Rattle.std.specs.Prelude.{◌≡◌, List, [], ◌∷◌, codes, Bool, true, false, if◌then◌else◌, Option, Some, None, ⊤, refl}
 use Rattle.std.specs.Prelude.{IsFalse}
 use Rattle.expr_text.specs.model.Programs.{Name}
@@ -38,7 +38,7 @@ IsAimed a = IsRuling a.led.ruling × IsWrap a.wrap a.name
 abbrev pub IsHeaded : Headed → Type 0
 IsHeaded h = IsRuling h.led.ruling × IsTarget h.target
 
--- the targets of a front are as they are to be
+-- the targets of a state have the right form
 abbrev pub IsFront : Front → Type 0
 IsFront (Between ss) = AreSections ss
 IsFront (Opened ss) = AreSections ss
@@ -72,7 +72,7 @@ IsFront (MarkGuarding h g) = IsHeaded h
 IsFront (SquareOpened h) = IsHeaded h
 IsFront (SquareGuarding h g) = IsHeaded h
 
--- the same for those of the front that a piece leads to
+-- the targets of the state after a step have the right form
 abbrev pub Keeps : Option Front → Type 0
 Keeps None = ⊤
 Keeps (Some g) = IsFront g
@@ -211,7 +211,7 @@ behind_open_keeps a (inner.Joining joint) h = arguing_step_keeps a [] expression
 abbrev KeepsOn : Front → Piece → Option Front → Type 0
 KeepsOn f p o = IsFront f → Keeps o
 
--- each step that leads somewhere does
+-- each accepting step keeps this form
 keeps_each : HoldsOfSteps KeepsOn
 keeps_each = record {
   nowhere = λ f p k. tt;

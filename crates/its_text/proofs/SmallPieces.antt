@@ -1,4 +1,4 @@
--- The next piece is within its limits exactly where the front shows nothing against its length and its size.
+-- The next piece is within its limits exactly if the state shows no fault in its length or its size.
 use Rattle.std.proofs.Common.{◌≡◌, ℕ, true, false, List, length, Option, Some, None, refl}
 use Rattle.expr_text.specs.model.Limits.{name_limit, coefficient_limit}
 use Rattle.expr_text.specs.Pieces as inner
@@ -84,7 +84,7 @@ going_small (Some g) Strange h = tt
 pub next_small : (f : Front) (p : Piece) (behind : Option Piece) → IsSmallPiece p → IsNextSmall f (Some p) behind
 next_small f p behind h = (not_long p h, going_small (shown.open_expression f (Some p) behind) p h)
 
--- digits that are taken go on with an expression, and so are small
+-- digits that are taken continue an expression, and so are small
 costing_digits : (r : Ruling) (t : LeftTerm) (o : Option expression.Front) (g : Front) → cost_step r t o ≡ Some g
     → is_front o ≡ true
 costing_digits r t (Some f) g same = refl

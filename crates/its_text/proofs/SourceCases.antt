@@ -1,4 +1,4 @@
--- What holds of each step that leads somewhere holds of each step in the rules up to an arrow, with its cost.
+-- A property of each accepting step is one of each step in the rules up to an arrow, with its cost.
 use Rattle.std.specs.Prelude.{List, Option}
 use Rattle.expr_text.specs.model.Programs.{Name}
 use Rattle.expr_text.specs.Pieces as inner
@@ -12,7 +12,7 @@ use Rattle.its_text.specs.Steps.{step}
 use Rattle.its_text.proofs.StepCases.{HoldsOfSteps}
 
 module _ (P : Front → Piece → Option Front → Type 0) (each : HoldsOfSteps P) where
-  -- behind `(RULES` and whole rules
+  -- the steps after `(RULES` and whole rules
   pub ruled_case : (r : Ruling) (p : Piece) → P (AfterRule r) p (step (AfterRule r) p)
   ruled_case r (In p) = each.ruled_piece r p
   ruled_case r Comma = each.nowhere (AfterRule r) Comma
@@ -27,7 +27,7 @@ module _ (P : Front → Piece → Option Front → Type 0) (each : HoldsOfSteps 
   ruled_case r Wrong = each.nowhere (AfterRule r) Wrong
   ruled_case r Strange = each.nowhere (AfterRule r) Strange
 
-  -- behind a rule's source
+  -- the steps after a rule's source
   pub source_named_case : (r : Ruling) (source : Name) (p : Piece)
       → P (SourceNamed r source) p (step (SourceNamed r source) p)
   source_named_case r source (In (inner.Word name)) = each.nowhere (SourceNamed r source) (In (inner.Word name))
@@ -52,7 +52,7 @@ module _ (P : Front → Piece → Option Front → Type 0) (each : HoldsOfSteps 
   source_named_case r source Wrong = each.nowhere (SourceNamed r source) Wrong
   source_named_case r source Strange = each.nowhere (SourceNamed r source) Strange
 
-  -- behind the bracket that opens left arguments
+  -- the steps after the bracket that opens left arguments
   pub left_opened_case : (r : Ruling) (source : Name) (p : Piece)
       → P (LeftOpened r source) p (step (LeftOpened r source) p)
   left_opened_case r source (In (inner.Word name)) = each.left_opened_word r source name
@@ -77,7 +77,7 @@ module _ (P : Front → Piece → Option Front → Type 0) (each : HoldsOfSteps 
   left_opened_case r source Wrong = each.nowhere (LeftOpened r source) Wrong
   left_opened_case r source Strange = each.nowhere (LeftOpened r source) Strange
 
-  -- behind a left argument
+  -- the steps after a left argument
   pub left_read_case : (r : Ruling) (source a : Name) (earlier : List Name) (p : Piece)
       → P (LeftRead r source a earlier) p (step (LeftRead r source a earlier) p)
   left_read_case r source a earlier (In (inner.Word name)) = each.nowhere (LeftRead r source a earlier) (In (inner.Word name))
@@ -102,7 +102,7 @@ module _ (P : Front → Piece → Option Front → Type 0) (each : HoldsOfSteps 
   left_read_case r source a earlier Wrong = each.nowhere (LeftRead r source a earlier) Wrong
   left_read_case r source a earlier Strange = each.nowhere (LeftRead r source a earlier) Strange
 
-  -- behind the comma after a left argument
+  -- the steps after the comma after a left argument
   pub left_parted_case : (r : Ruling) (source a : Name) (earlier : List Name) (p : Piece)
       → P (LeftParted r source a earlier) p (step (LeftParted r source a earlier) p)
   left_parted_case r source a earlier (In (inner.Word name)) = each.left_parted_word r source a earlier name
@@ -127,7 +127,7 @@ module _ (P : Front → Piece → Option Front → Type 0) (each : HoldsOfSteps 
   left_parted_case r source a earlier Wrong = each.nowhere (LeftParted r source a earlier) Wrong
   left_parted_case r source a earlier Strange = each.nowhere (LeftParted r source a earlier) Strange
 
-  -- behind the left term
+  -- the steps after the left term
   pub left_shut_case : (r : Ruling) (t : LeftTerm) (p : Piece) → P (SourceClosed r t) p (step (SourceClosed r t) p)
   left_shut_case r t (In (inner.Word name)) = each.nowhere (SourceClosed r t) (In (inner.Word name))
   left_shut_case r t (In (inner.Digits ds)) = each.nowhere (SourceClosed r t) (In (inner.Digits ds))

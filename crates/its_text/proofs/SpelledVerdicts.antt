@@ -1,5 +1,5 @@
--- A text is read as a program exactly where it spells that one within the limits: along its fronts what has been read
--- is within them exactly where nothing is shown.
+-- A text is read as a program exactly if it spells it within the limits: along its states the pieces read are within
+-- the limits exactly if no fault is shown.
 use Rattle.std.proofs.Common.{◌≡◌, ℕ, ◌≤◌, ◌↔◌, List, [], ◌∷◌, length, Option, Some, None, refl, ap, sym, subst, ◌∙◌}
 use Rattle.std.proofs.Common.{arith}
 use Rattle.expr_text.specs.model.Programs.{Name, Program}
@@ -34,12 +34,12 @@ record IsFrontWithin (f : Front) (ps : List Piece) : Type 0 where
   small : AreSmall (front_pieces f)
   kept : IsKept f ps
 
--- a front shows nothing against the pieces behind it
+-- a state shows no fault at the pieces after it
 record IsSilent (f : Front) (p : Piece) (ps : List Piece) : Type 0 where
   quiet : IsQuiet f (Some p) (first ps)
   small : IsNextSmall f (Some p) (first ps)
 
--- along a step what has been read is within the limits exactly where it was and nothing is shown
+-- after a step the pieces read are within the limits exactly if they were before it and no fault is shown
 step_within : (f g : Front) (p : Piece) (ps : List Piece) → step f p ≡ Some g → IsFrontWithin g ps
     ↔ (IsFrontWithin f (p ∷ ps) × IsSilent f p ps)
 step_within f g p ps same =
@@ -94,7 +94,7 @@ nothing_done =
       within = tt;
     }
 
--- what is read keeps the limits where nothing is shown
+-- where no fault is shown the pieces read are within the limits
 keeps_limits : KeepsLimits programs AreSectionsWithin IsFrontWithin
 keeps_limits = record {
   begins = λ ps. record { small = tt; kept = nothing_done };
@@ -111,7 +111,7 @@ pub answered_sections : (n : ℕ) (ts : Tokens) (ss : List Section) → answer p
     → AreSectionsWithin ss
 answered_sections = answered_within programs programs_laws AreSectionsWithin IsFrontWithin keeps_limits
 
--- a front behind which a text within the limits goes on, or ends
+-- a state from which a text within the limits continues, or ends
 abbrev LeadsWithin : Front → List Piece → Type 0
 LeadsWithin f [] = IsFrontWithin f [] × ((ss : List Section) × (finish f ≡ Some ss))
 LeadsWithin f (p ∷ ps) = IsFrontWithin f (p ∷ ps) × IsSilent f p ps
@@ -179,7 +179,7 @@ both_there ss p None (Some rules) e f same = cc
 both_there ss p (Some start) None e f same = cc
 both_there ss p (Some start) (Some rules) e f same = (start_there ss start e, rules_there ss rules f)
 
--- what is read is spelled within the limits
+-- a text that is read spells its program within the limits
 text_spells : (bytes : List ℕ) (p : Program) → IsTextOf bytes p → SpellsWithin bytes p
 text_spells bytes p t =
     let read = faultless_answered bytes t.written t.stands in
@@ -208,7 +208,7 @@ text_spells bytes p t =
 pub verdict_spells : (bytes : List ℕ) (p : Program) → verdict bytes ≡ Stands p → SpellsWithin bytes p
 verdict_spells bytes p same = text_spells bytes p (subst (IsVerdict bytes) same (verdict_right bytes))
 
--- and what is spelled within them is read
+-- a text that spells a program within the limits is read as it
 pub spelled_stands : (bytes : List ℕ) (p : Program) → SpellsWithin bytes p → verdict bytes ≡ Stands p
 spelled_stands bytes p s =
     let w = s.spells.written in
@@ -232,6 +232,6 @@ spelled_stands bytes p s =
     ap (verdict_of_answer (length bytes) (tokens_of bytes)) read
     ∙ whole_numbered (length bytes) (tokens_of bytes) w p (start_of w) (rules_of w) s.spells.numbered
 
--- a text is read as a program exactly where it spells that one within the limits
+-- a text is read as a program exactly if it spells that one within the limits
 pub verdicts_are_spelled : VerdictsAreSpelled
 verdicts_are_spelled = record { stands = λ bytes p. (verdict_spells bytes p, spelled_stands bytes p) }

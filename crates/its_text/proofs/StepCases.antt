@@ -1,4 +1,4 @@
--- The steps of a program's text that lead somewhere: what holds of each of them holds of every step.
+-- The accepting steps of a program's text: a property of each of them is one of every step.
 use Rattle.std.specs.Prelude.{ℕ, List, [], ◌∷◌, codes, Option, Some, None}
 use Rattle.expr_text.specs.model.Programs.{Name}
 use Rattle.expr_text.specs.text_core.Names.{is_same}
@@ -23,58 +23,58 @@ use Rattle.its_text.specs.Steps.{behind_comma, argument_step}
 use Rattle.its_text.specs.Steps.{mark_guard_step, square_guard_step, square_ended, behind_mark, behind_word}
 use Rattle.its_text.specs.Steps.{behind_open}
 
--- it holds where a piece leads nowhere, and of each step that leads somewhere
+-- the property holds of each rejection, and of each accepting step
 pub record HoldsOfSteps (P : Front → Piece → Option Front → Type 0) : Type 0 where
   pub nowhere : (f : Front) (p : Piece) → P f p None
   -- between sections
   pub between_open : (ss : List Section) → P (Between ss) (In inner.Open) (Some (Opened ss))
-  -- behind the bracket that opens a section
+  -- the steps after the bracket that opens a section
   pub opened_word : (ss : List Section) (name : Name) → P (Opened ss) (In (inner.Word name)) (section_named ss name)
-  -- behind `(GOAL`
+  -- the steps after `(GOAL`
   pub goal_named_word : (ss : List Section) (name : Name)
       → P (GoalNamed ss) (In (inner.Word name)) (when (is_same name (codes "COMPLEXITY")) (GoalRead ss))
-  -- behind `(GOAL COMPLEXITY`
+  -- the steps after `(GOAL COMPLEXITY`
   pub goal_said_close : (ss : List Section) → P (GoalRead ss) (In inner.Close) (Some (Between (Goal ∷ ss)))
-  -- behind `(STARTTERM`
+  -- the steps after `(STARTTERM`
   pub start_named_open : (ss : List Section) → P (StartNamed ss) (In inner.Open) (Some (StartOpened ss))
-  -- behind the bracket after `STARTTERM`
+  -- the steps after the bracket after `STARTTERM`
   pub start_opened_word : (ss : List Section) (name : Name)
       → P (StartOpened ss) (In (inner.Word name)) (when (is_same name (codes "FUNCTIONSYMBOLS")) (StartListed ss))
-  -- behind `FUNCTIONSYMBOLS`
+  -- the steps after `FUNCTIONSYMBOLS`
   pub start_listed_word : (ss : List Section) (name : Name)
       → P (StartListed ss) (In (inner.Word name)) (Some (StartRead ss name))
-  -- behind the start symbol
+  -- the steps after the start symbol
   pub start_said_close : (ss : List Section) (name : Name)
       → P (StartRead ss name) (In inner.Close) (Some (StartClosed ss name))
-  -- behind the bracket that closes on the start symbol
+  -- the steps after the bracket that closes on the start symbol
   pub start_shut_close : (ss : List Section) (name : Name)
       → P (StartClosed ss name) (In inner.Close) (Some (Between (Start name ∷ ss)))
-  -- behind `(VAR` and names
+  -- the steps after `(VAR` and names
   pub listing_word : (ss : List Section) (names : List Name) (name : Name)
       → P (Listing ss names) (In (inner.Word name)) (Some (Listing ss (name ∷ names)))
   pub listing_close : (ss : List Section) (names : List Name)
       → P (Listing ss names) (In inner.Close) (Some (Between (Variables names ∷ ss)))
-  -- behind `(COMMENT`
+  -- the steps after `(COMMENT`
   pub comment_named_remark : (ss : List Section) (bytes : List ℕ)
       → P (CommentNamed ss) (Remark bytes) (Some (Between (Comment bytes ∷ ss)))
-  -- behind `(RULES` and whole rules
+  -- the steps after `(RULES` and whole rules
   pub ruled_piece : (r : Ruling) (p : inner.Piece) → P (AfterRule r) (In p) (behind_rule r p)
-  -- behind a rule's source
+  -- the steps after a rule's source
   pub source_named_open : (r : Ruling) (name : Name) → P (SourceNamed r name) (In inner.Open) (Some (LeftOpened r name))
-  -- behind the bracket that opens left arguments
+  -- the steps after the bracket that opens left arguments
   pub left_opened_word : (r : Ruling) (name : Name) (a : Name)
       → P (LeftOpened r name) (In (inner.Word a)) (Some (LeftRead r name a []))
   pub left_opened_close : (r : Ruling) (name : Name)
       → P (LeftOpened r name) (In inner.Close) (Some (left_shut r name []))
-  -- behind a left argument
+  -- the steps after a left argument
   pub left_read_comma : (r : Ruling) (name a : Name) (earlier : List Name)
       → P (LeftRead r name a earlier) Comma (Some (LeftParted r name a earlier))
   pub left_read_close : (r : Ruling) (name a : Name) (earlier : List Name)
       → P (LeftRead r name a earlier) (In inner.Close) (Some (left_shut r name (a ∷ earlier)))
-  -- behind the comma after a left argument
+  -- the steps after the comma after a left argument
   pub left_parted_word : (r : Ruling) (name a : Name) (earlier : List Name) (b : Name)
       → P (LeftParted r name a earlier) (In (inner.Word b)) (Some (LeftRead r name b (a ∷ earlier)))
-  -- behind the left term
+  -- the steps after the left term
   pub left_shut_arrow : (r : Ruling) (t : LeftTerm) → P (SourceClosed r t) Arrow (Some (behind_left r t None))
   pub left_shut_cost : (r : Ruling) (t : LeftTerm)
       → P (SourceClosed r t) CostOpen (Some (Costing r t expression.beginning))
@@ -83,35 +83,35 @@ pub record HoldsOfSteps (P : Front → Piece → Option Front → Type 0) : Type
       → P (Costing r t e) (In p) (cost_step r t (expression_steps.step e p))
   pub costing_close : (r : Ruling) (t : LeftTerm) (e : expression.Front)
       → P (Costing r t e) CostClose (cost_ended r t (expression_steps.finish e))
-  -- behind the arrow
+  -- the steps after the arrow
   pub arrowed_word : (l : Led) (name : Name) → P (Arrowed l) (In (inner.Word name)) (Some (behind_arrow l name))
-  -- behind `Com_1`
+  -- the steps after `Com_1`
   pub com_named_open : (l : Led) → P (ComNamed l) (In inner.Open) (Some (ComOpened l))
-  -- behind `Com_1(`
+  -- the steps after `Com_1(`
   pub com_opened_word : (l : Led) (name : Name) → P (ComOpened l) (In (inner.Word name)) (Some (behind_target_name l InCom name))
-  -- behind the name of a right term
+  -- the steps after the name of a right term
   pub target_named_open : (a : Aimed) → P (TargetNamed a) (In inner.Open) (Some (RightOpened a))
-  -- behind the bracket that opens right arguments
+  -- the steps after the bracket that opens right arguments
   pub right_opened_piece : (a : Aimed) (p : inner.Piece) → P (RightOpened a) (In p) (behind_open a p)
   -- in an argument
   pub in_argument_piece : (a : Aimed) (arguments : List Sum) (e : expression.Front) (p : inner.Piece)
       → P (Arguing a arguments e) (In p) (argument_step a arguments e (expression_steps.step e p) p)
   pub in_argument_comma : (a : Aimed) (arguments : List Sum) (e : expression.Front)
       → P (Arguing a arguments e) Comma (behind_comma a arguments (expression_steps.finish e))
-  -- behind the right term within `Com_1(`
+  -- the steps after the right term within `Com_1(`
   pub right_shut_close : (l : Led) (t : RightTerm) → P (TargetClosed l t) (In inner.Close) (Some (behind_target l (Marked t)))
-  -- behind the target
+  -- the steps after the target
   pub targeted_piece : (h : Headed) (p : inner.Piece) → P (Targeted h) (In p) (behind_rule (ruling_with h NoGuard) p)
   pub targeted_mark : (h : Headed) → P (Targeted h) GuardMark (Some (GuardMarked h))
   pub targeted_square : (h : Headed) → P (Targeted h) SquareOpen (Some (SquareOpened h))
-  -- behind `:|:`
+  -- the steps after `:|:`
   pub guard_marked_piece : (h : Headed) (p : inner.Piece) → P (GuardMarked h) (In p) (behind_mark h p)
-  -- behind a name after `:|:`
+  -- the steps after a name after `:|:`
   pub word_read_piece : (h : Headed) (name : Name) (p : inner.Piece) → P (WordRead h name) (In p) (behind_word h name p)
   -- in the atoms after `:|:`
   pub mark_guarding_piece : (h : Headed) (g : guards.GuardFront) (p : inner.Piece)
       → P (MarkGuarding h g) (In p) (mark_guard_step h g (guards.step g p) p)
-  -- behind `[`
+  -- the steps after `[`
   pub square_opened_piece : (h : Headed) (p : inner.Piece)
       → P (SquareOpened h) (In p) (square_guard_step h (guards.step guards.no_atoms p))
   pub square_opened_square_close : (h : Headed)

@@ -1,4 +1,4 @@
--- Each piece that is read is written last in the new front.
+-- Each piece that is read is written last in the new state.
 use Rattle.std.specs.Prelude.{◌≡◌, List, [], ◌∷◌, codes, Bool, true, false, if◌then◌else◌, Option, Some, None, ⊤, refl}
 use Rattle.std.proofs.Common.{sym, ◌∙◌, ap}
 use Rattle.expr_text.specs.model.Programs.{Name}
@@ -29,7 +29,7 @@ use Rattle.its_text.specs.Steps.{square_ended, guard_named, behind_mark, behind_
 use Rattle.its_text.proofs.StepCases.{HoldsOfSteps}
 use Rattle.its_text.proofs.EveryStep.{of_step}
 
--- the front that a piece leads to is written with the piece behind what was written
+-- the state after a piece is written as the pieces before and this one
 abbrev pub Leads : List Piece → Piece → Option Front → Type 0
 Leads written p None = ⊤
 Leads written p (Some g) = front_pieces g ≡ p ∷ written
@@ -78,7 +78,7 @@ behind_rule_leads r inner.Caret written e = tt
 behind_rule_leads r (inner.Related sign) written e = tt
 behind_rule_leads r (inner.Joining joint) written e = tt
 
--- the arguments of a term, with another behind them
+-- the arguments of a term with another one
 pub parted_sums : (s : Sum) (arguments : List Sum) (before : List Piece) → sums_behind (s ∷ arguments) before ≡ sum_behind In s (parted_behind arguments before)
 parted_sums s [] before = refl
 parted_sums s (r ∷ arguments) before = refl
@@ -114,7 +114,7 @@ arguing_leads : (a : Aimed) (arguments : List Sum) (e : expression.Front) (o : O
 arguing_leads a arguments e (Some more) p w = w
 arguing_leads a arguments e None p w = argued_leads a arguments e (expression_steps.finish e) p (finish_written In e (parted_behind arguments (open_bracket ∷ aimed_pieces a)))
 
--- the same for those of a cost
+-- a piece of a cost is written after the pieces before it
 costing_leads : (r : Ruling) (t : LeftTerm) (e : expression.Front) (o : Option expression.Front) (p : inner.Piece)
     → Adds In (CostOpen ∷ left_behind t (ruling_pieces r)) e p o → Leads (front_pieces (Costing r t e)) (In p) (cost_step r t o)
 costing_leads r t e None p w = tt
@@ -187,11 +187,11 @@ behind_open_leads a inner.Caret = arguing_step_leads a [] expression.beginning i
 behind_open_leads a (inner.Related sign) = arguing_step_leads a [] expression.beginning (inner.Related sign)
 behind_open_leads a (inner.Joining joint) = arguing_step_leads a [] expression.beginning (inner.Joining joint)
 
--- a piece that is read is written behind those read before
+-- a piece is written after those read before
 abbrev LeadsOn : Front → Piece → Option Front → Type 0
 LeadsOn f p o = Leads (front_pieces f) p o
 
--- in each step that leads somewhere
+-- each accepting step writes its piece after those read before
 leads_each : HoldsOfSteps LeadsOn
 leads_each = record {
   nowhere = λ f p. tt;
@@ -238,6 +238,6 @@ leads_each = record {
   square_guarding_square_close = λ h g. square_ended_leads h g (guards.finish g) (guard_finish_written In g (SquareOpen ∷ headed_pieces h));
 }
 
--- each piece that is read is written behind those read before
+-- each piece is written after those read before
 pub step_leads : (f : Front) (p : Piece) → Leads (front_pieces f) p (step f p)
 step_leads f p = of_step LeadsOn leads_each f p

@@ -1,4 +1,4 @@
--- Along each step of a program's text what is read is within the limits exactly where it was before, and the front is
+-- Along each step of a program's text what is read is within the limits exactly if it was before, and the state is
 -- quiet.
 use Rattle.std.proofs.Common.{List, Option, codes, refl}
 use Rattle.expr_text.specs.text_core.Names.{is_same}
@@ -19,11 +19,11 @@ use Rattle.its_text.proofs.WordTurns.{guard_marked_turns, word_read_turns}
 use Rattle.its_text.proofs.StepCases.{HoldsOfSteps}
 use Rattle.its_text.proofs.EveryStep.{of_step}
 
--- what is read is within the limits exactly where it was before, and the front is quiet
+-- the pieces read are within the limits exactly if they were before the step and the state is quiet
 abbrev TurnsOn : Front → Piece → Option Front → Type 0
 TurnsOn f p o = (ps : List Piece) → Turns f p ps o
 
--- along each step that leads somewhere
+-- this holds of each accepting step
 turns_each : HoldsOfSteps TurnsOn
 turns_each = record {
   nowhere = λ f p ps. tt;

@@ -99,7 +99,7 @@ names_count (s ∷ symbols) = let e = names_count symbols in omega (arith, e)
 number_below : (symbols : List Symbol) (n : Name) → is_among n (names_of symbols) ≡ true → number_of symbols n < length symbols
 number_below symbols n h = let b = position_below n (names_of symbols) h in let e = names_count symbols in omega (arith, b, e)
 
--- and its places
+-- a named symbol has as many places as the symbol at its number
 places_at : (symbols : List Symbol) (n : Name) → is_among n (names_of symbols) ≡ true → arity_of symbols n ≡ arity_in (slice_get symbols (number_of symbols n))
 places_at [] n h = cc
 places_at (s ∷ symbols) n h = go (is_same n s.name) refl h (λ k. places_at symbols n k)
@@ -243,7 +243,7 @@ parts_valid None (Some rules) p e n w is = absurd (none_is_some e)
 parts_valid (Some start) None p e n w is = absurd (none_is_some e)
 parts_valid (Some start) (Some rules) p e n w is = program_valid start rules (first_leaving start rules) p refl e n w is
 
--- what a text spells within the limits
+-- a program that a text spells within the limits is valid
 pub spelled_valid : (bytes : List ℕ) (p : Program) → SpellsWithin bytes p → IsValid p
 spelled_valid bytes p s =
     let written = s.spells.written in

@@ -1,4 +1,4 @@
--- What is written within the limits stands for valid expressions and atoms, over the variables of its rule.
+-- Expressions and atoms that are written within the limits denote valid ones over the variables of their rule.
 use Rattle.std.proofs.Common.{◌≡◌, ◌+◌, ◌<◌, ◌≤◌, Bool, true, false, cond, not, ◌||◌, List, [], ◌∷◌, length}
 use Rattle.std.proofs.Common.{length-append, Option, Some, None, refl, ap, ◌∙◌, arith}
 use Rattle.std.specs.Prelude.{⊤}
@@ -64,7 +64,7 @@ pub sums_extends : (names : List Name) (sums : List Sum) → Extends names (with
 sums_extends names [] = extends_self names
 sums_extends names (s ∷ sums) = extended names (with_sums names sums) (with_sum (with_sums names sums) s) (sums_extends names sums) (sum_extends (with_sums names sums) s)
 
--- the same for those of a cost
+-- a cost extends the names before it
 pub cost_extends : (names : List Name) (cost : Option Sum) → Extends names (with_cost names cost)
 cost_extends names None = extends_self names
 cost_extends names (Some c) = sum_extends names c
@@ -94,7 +94,7 @@ pub cost_along : (names last : List Name) (cost : Option Sum) → Extends names 
 cost_along names last None e h = tt
 cost_along names last (Some c) e h = sum_along names last c e h
 
--- and among the variables once it is read
+-- the names of a cost are among the variables once it is read
 pub cost_is_read : (names : List Name) (cost : Option Sum) → CostReads (with_cost names cost) cost
 cost_is_read names None = tt
 cost_is_read names (Some c) = sum_is_read names c
@@ -116,7 +116,7 @@ arguments_valid names [] h w = tt
 arguments_valid names (s ∷ sums) h w =
     all_one_more (IsValidTerm (length names)) (sums_terms names sums) (sum_term names s) (arguments_valid names sums h.1 w.1) (record { variables = sum_below names s h.0; expands = w.0.expanded })
 
--- the same for a cost
+-- a cost within the limits denotes a valid one
 pub cost_valid : (names : List Name) (cost : Option Sum) → CostReads names cost → IsCostWithin names cost → IsValidCost (length names) (cost_term names cost)
 cost_valid names None h w = tt
 cost_valid names (Some c) h w = record { variables = sum_below names c h; expands = w.expanded }
@@ -168,7 +168,7 @@ atoms_count names (First a) = refl
 atoms_count names (Joined atoms joint a) =
     let e = length-append (atoms_terms names atoms) (atom_term names a ∷ []) in let k = atoms_count names atoms in omega (arith, e, k)
 
--- so is a guard, and beside the cost it has no more atoms than the limit
+-- a guard within the limits is valid, and with the cost it has no more atoms than the limit
 pub guard_valid : (cost : Option Sum) (names : List Name) (g : Guard) → IsGuardWithin (atoms_of_cost cost) (with_guard names g) g → AllByRecursion (IsValidAtom (length (with_guard names g))) (guard_terms (with_guard names g) g) × (length (guard_terms (with_guard names g) g) + atoms_of_cost cost ≤ 64)
 guard_valid cost names NoGuard w = (tt, (let one = at_most_one cost in omega (arith, one)))
 guard_valid cost names (BehindMark None) w = (tt, (let one = at_most_one cost in omega (arith, one)))
@@ -182,6 +182,6 @@ guard_valid cost names (InSquares (Some atoms)) w =
 pub read_in_rule : (names : List Name) (sums : List Sum) (g : Guard) → AllRead (with_guard (with_sums names sums) g) sums
 read_in_rule names sums g = all_read_more (with_sums names sums) (with_guard (with_sums names sums) g) sums (guard_extends (with_sums names sums) g) (sums_are_read names sums)
 
--- and there are at least as many as left ones
+-- an extension of names is at least as long
 pub no_fewer : (names last : List Name) → Extends names last → length names ≤ length last
 no_fewer names last e = let k = ap length e.1 ∙ length-append names e.0 in omega (arith, k)

@@ -18,7 +18,7 @@ use Rattle.its_text.specs.Spelling.{Spells}
 use Rattle.its_text.specs.Verdicts.{IsFaultless, IsVerdict, IsOnlyVerdict, VerdictsAreRight}
 use Rattle.its_text.proofs.ReaderLaws.{answers_all_texts, one_first_fault}
 
--- sections without faults are a program, or lack a part
+-- sections without faults are a program, or a required part is missing
 module _ (bytes : List ℕ) (written : List Section) (stands : IsFaultless bytes written) where
   of_program : (at : ℕ) (o : Option Program) → program_numbered written ≡ o → whole (length bytes) (tokens_of bytes) written (start_of written) (rules_of written) ≡ program_or at o → IsVerdict bytes (program_or at o)
   of_program at None e k = inr (record { written = written; stands = stands; lacks = k })

@@ -1,5 +1,5 @@
--- Along each step behind `:|:` and a name after it what is read is within the limits exactly where it was before, and
--- the front is quiet.
+-- Along each step after `:|:` and a name after it what is read is within the limits exactly if it was before, and
+-- the state is quiet.
 use Rattle.std.proofs.Common.{◌≡◌, Bool, true, false, if◌then◌else◌, ◌&&◌, ◌↔◌, nat_le, List, ◌∷◌, length}
 use Rattle.std.proofs.Common.{Option, Some, None, refl, ap, sym, subst, ◌∙◌}
 use Rattle.expr_text.specs.model.Programs.{Name}
@@ -21,7 +21,7 @@ use Rattle.its_text.proofs.LeftTurns.{room_for_rule}
 use Rattle.its_text.proofs.MadeRules.{no_marked}
 use Rattle.its_text.proofs.RuleTurns.{guard_first, mark_guarding_turns}
 
--- a name behind `:|:` begins another rule before a bracket, and else an atom
+-- a name after `:|:` begins another rule before a bracket, and else an atom
 abbrev IsWordQuiet : Headed → Name → Option Piece → Bool → Type 0
 IsWordQuiet h name behind opens =
     IsGoingQuiet (if opens then None else open_expression_in (headed_names h) guards.no_atoms) (Some (word name)) behind
@@ -76,7 +76,7 @@ marked_first h g p ps same =
     let begins = guard_first h g p (first ps) same in
     (λ k. let x = begins.0 k in (x.0, (refl, x.1)), λ k. begins.1 (k.0, k.1.1))
 
--- directly behind `:|:` each step keeps the limits exactly where the front is quiet
+-- directly after `:|:` each step keeps the limits exactly if the state is quiet
 pub guard_marked_turns : (h : Headed) (p : inner.Piece) (ps : List Piece)
     → Turns (GuardMarked h) (In p) ps (behind_mark h p)
 guard_marked_turns h (inner.Word name) ps = marked_word h name ps (is_open (first ps)) refl
@@ -93,7 +93,7 @@ guard_marked_turns h inner.Caret ps = tt
 guard_marked_turns h (inner.Related sign) ps = tt
 guard_marked_turns h (inner.Joining joint) ps = tt
 
--- behind that name
+-- a step after such a name that continues its atom
 as_guarding : (h : Headed) (name : Name) (p : inner.Piece) (ps : List Piece) → is_open (Some (In p)) ≡ false
     → shown.too_many_rules (WordRead h name) (Some (In p)) (first ps)
     ≡ shown.too_many_rules (MarkGuarding h (guard_named name)) (Some (In p)) (first ps)
@@ -116,7 +116,7 @@ word_opens h name ps =
       λ k. (made.1 k.0.0, k.0.1.rule refl),
     )
 
--- behind a name directly behind `:|:` each step keeps the limits exactly where the front is quiet
+-- after a name directly after `:|:` each step keeps the limits exactly if the state is quiet
 pub word_read_turns : (h : Headed) (name : Name) (p : inner.Piece) (ps : List Piece)
     → Turns (WordRead h name) (In p) ps (behind_word h name p)
 word_read_turns h name inner.Open ps = word_opens h name ps

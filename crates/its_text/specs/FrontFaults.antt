@@ -1,4 +1,4 @@
--- The faults that a front of a program's text shows, at the last token and at the next ones.
+-- The faults that a state of a program's text shows, at the last token and at the next ones.
 use Rattle.std.specs.Prelude.{ℕ, ◌+◌, ◌-◌, Bool, true, false, not, ◌&&◌, ◌||◌, if◌then◌else◌, nat_lt, nat_le, ◌==◌}
 use Rattle.std.specs.Prelude.{List}
 use Rattle.std.specs.Prelude.{[], ◌∷◌, ◌++◌, length, codes, Option, Some, None}
@@ -50,7 +50,7 @@ abbrev pub last_byte : Tokens → ℕ
 last_byte [] = 0
 last_byte (t ∷ done) = t.upto - 1
 
--- what a token says that is a name, and behind it a token that is tested
+-- the piece of a token that is a name, and of the token after it that is tested
 abbrev pub next_piece : Tokens → Option Piece
 next_piece [] = None
 next_piece (t ∷ rest) = Some t.piece
@@ -106,7 +106,7 @@ abbrev pub repeats : List Section → Option Piece → Option Piece → Bool
 repeats ss (Some (In inner.Open)) (Some (In (inner.Word name))) = has_named ss name
 repeats ss _ _ = false
 
--- a rule begins with the next token behind as many rules as the limit
+-- a rule begins with the next token after as many rules as the limit
 abbrev pub is_word : Option Piece → Bool
 is_word (Some (In (inner.Word name))) = true
 is_word _ = false
@@ -118,12 +118,12 @@ is_open _ = false
 abbrev pub are_full : List WrittenRule → Bool
 are_full rules = nat_le rule_limit (length rules)
 
--- whether the atoms so far can end, so that a name behind them begins a rule
+-- whether the atoms so far can end, so that a name after them begins a rule
 abbrev pub can_end : Option Atoms → Bool
 can_end None = false
 can_end (Some atoms) = true
 
--- the next piece doesn't go on with a guard's expression
+-- the next piece doesn't continue a guard's expression
 abbrev pub ends_expression : expression.Front → Option Piece → Bool
 ends_expression e (Some (In p)) = not (goes_on_with e p)
 ends_expression e _ = true
@@ -153,7 +153,7 @@ abbrev pub targets_again : Front → Option Piece → Option Piece → Bool
 targets_again (ComOpened l) (Some (In (inner.Word name))) behind = is_same name (codes "Com_1") && is_open behind
 targets_again _ _ behind = false
 
--- the left arguments so far, where another is wanted
+-- the left arguments so far, where another must follow
 abbrev pub left_wanted : Front → Option (List Name)
 left_wanted (LeftOpened r name) = Some []
 left_wanted (LeftParted r name a earlier) = Some (a ∷ earlier)
@@ -188,8 +188,8 @@ has_other_arity (TargetClosed l t) = other_arity (with_right (symbols_behind l) 
 has_other_arity (Targeted h) = bare_differs h.led h.target
 has_other_arity _ = false
 
--- the expression that the next token can go on with: the variables before it, what of it has been read, and whether it
--- is the left side of an atom
+-- the expression that the next token can continue: the variables before it, the pieces of it read so far, and whether
+-- it is the left side of an atom
 pub record OpenExpression : Type 0 where
   pub names : List Name
   pub front : expression.Front
@@ -231,14 +231,14 @@ is_operating _ = false
 abbrev pub is_truth : OpenExpression → Name → Option Piece → Bool
 is_truth g name behind = g.leads_atom && (token_count g.front == 0) && truth_worded name && not (is_operating behind)
 
--- a variable is new behind as many as the limit
+-- a variable is new after as many as the limit
 abbrev pub passes_variables : OpenExpression → inner.Piece → Option Piece → Bool
 passes_variables g (inner.Word name) behind =
     not (is_truth g name behind) && not (is_among name (with_front g.names g.front))
     && nat_le variable_limit (length (with_front g.names g.front))
 passes_variables g _ behind = false
 
--- what the next token of an expression shows: the literal, the variable or the token is one too many
+-- the faults of the next token of an expression: the literal, the variable or the token is one too many
 abbrev pub expression_faults : ℕ → OpenExpression → inner.Piece → Option Piece → FaultList
 expression_faults at g p behind =
     fault_if (is_large p) NumberTooLarge at
@@ -254,13 +254,14 @@ abbrev pub begins : Option Piece → Bool
 begins (Some (In p)) = begins_expression p
 begins _ = false
 
--- an argument begins with it behind as many as the limit
+-- an argument begins with the next token after as many arguments as the limit
 abbrev pub passes_arguments : Front → Option Piece → Bool
 passes_arguments (Arguing a arguments e) next =
     (token_count e == 0) && nat_le place_limit (length arguments) && begins next
 passes_arguments _ next = false
 
--- an atom begins with it behind as many as the limit, with this many others that the rule's cost counts as
+-- an atom begins with the next token after as many atoms as the limit, with this many others that the rule's cost
+-- counts as
 abbrev pub is_full : ℕ → GuardFront → Bool
 is_full others (LeftSide NoAtoms e) = false
 is_full others (LeftSide (JointAfter atoms joint) e) =
@@ -304,7 +305,7 @@ atom_faults at names (RightSide c l sign e) next =
     if ends_expression e next then right_side_faults at (before_expression names (RightSide c l sign e)) l sign
     (expression_steps.finish e) else []
 
--- what has ended behind the last token, a cost, an argument or an atom, can't be expanded
+-- the fault of a cost, an argument or an atom that has ended and can't be expanded
 abbrev pub ended_faults : ℕ → Front → Option Piece → FaultList
 ended_faults at (Costing r t e) next =
     if ends_expression e next then argument_faults at (left_names t) (expression_steps.finish e) else []
@@ -319,7 +320,7 @@ abbrev pub repeats_at : Front → Option Piece → Option Piece → Bool
 repeats_at (Between ss) next behind = repeats ss next behind
 repeats_at _ next behind = false
 
--- the faults that a front shows at the next token, given the one behind it
+-- the faults that a state shows at the next token, given the one after it
 abbrev pub next_faults : ℕ → Front → Option Piece → Option Piece → FaultList
 next_faults at f next behind =
     fault_if (targets_again f next behind) Syntax at
@@ -332,17 +333,17 @@ next_faults at f next behind =
     ++ fault_if (long_name next) (Limit LongName) at
     ++ token_faults at (open_expression f next behind) next behind
 
--- what a front shows at the last byte of what has been read
+-- the faults that a state shows at the last byte read
 abbrev pub last_faults : ℕ → Front → Option Piece → FaultList
 last_faults at f next = fault_if (has_other_arity f) ArityDiffers at ++ ended_faults at f next
 
--- the faults that a front shows
+-- the faults that a state shows
 abbrev pub front_faults : ℕ → Tokens → Front → Tokens → FaultList
 front_faults n done f rest =
     last_faults (last_byte done) f (next_piece rest)
     ++ next_faults (next_at n rest) f (next_piece rest) (piece_behind rest)
 
--- a left argument begins with what is no name
+-- a piece that is no name where a left argument must follow
 abbrev pub is_no_name : inner.Piece → Bool
 is_no_name (inner.Digits ds) = true
 is_no_name inner.Open = true
@@ -353,7 +354,7 @@ abbrev pub left_break_kind : Option (List Name) → inner.Piece → Kind
 left_break_kind None p = Syntax
 left_break_kind (Some arguments) p = if is_no_name p then LeftNotVariable else Syntax
 
--- why a text breaks off at the next token
+-- the kind of refusal where a text breaks off at the next token
 abbrev pub break_kind_at : Front → Option Piece → Kind
 break_kind_at f (Some (In p)) = left_break_kind (left_wanted f) p
 break_kind_at f (Some Disjoining) = Disjunction

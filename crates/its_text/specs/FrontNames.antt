@@ -1,4 +1,4 @@
--- What is known at a front: the symbols and rules so far, and the variables of the rule that is being read.
+-- What is known in a state: the symbols and rules so far, and the variables of the rule that is being read.
 use Rattle.std.specs.Prelude.{List}
 use Rattle.expr_text.specs.model.Programs.{Name, Symbol}
 use Rattle.expr_text.specs.Trees.{Sum}
@@ -6,7 +6,7 @@ use Rattle.its_text.specs.Written.{LeftTerm}
 use Rattle.its_text.specs.Numbering.{symbols_of, with_left, term_in, arrow_names, with_sums}
 use Rattle.its_text.specs.Fronts.{Ruling, Led, Headed}
 
--- the symbols behind a left term, and so before a right one
+-- the symbols known after a left term, and so before a right one
 abbrev pub symbols_led : Ruling → LeftTerm → List Symbol
 symbols_led r t = with_left (symbols_of r.rules) t
 

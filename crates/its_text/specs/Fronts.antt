@@ -36,7 +36,7 @@ pub record Headed : Type 0 where
   pub led : Led
   pub target : Target
 
--- what was read last
+-- the parser state, by the part of the text that was read last
 pub data Front : Type 0 where
   -- nothing, or a whole section
   Between : List Section → Front
@@ -57,7 +57,7 @@ pub data Front : Type 0 where
   CommentNamed : List Section → Front
   -- `(RULES` and whole rules
   AfterRule : Ruling → Front
-  -- a rule's source, its `(`, a left argument behind earlier ones, the comma behind it, the closing bracket
+  -- a rule's source, its `(`, a left argument after earlier ones, the comma after it, the closing bracket
   SourceNamed : Ruling → Name → Front
   LeftOpened : Ruling → Name → Front
   LeftRead : Ruling → Name → Name → List Name → Front
@@ -69,17 +69,17 @@ pub data Front : Type 0 where
   Arrowed : Led → Front
   ComNamed : Led → Front
   ComOpened : Led → Front
-  -- the name of a right term, its `(`, some of an argument behind others, the closing bracket within `Com_1(`
+  -- the name of a right term, its `(`, some of an argument after others, the closing bracket within `Com_1(`
   TargetNamed : Aimed → Front
   RightOpened : Aimed → Front
   Arguing : Aimed → List Sum → ExpressionFront → Front
   TargetClosed : Led → RightTerm → Front
-  -- the target, `:|:`, a name behind it that begins a rule or an atom, some of the atoms behind `:|:`
+  -- the target, `:|:`, a name after it that begins a rule or an atom, some of the atoms after `:|:`
   Targeted : Headed → Front
   GuardMarked : Headed → Front
   WordRead : Headed → Name → Front
   MarkGuarding : Headed → GuardFront → Front
-  -- `[`, some of the atoms behind it
+  -- `[`, some of the atoms after it
   SquareOpened : Headed → Front
   SquareGuarding : Headed → GuardFront → Front
 
@@ -120,7 +120,7 @@ aimed_pieces a = word a.name ∷ wrap_pieces a.led a.wrap
 abbrev pub headed_pieces : Headed → List Piece
 headed_pieces h = target_behind h.target (led_pieces h.led)
 
--- arguments with a comma behind the last one
+-- arguments with a comma after the last one
 abbrev pub parted_behind : List Sum → List Piece → List Piece
 parted_behind [] before = before
 parted_behind (s ∷ sums) before = Comma ∷ sums_behind (s ∷ sums) before

@@ -10,7 +10,7 @@ use Rattle.its_text.specs.Steps.{beginning, step, finish}
 use Rattle.its_text.specs.Kinds.{Kind, kind_number}
 use Rattle.its_text.specs.FrontFaults.{front_faults, break_kind}
 
--- behind an arrow `Com_1` is no symbol of its own
+-- after an arrow `Com_1` is no symbol of its own
 abbrev pub IsTarget : Target → Type 0
 IsTarget (Marked t) = ⊤
 IsTarget (Bare t) = IsFalse (is_same t.name (codes "Com_1"))

@@ -16,7 +16,7 @@ use Rattle.its_text.specs.Pieces.{Disjoining, Remark, Wrong, Strange, word, digi
 abbrev pub lexeme : Piece → ℕ → Lexeme (Option Piece)
 lexeme p len = record { piece = Some p; len = len }
 
--- what `-` begins, with the bytes behind
+-- the lexeme of bytes that begin with `-`
 abbrev pub minus_at : List ℕ → Lexeme (Option Piece)
 minus_at bytes =
     if begins_with 62 bytes then lexeme Arrow 2
@@ -38,7 +38,7 @@ guard_mark_at [] = lexeme Wrong 1
 guard_mark_at (b ∷ []) = lexeme Wrong 1
 guard_mark_at (b ∷ c ∷ bytes) = if (b == 124) && (c == 58) then lexeme GuardMark 3 else lexeme Wrong 1
 
--- what any other byte begins
+-- the lexeme of bytes that begin with any other byte
 abbrev pub mark_at : ℕ → List ℕ → Lexeme (Option Piece)
 mark_at b bytes =
     if b == 40 then lexeme open_bracket 1
@@ -61,7 +61,7 @@ mark_at b bytes =
     else if nat_lt 127 b then lexeme Strange 1
     else lexeme Wrong 1
 
--- what the bytes from the first one on begin with
+-- the first lexeme of bytes outside a comment
 abbrev pub lexeme_at : ℕ → List ℕ → Lexeme (Option Piece)
 lexeme_at b bytes =
     if is_white_space b then record { piece = None; len = 1 }
@@ -71,7 +71,7 @@ lexeme_at b bytes =
     (1 + length (prefix is_ascii_digit bytes))
     else mark_at b bytes
 
--- what a byte of a comment does: it opens a bracket, closes one, or neither
+-- a byte of a comment opens a bracket, closes one, or does neither
 pub data Bend : Type 0 where
   Opening : Bend
   Closing : Bend
@@ -85,7 +85,7 @@ abbrev pub one_more : Option ℕ → Option ℕ
 one_more None = None
 one_more (Some n) = Some (suc n)
 
--- how many bytes there are up to the closing bracket, from a byte on that does something, with this many brackets open
+-- the number of bytes up to the closing bracket, from a byte that may open or close one, with this many brackets open
 -- in the comment
 abbrev pub closing_by : Bend → (ℕ → Option ℕ) → ℕ → Option ℕ
 closing_by Opening behind depth = one_more (behind (suc depth))
@@ -98,19 +98,19 @@ abbrev pub closing_at : List ℕ → ℕ → Option ℕ
 closing_at [] depth = None
 closing_at (b ∷ bytes) depth = closing_by (bend_of b) (closing_at bytes) depth
 
--- the mode of the lexer: between sections, behind the bracket that opens one, inside one with this many open brackets,
--- or behind the keyword of a comment
+-- the mode of the lexer: between sections, after the bracket that opens one, inside one with this many open brackets,
+-- or after the keyword of a comment
 pub data Mode : Type 0 where
   Outside : Mode
   AtKeyword : Mode
   Within : ℕ → Mode
   InComment : Mode
 
--- behind a keyword
+-- after a keyword
 abbrev pub behind_keyword : Name → Mode
 behind_keyword name = if is_same name (codes "COMMENT") then InComment else Within 0
 
--- the mode behind a piece
+-- the mode after a piece
 abbrev pub mode_behind : Mode → Option Piece → Mode
 mode_behind mode None = mode
 mode_behind Outside (Some (In inner.Open)) = AtKeyword
@@ -125,18 +125,19 @@ mode_behind (Within (suc depth)) (Some (In inner.Close)) = Within depth
 mode_behind (Within depth) (Some p) = Within depth
 mode_behind InComment (Some p) = Outside
 
--- this many elements from the front on
+-- the first so many elements of a list
 abbrev pub take_front : ℕ → List ℕ → List ℕ
 take_front zero bytes = []
 take_front (suc n) [] = []
 take_front (suc n) (b ∷ bytes) = b ∷ take_front n bytes
 
--- what a comment says, up to the bracket that closes it; one that isn't closed says nothing, and the text ends with it
+-- the lexeme of a comment: its bytes up to the bracket that closes it; one that isn't closed is no piece, and the text
+-- ends with it
 abbrev pub remark_of : ℕ → List ℕ → Option ℕ → Lexeme (Option Piece)
 remark_of b bytes None = record { piece = None; len = 1 + length bytes }
 remark_of b bytes (Some len) = lexeme (Remark (take_front len (b ∷ bytes))) len
 
--- what the bytes from the first one on begin with, by the mode
+-- the first lexeme of bytes, by the mode
 abbrev pub lexeme_in : Mode → ℕ → List ℕ → Lexeme (Option Piece)
 lexeme_in Outside b bytes = lexeme_at b bytes
 lexeme_in AtKeyword b bytes = lexeme_at b bytes

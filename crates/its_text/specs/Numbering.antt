@@ -79,7 +79,7 @@ abbrev pub atoms_of_cost : Option Sum → ℕ
 atoms_of_cost None = 0
 atoms_of_cost (Some c) = 1
 
--- the variables once an arrow is read, behind a left term
+-- the variables after an arrow that follows a left term
 abbrev pub arrow_names : LeftTerm → Option Sum → List Name
 arrow_names t cost = with_cost (left_names t) cost
 
@@ -126,7 +126,7 @@ abbrev pub rules_numbered : List Symbol → List WrittenRule → List plain.Rule
 rules_numbered symbols [] = []
 rules_numbered symbols (r ∷ earlier) = rules_numbered symbols earlier ++ rule_numbered symbols r ∷ []
 
--- the start symbol's name, and the rules, where there is such a section
+-- the start symbol's name, and the rules, if there is such a section
 abbrev pub or_start : Option Name → Section → Option Name
 or_start found (Start name) = Some name
 or_start found Goal = found

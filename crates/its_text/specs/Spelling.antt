@@ -107,7 +107,7 @@ abbrev pub IsCostWithin : List Name → Option Sum → Type 0
 IsCostWithin names None = ⊤
 IsCostWithin names (Some c) = IsArgumentWithin names c
 
--- a guard has no more atoms than the limit, beside so many that its rule's cost counts as
+-- a guard has no more atoms than the limit, beside this many that its rule's cost counts as
 abbrev pub IsMaybeWithin : ℕ → List Name → Option Atoms → Type 0
 IsMaybeWithin others names None = ⊤
 IsMaybeWithin others names (Some atoms) = (count_of atoms + others ≤ atom_limit) × AreAtomsWithin names atoms
@@ -149,6 +149,6 @@ pub record SpellsWithin (bytes : List ℕ) (p : Program) : Type 0 where
 pub record OneProgram : Type 0 where
   pub each : (bytes : List ℕ) (p q : Program) → Spells bytes p → Spells bytes q → p ≡ q
 
--- what a text spells within the limits is a valid program
+-- a program that a text spells within the limits is valid
 pub record SpelledIsValid : Type 0 where
   pub each : (bytes : List ℕ) (p : Program) → SpellsWithin bytes p → IsValid p

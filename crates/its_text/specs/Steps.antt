@@ -34,11 +34,11 @@ section_named ss name =
 abbrev pub left_shut : Ruling → Name → List Name → Front
 left_shut r name arguments = SourceClosed r (record { name = name; arguments = arguments })
 
--- the arrow is read behind a left term, with a cost or none
+-- the state after an arrow that follows a left term, with a cost or none
 abbrev pub behind_left : Ruling → LeftTerm → Option Sum → Front
 behind_left r t cost = Arrowed (record { ruling = r; left = t; cost = cost })
 
--- a cost goes on, where it can
+-- the state after a piece within a cost, if the cost can continue
 abbrev pub cost_step : Ruling → LeftTerm → Option expression.Front → Option Front
 cost_step r t None = None
 cost_step r t (Some more) = Some (Costing r t more)
@@ -48,11 +48,11 @@ abbrev pub cost_ended : Ruling → LeftTerm → Option Sum → Option Front
 cost_ended r t None = None
 cost_ended r t (Some c) = Some (behind_left r t (Some c))
 
--- the front behind a right term's name, inside `Com_1(..)` or alone
+-- the state after a right term's name, inside `Com_1(..)` or alone
 abbrev pub behind_target_name : Led → Wrap → Name → Front
 behind_target_name l wrap name = TargetNamed (record { led = l; wrap = wrap; name = name })
 
--- `Com_1` behind an arrow, or the name of a term
+-- the state after a name that follows an arrow: `Com_1`, or the name of a term
 abbrev pub behind_arrow : Led → Name → Front
 behind_arrow l name = if is_same name (codes "Com_1") then ComNamed l else behind_target_name l Alone name
 
@@ -60,7 +60,7 @@ behind_arrow l name = if is_same name (codes "Com_1") then ComNamed l else behin
 abbrev pub behind_target : Led → Target → Front
 behind_target l target = Targeted (record { led = l; target = target })
 
--- the front behind the end of a right term, inside `Com_1(..)` or alone
+-- the state after the end of a right term, inside `Com_1(..)` or alone
 abbrev pub shut_by : Led → Wrap → RightTerm → Front
 shut_by l InCom t = TargetClosed l t
 shut_by l Alone t = behind_target l (Bare t)
@@ -68,7 +68,7 @@ shut_by l Alone t = behind_target l (Bare t)
 abbrev pub right_shut : Aimed → List Sum → Front
 right_shut a arguments = shut_by a.led a.wrap (record { name = a.name; arguments = arguments })
 
--- what a rule ends before: the next one, or the end of the section
+-- the state after a piece that ends a rule: the name of the next one, or the end of the section
 abbrev pub behind_rule : Ruling → inner.Piece → Option Front
 behind_rule r (inner.Word name) = Some (SourceNamed r name)
 behind_rule r inner.Close = Some (Between (section_of r))
@@ -83,17 +83,17 @@ abbrev pub behind_argument : Aimed → List Sum → Option Sum → inner.Piece �
 behind_argument a arguments (Some s) inner.Close = Some (right_shut a (s ∷ arguments))
 behind_argument a arguments _ _ = None
 
--- an argument goes on, where it can, or else ends
+-- the state after a piece within an argument: the argument continues, if it can, else it ends
 abbrev pub argument_step : Aimed → List Sum → expression.Front → Option expression.Front → inner.Piece → Option Front
 argument_step a arguments e (Some more) p = Some (Arguing a arguments more)
 argument_step a arguments e None p = behind_argument a arguments (expression_steps.finish e) p
 
--- atoms behind `:|:` end, where they can, before what follows a rule
+-- the state after atoms that end, if they can, before a piece that follows a rule
 abbrev pub guard_ended : Headed → Option Atoms → inner.Piece → Option Front
 guard_ended h None p = None
 guard_ended h (Some atoms) p = behind_rule (ruling_with h (BehindMark (Some atoms))) p
 
--- atoms behind `:|:` go on, where they can, or else end
+-- the state after a piece within atoms after `:|:`: they continue, if they can, else they end
 abbrev pub mark_guard_step : Headed → guards.GuardFront → Option guards.GuardFront → inner.Piece → Option Front
 mark_guard_step h g (Some more) p = Some (MarkGuarding h more)
 mark_guard_step h g None p = guard_ended h (guards.finish g) p
@@ -112,23 +112,25 @@ square_ended h (Some atoms) = Some (AfterRule (ruling_with h (InSquares (Some at
 abbrev pub guard_named : Name → guards.GuardFront
 guard_named name = guards.LeftSide guards.NoAtoms (expression_steps.read [] expression.empty_level (Named name))
 
--- what follows `:|:`: a name, which begins a rule or an atom, the end of the section, or an atom
+-- the state after a piece that follows `:|:`: a name, which begins a rule or an atom; the end of the section; or an
+-- atom
 abbrev pub behind_mark : Headed → inner.Piece → Option Front
 behind_mark h (inner.Word name) = Some (WordRead h name)
 behind_mark h inner.Close = Some (Between (section_of (ruling_with h (BehindMark None))))
 behind_mark h p = mark_guard_step h guards.no_atoms (guards.step guards.no_atoms p) p
 
--- what follows a name behind `:|:`: before a bracket it begins the next rule, else an atom
+-- the state after a piece that follows a name after `:|:`: before a bracket the name begins the next rule, else an
+-- atom
 abbrev pub behind_word : Headed → Name → inner.Piece → Option Front
 behind_word h name inner.Open = Some (LeftOpened (ruling_with h (BehindMark None)) name)
 behind_word h name p = mark_guard_step h (guard_named name) (guards.step (guard_named name) p) p
 
--- what follows the bracket of a right term: its closing bracket, or an argument
+-- the state after a piece that follows the bracket of a right term: its closing bracket, or an argument
 abbrev pub behind_open : Aimed → inner.Piece → Option Front
 behind_open a inner.Close = Some (right_shut a [])
 behind_open a p = argument_step a [] expression.beginning (expression_steps.step expression.beginning p) p
 
--- where a piece leads
+-- the state after a piece
 abbrev pub step : Front → Piece → Option Front
 step (Between ss) (In inner.Open) = Some (Opened ss)
 step (Opened ss) (In (inner.Word name)) = section_named ss name

@@ -31,7 +31,8 @@ pub record LacksPart (bytes : List ℕ) (x : Fault Kind) : Type 0 where
   pub stands : IsFaultless bytes written
   pub lacks : whole (length bytes) (tokens_of bytes) written (start_of written) (rules_of written) ≡ Refused x
 
--- a verdict is right: a program that the text is of, or the first fault, or what is lacking where there is no fault
+-- a verdict is right: the program of the text, or its first fault, or the missing section or rule if there is no other
+-- fault
 abbrev pub IsVerdict : List ℕ → Answer Program Kind → Type 0
 IsVerdict bytes (Stands p) = IsTextOf bytes p
 IsVerdict bytes (Refused x) = IsFirst programs (length bytes) (tokens_of bytes) x ⊎ LacksPart bytes x
@@ -50,6 +51,6 @@ pub record IsOnlyVerdict (bytes : List ℕ) (a : Answer Program Kind) : Type 0 w
   pub right : IsVerdict bytes a
   pub only : (b : Answer Program Kind) → IsVerdict bytes b → b ≡ a
 
--- a text is read as a program exactly where it spells that one within the limits
+-- a text is read as a program exactly if it spells that one within the limits
 pub record VerdictsAreSpelled : Type 0 where
   pub stands : (bytes : List ℕ) (p : Program) → (verdict bytes ≡ Stands p) ↔ SpellsWithin bytes p

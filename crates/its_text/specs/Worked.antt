@@ -15,7 +15,7 @@ use Rattle.its_text.specs.Answers.{verdict}
 abbrev pub RefusedAt : List ℕ → ℕ → Kind → Type 0
 RefusedAt bytes at kind = verdict bytes ≡ Refused (record { kind = kind; at = at })
 
--- rules behind a start symbol
+-- rules after a start symbol
 abbrev pub with_rules : List ℕ → List ℕ
 with_rules rules = codes "(STARTTERM (FUNCTIONSYMBOLS l0))(RULES " ++ rules ++ codes ")"
 
@@ -38,12 +38,12 @@ pub record FirstFaults : Type 0 where
   -- a literal over 2^63 - 1
   pub large_literal : RefusedAt
       (with_rules (codes "l0(A) -> Com_1(l1(A)) :|: A*A <= 9223372036854775808")) 72 NumberTooLarge
-  -- a literal that is too large directly behind `:|:`, before a bracket that can't follow
+  -- a literal that is too large directly after `:|:`, before a bracket that can't follow
   pub literal_before_bracket : RefusedAt (with_rules
       (codes "l0(A) -> Com_1(l1(A)) :|: 9223372036854775808 (")) 65 NumberTooLarge
   -- an argument ends where the next token can't follow, and its fault comes before that token
   pub ended_argument : RefusedAt (with_rules (codes "l0(A) -> Com_1(l1(A^9 l2")) 59 (Limit HighDegree)
-  -- one that goes on hasn't
+  -- an argument that continues has no such fault
   pub open_argument : RefusedAt (with_rules (codes "l0(A) -> Com_1(l1(A^9+))")) 61 Syntax
   -- `Com_2` before anything but a bracket: at the next token
   pub com_without_bracket : RefusedAt (with_rules (codes "l0(A) -> Com_2 l1(A)")) 54 Syntax
@@ -59,9 +59,9 @@ pub record FirstFaults : Type 0 where
   pub left_bracket : RefusedAt (with_rules (codes "l0((A)) -> Com_1(l0(A))")) 42 LeftNotVariable
   -- two names are none: at the second
   pub two_names : RefusedAt (with_rules (codes "l0(A B) -> Com_1(l0(A))")) 44 Syntax
-  -- nor is a symbol: at its bracket
+  -- a symbol is no left argument either: the fault is at its bracket
   pub left_call : RefusedAt (with_rules (codes "l0(f(A)) -> Com_1(l0(A))")) 43 Syntax
-  -- a name before a bracket begins a rule directly behind `:|:` alone
+  -- a name before a bracket begins a rule directly after `:|:` alone
   pub bracket_in_atom : RefusedAt (with_rules (codes "l0(A) -> Com_1(l1(A)) :|: A >= l0(A)")) 72 Syntax
   -- 2^9 comes before 2^63, and its exponent is over 8
   pub lower_powers : RefusedAt (with_rules (codes "l0(A) -> Com_1(l1(2^63))")) 60 (Limit HighDegree)
@@ -78,7 +78,7 @@ pub record FirstFaults : Type 0 where
   -- a cost is one expression: not two, nor none
   pub two_costs : RefusedAt (with_rules (codes "l0(A) -{A,1}> Com_1(l1(A))")) 48 Syntax
   pub no_cost : RefusedAt (with_rules (codes "l0(A) -{}> Com_1(l1(A))")) 47 Syntax
-  -- nor a comparison; `}>` doesn't come before the bracket that closes
+  -- a comparison is no cost either; `}>` can't follow an open bracket
   pub compared_cost : RefusedAt (with_rules (codes "l0(A) -{A>1}> Com_1(l1(A))")) 48 Syntax
   pub open_cost : RefusedAt (with_rules (codes "l0(A) -{(A}> Com_1(l1(A))")) 49 Syntax
   pub bars_in_cost : RefusedAt (with_rules (codes "l0(A) -{A||1}> Com_1(l1(A))")) 48 Disjunction
@@ -86,7 +86,7 @@ pub record FirstFaults : Type 0 where
   pub high_cost : RefusedAt (with_rules (codes "l0(A) -{A^9}> Com_1(l1(A))")) 49 (Limit HighDegree)
   pub large_cost : RefusedAt (with_rules (codes "l0(A) -{9223372036854775807*2}> Com_1(l1(A))")) 67 NumberTooLarge
   pub ended_cost : RefusedAt (with_rules (codes "l0(A) -{A^9 , 1}> Com_1(l1(A))")) 49 (Limit HighDegree)
-  -- one that goes on can be
+  -- a cost that continues has no such fault
   pub going_cost : RefusedAt (with_rules (codes "l0(A) -{A^9+}> Com_1(l1(A))")) 51 Syntax
   -- a literal that is too large in a cost
   pub literal_in_cost : RefusedAt (with_rules (codes "l0(A) -{9223372036854775808}> Com_1(l1(A))")) 47 NumberTooLarge
@@ -111,7 +111,7 @@ pub record FirstFaults : Type 0 where
   pub bracket_open : RefusedAt (with_rules (codes "l0(A) -> Com_1(l1((A)")) 61 Syntax
   -- a byte over 127
   pub not_ascii : RefusedAt (with_rules (codes "l0(A" ++ (200 ∷ codes ") -> Com_1(l1(A))"))) 43 NotAscii
-  -- but in a comment, which holds any bytes
+  -- in a comment, which holds any bytes, one is no fault
   pub ascii_in_comment : RefusedAt (codes "(COMMENT " ++ (200 ∷ codes ")")) 11 MissingSection
   -- a section twice
   pub repeated_section : RefusedAt (codes "(VAR A)(VAR A)") 7 RepeatedSection
@@ -167,7 +167,7 @@ from_l0 free updates guard = from_l0_costing None free updates guard
 abbrev pub IsReadAs : List ℕ → Program → Type 0
 IsReadAs bytes p = verdict bytes ≡ Stands p
 
--- what texts stand for
+-- the programs that texts denote
 pub record Programs : Type 0 where
   -- a target within `Com_1(` and one alone
   pub marked : IsReadAs (with_rules (codes "l0(A) -> Com_1(l1(A))"))
@@ -208,7 +208,7 @@ pub record Programs : Type 0 where
       (Multiplication (Multiplication (Literal (pos 2)) (Variable 0)) (Literal (pos 3)))
       ∷ Negation (Exponentiation (Variable 0) 2) ∷ Multiplication (Negation (Variable 0)) (Literal (pos 2)) ∷ []) []
       ∷ []))
-  -- sections in any order, comments raw to the bracket that closes them, a start symbol that rules lead to
+  -- sections in any order, comments with any bytes up to their closing bracket, a start symbol that rules lead to
   pub any_order : IsReadAs
       (codes "(COMMENT (|| !) )(RULES l1(B)->l0(0) l0(A) -> l1(007))(COMMENT)(GOAL COMPLEXITY)(VAR)(STARTTERM(FUNCTIONSYMBOLS l0))")
       (record {

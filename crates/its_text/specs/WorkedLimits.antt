@@ -54,7 +54,7 @@ atoms_beside_cost n = with_rules (codes "l0()-{0}>l1():|:" ++ joined (λ i. code
 abbrev pub minuses_in_cost : ℕ → List ℕ
 minuses_in_cost n = codes "(STARTTERM (FUNCTIONSYMBOLS l0))(RULES l0()-{" ++ replicate n 45
 
--- a product of a sum of 8 variables and one of this many others
+-- a product of a sum of 8 variables and one with this many others
 abbrev pub products : ℕ → List ℕ
 products n = with_rules (codes "l0()->l1((" ++ (joined variable (codes "+") 0 8
     ++ (codes ")*(" ++ (joined variable (codes "+") 10 n ++ codes "))"))))
@@ -64,7 +64,7 @@ abbrev pub products_in_cost : ℕ → List ℕ
 products_in_cost n = with_rules (codes "l0()-{(" ++ (joined variable (codes "+") 0 8
     ++ (codes ")*(" ++ (joined variable (codes "+") 10 n ++ codes ")}>l1()"))))
 
--- texts are read at a limit, and past it are refused where what is one too many begins
+-- texts are read at a limit; past it they are refused where the item that is one too many begins
 pub record LimitsAreWorkedOut : Type 0 where
   -- 32 arguments on the left and on the right
   pub left_full : IsRead (left_arguments 32)
@@ -88,7 +88,7 @@ pub record LimitsAreWorkedOut : Type 0 where
   -- more at that token
   pub tokens_full : RefusedAt (minuses 1024) 1072 Syntax
   pub tokens_passed : RefusedAt (minuses 1025) 1072 (Limit TooManyTokens)
-  -- the same for a cost
+  -- the limit on tokens of an expression, in a cost
   pub cost_tokens_full : RefusedAt (minuses_in_cost 1024) 1069 Syntax
   pub cost_tokens_passed : RefusedAt (minuses_in_cost 1025) 1069 (Limit TooManyTokens)
   -- 64 terms; one of more is refused at its last byte

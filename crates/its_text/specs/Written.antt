@@ -16,25 +16,25 @@ pub record RightTerm : Type 0 where
   pub name : Name
   pub arguments : List Sum
 
--- what a rule leads to: a term within `Com_1(` and `)`, or a term alone
+-- the target of a rule: a term within `Com_1(` and `)`, or a term alone
 pub data Target : Type 0 where
   Marked : RightTerm → Target
   Bare : RightTerm → Target
 
--- a rule's guard: none, atoms behind `:|:`, or atoms in square brackets; both may have no atoms
+-- a rule's guard: none, atoms after `:|:`, or atoms in square brackets; both may have no atoms
 pub data Guard : Type 0 where
   NoGuard : Guard
   BehindMark : Option Atoms → Guard
   InSquares : Option Atoms → Guard
 
--- a rule leads from the left term to its target, by an arrow that has a cost or none
+-- a rule: the left term, the cost in its arrow or none, its target and its guard
 pub record WrittenRule : Type 0 where
   pub left : LeftTerm
   pub cost : Option Sum
   pub target : Target
   pub guard : Guard
 
--- a section: what is wanted, the start symbol, the variables, the rules, or a comment with its closing bracket
+-- a section: the goal, the start symbol, the variables, the rules, or a comment with its closing bracket
 pub data Section : Type 0 where
   Goal : Section
   Start : Name → Section
@@ -42,7 +42,7 @@ pub data Section : Type 0 where
   Rules : List WrittenRule → Section
   Comment : List ℕ → Section
 
--- the pieces of each part behind those that come before it, the last one first
+-- the pieces of each part after those before it, the last one first
 abbrev pub names_behind : List Name → List Piece → List Piece
 names_behind [] before = before
 names_behind (a ∷ []) before = word a ∷ before

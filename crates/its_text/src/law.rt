@@ -46,7 +46,7 @@ pub fn verdicts_are_right()
     ensures { VerdictsAreRight }
 {}
 
-/// A text is read as a program exactly where it spells that program within the limits: a program that is read keeps
+/// A text is read as a program exactly if it spells that program within the limits: a program that is read keeps
 /// every limit, and a text whose program keeps all of them has no fault.
 pub fn verdicts_are_spelled()
     ensures { VerdictsAreSpelled }

@@ -48,7 +48,7 @@ expression_written names (Multiplication d e) =
 expression_written names (Exponentiation e n) =
     Alone (Single (Raised (operand_written names e (expression_written names e)) (numeral n)))
 
--- the expressions of arguments, behind others; the last one comes first
+-- the expressions of arguments, after others; the last one comes first
 abbrev pub arguments_written : List Name → List Sum → List Term → List Sum
 arguments_written names done [] = done
 arguments_written names done (e ∷ es) = arguments_written names (expression_written names e ∷ done) es
@@ -67,7 +67,7 @@ atom_written names plain.Always = Always Capitals
 atom_written names (plain.Compare d relation e) =
     Compared (expression_written names d) (sign_written relation) (expression_written names e)
 
--- atoms behind others
+-- atoms after others
 abbrev pub atoms_written : List Name → Atoms → List plain.Atom → Atoms
 atoms_written names done [] = done
 atoms_written names done (a ∷ atoms) = atoms_written names (Joined done Ampersands (atom_written names a)) atoms
@@ -91,7 +91,7 @@ rule_written symbols r = record {
   guard = guard_written r.names r.guard;
 }
 
--- rules behind others, the last one first
+-- rules after others, the last one first
 abbrev pub rules_written : List Name → List WrittenRule → List plain.Rule → List WrittenRule
 rules_written symbols done [] = done
 rules_written symbols done (r ∷ rules) = rules_written symbols (rule_written symbols r ∷ done) rules

@@ -18,7 +18,7 @@ use Rattle.its_writer.proofs.CanonicalSections.{operand_written, expression_writ
 use Rattle.its_writer.specs.Spellable.{IsNatural}
 use Rattle.its_writer.proofs.Lexed.{lexed, moved, word_lexed, numeral_lexed, IsApart, minus_lexed, name_apart, numeral_apart}
 
--- a text is read as pieces: behind any pieces, and before bytes that don't go on with a name
+-- a text is read as these pieces, after any pieces, and before bytes that don't continue a name
 pub record IsRead (d : ℕ) (text : List ℕ → List ℕ) (behind : List Piece → List Piece) : Type 0 where
   pub each : (before : List Piece) (rest : List ℕ) → Stops continues_name rest
       → onto before (lexed (Within d) (text rest)) ≡ onto (behind before) (lexed (Within d) rest)
@@ -50,7 +50,7 @@ literal_read d n = record { each = λ before rest stop. ap (onto before) (numera
 name_read : (d : ℕ) (name : Name) → IsName name → IsRead d (λ rest. name ++ rest) (λ before. word name ∷ before)
 name_read d name is = record { each = λ before rest stop. ap (onto before) (word_lexed d name rest is stop) }
 
--- an operand, by what its expression is read as
+-- an operand is read as its expression is
 operand_read : (d : ℕ) (names : List Name) (e : Term) → IsWritable names e → IsRead (suc d) (expression_then names e) (sum_behind In (expression_written names e))
     → IsRead d (operand_then names e) (base_behind In (operand_written names e (expression_written names e)))
 operand_read d names (Literal (pos n)) w h = literal_read d n

@@ -23,7 +23,7 @@ use Rattle.its_writer.proofs.Numerals.{numeral_is}
 use Rattle.its_writer.proofs.NamesAt.{names_count}
 use Rattle.its_writer.proofs.TermsOrdered.{known_below, known_next}
 
--- digits go on with a name
+-- digits continue a name
 digit_continues : (b : ℕ) → is_ascii_digit b ≡ true → continues_name b ≡ true
 digit_continues b h = grind (arith, nat_tests)
 
@@ -51,7 +51,7 @@ locations_differ i k h = go (is_same (location i).name (location k).name) refl
         let number : i ≡ k = sym (numeral_is i).value ∙ ap (digits_value 10) same ∙ (numeral_is k).value in
         absurd (omega (arith, number, h))
 
--- what holds of the name of each location holds of all names of locations
+-- a property of each location's name holds of all names of locations
 names_all : (P : Name → Type 0) → ((i : ℕ) → P (location i).name) → (m : ℕ) → AllByRecursion P (names_of (locations m))
 names_all P h zero = tt
 names_all P h (suc m) = subst (AllByRecursion P) (sym (names_one_more (locations m) (location m))) (all_one_more P (names_of (locations m)) (location m).name (names_all P h m) (h m))
@@ -68,7 +68,7 @@ names_differ (suc m) =
     subst AreDistinct (sym (names_one_more (locations m) (location m)))
     (distinct_one_more (names_of (locations m)) (location m).name (names_differ m) (none_before m m (omega arith)))
 
--- what holds of each name holds of the one with a number
+-- a property of all names holds of the one with a number
 pub all_at : (P : Name → Type 0) (names : List Name) (i : ℕ) → AllByRecursion P names → i < length names → P (name_at names i)
 all_at P [] i is h = absurd (omega (arith, h))
 all_at P (n ∷ names) zero is h = is.0
@@ -88,7 +88,7 @@ places_at [] i is h = absurd (omega (arith, h))
 places_at (s ∷ symbols) zero is h = is.0
 places_at (s ∷ symbols) (suc i) is h = places_at symbols i is.1 (omega (arith, h))
 
--- rules in order, and others behind them
+-- rules in order, followed by others in order
 order_joined : (xs ys : List Rule) (n : ℕ) → AreInOrder n xs → AreInOrder (symbols_behind n xs) ys → AreInOrder n (xs ++ ys)
 order_joined [] ys n a b = b
 order_joined (x ∷ xs) ys n a b = (a.0, a.1, order_joined xs ys (known_with (known_with n x.source) x.target) a.2 b)
@@ -118,7 +118,7 @@ rules_order (suc n) =
           ∙ ap (λ m. symbols_behind m (counting_rule (suc n) ∷ leaving_rule (suc n) ∷ [])) before.1 ∙ two.1 ∙ (let e : suc (n + 2) ≡ suc n + 2 = omega arith in e),
     )
 
--- what holds of each rule holds of all
+-- a property of each rule of two lists holds of the appended list
 pub all_joined : {X : Type 0} (P : X → Type 0) (xs ys : List X) → AllByRecursion P xs → AllByRecursion P ys → AllByRecursion P (xs ++ ys)
 all_joined P [] ys a b = b
 all_joined P (x ∷ xs) ys a b = (a.0, all_joined P xs ys a.1 b)

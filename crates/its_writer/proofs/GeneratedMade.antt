@@ -12,7 +12,7 @@ use Rattle.its_writer.specs.Layout.{numeral, integer_then}
 use Rattle.its_writer.specs.Printing.{WritesAll}
 use Rattle.its_writer.specs.Generated.{location, two_names, counting_rule, leaving_rule, locations, generated_rules, generated}
 
--- the number is written behind the letter
+-- the number is written after the letter
 pub named : (i : ℕ) (old new : List ℕ) → old ≡ 108 ∷ [] → WritesAll old new (integer_then (pos i)) → new ≡ (location i).name
 named i old new letter w =
     sym (append-nil new) ∙ w.each [] ∙ ap (λ (bs : List ℕ). bs ++ (numeral i ++ [])) letter ∙ ap (λ (ds : List ℕ). 108 ∷ ds) (append-nil (numeral i))

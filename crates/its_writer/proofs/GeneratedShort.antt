@@ -36,7 +36,7 @@ leaving_short symbols i s t = record {
   each = λ rest. line_length (name_at symbols i) (name_at symbols (suc i)) (codes "(B,B))\n") rest s t (omega arith);
 }
 
--- the same for the lines of rules together
+-- the lines of rules together are short
 lines_short : (symbols : List Name) (rules : List Rule) (rest : List ℕ) → AllByRecursion (IsShortLine symbols) rules
     → length (each_then (rule_then symbols) rules rest) ≤ 700 * length rules + length rest
 lines_short symbols [] rest s = omega arith

@@ -26,7 +26,7 @@ use Rattle.its_text.specs.Numbering.{names_of}
 use Rattle.its_text.proofs.ValidPrograms.{names_one_more}
 use Rattle.its_text.proofs.DistinctNames.{all_one_more}
 
--- names of at most three digits behind `l` are short
+-- names of at most three digits after `l` are short
 short_location : (i : ℕ) → i < 1000 → length (location i).name ≤ name_limit
 short_location i h =
     let same : length (numeral i) ≤ 3 = subst (λ (ds : List ℕ). length ds ≤ 3) (sym (numeral_decimal i (omega (arith, h)))) (length-decimal-le_wide 3 i (omega arith) (omega (arith, h)) (omega (arith, h))) in
@@ -105,7 +105,7 @@ leaving_small symbols i source target = record {
   };
 }
 
--- rules behind others are so
+-- rules after others are small too
 rules_small : (symbols : List Name) (done : List WrittenRule) (rules : List Rule) (before : List Piece) → AllByRecursion (IsSmallRule symbols) rules → AreSmall (rules_behind done before) → AreSmall (rules_behind (rules_written symbols done rules) before)
 rules_small symbols done [] before s h = h
 rules_small symbols done (r ∷ rules) before s h = rules_small symbols (rule_written symbols r ∷ done) rules before s.1 (s.0.pieces (rules_behind done before) h)

@@ -26,30 +26,30 @@ lexed mode bytes = pieces (tokens_in lexer mode 0 0 bytes)
 pub moved : (mode : Mode) (at : ℕ) (bytes : List ℕ) → pieces (tokens_in lexer mode at 0 bytes) ≡ lexed mode bytes
 moved mode at bytes = pieces_in lexer bytes mode 0 at 0
 
--- a piece, and those behind its bytes
+-- a piece, and those of the bytes after it
 piece_first : (d : ℕ) (b : ℕ) (bytes behind : List ℕ) (p : Piece) (len : ℕ) → lexeme p (suc len) ≡ lexeme_at b bytes → behind ≡ drop len bytes
     → lexed (Within d) (b ∷ bytes) ≡ p ∷ lexed (mode_behind (Within d) (Some p)) behind
 piece_first d b bytes behind p len is rests =
     ap pieces (tokens_in-first lexer (Within d) 0 (b ∷ bytes) bytes behind b (lexeme p (suc len)) refl is (omega arith) rests)
     ∙ ap (λ ps. p ∷ ps) (moved (mode_behind (Within d) (Some p)) (0 + suc len) behind)
 
--- as many bytes as there are before others are passed over
+-- dropping all the bytes before others leaves the others
 passed : (xs ys : List ℕ) → ys ≡ drop (length xs) (xs ++ ys)
 passed [] ys = refl
 passed (x ∷ xs) ys = passed xs ys
 
--- what begins a name is no white space
+-- a byte that begins a name is no white space
 not_white : (b : ℕ) → begins_name b ≡ true → is_white_space b ≡ false
 not_white b h = grind (arith, nat_tests)
 
--- nor is a digit, and it begins no name
+-- a digit is no white space, and begins no name
 digit_not_white : (b : ℕ) → is_ascii_digit b ≡ true → is_white_space b ≡ false
 digit_not_white b h = grind (arith, nat_tests)
 
 digit_no_name : (b : ℕ) → is_ascii_digit b ≡ true → begins_name b ≡ false
 digit_no_name b h = grind (arith, nat_tests)
 
--- what doesn't go on with a name is no digit
+-- a byte that doesn't continue a name is no digit
 no_digit : (b : ℕ) → continues_name b ≡ false → is_ascii_digit b ≡ false
 no_digit b h = grind (arith, nat_tests)
 
@@ -60,7 +60,7 @@ stops_digits (b ∷ rest) h = no_digit b h
 one_more : (n : ℕ) → suc n ≡ 1 + n
 one_more n = omega arith
 
--- a name before bytes that don't go on with it
+-- a name before bytes that don't continue it
 word_at : (b : ℕ) (bytes rest : List ℕ) → begins_name b ≡ true → list_all continues_name bytes ≡ true → Stops continues_name rest
     → lexeme (word (b ∷ bytes)) (suc (length bytes)) ≡ lexeme_at b (bytes ++ rest)
 word_at b bytes rest h all stop =
@@ -100,7 +100,7 @@ minus_at_is bytes h = rw (h.0, h.1) refl
 pub minus_lexed : (d : ℕ) (bytes : List ℕ) → IsApart bytes → lexed (Within d) (45 ∷ bytes) ≡ In inner.Minus ∷ lexed (Within d) bytes
 minus_lexed d bytes h = piece_first d 45 bytes bytes (In inner.Minus) 0 (minus_at_is bytes h) refl
 
--- a name, and a numeral, are such bytes
+-- a byte that begins a name, or is a digit, is neither `>` nor `{`
 name_apart_byte : (b : ℕ) → begins_name b ≡ true → ((b == 62) ≡ false) × ((b == 123) ≡ false)
 name_apart_byte b h = (grind (arith, nat_tests), grind (arith, nat_tests))
 

@@ -15,7 +15,7 @@ use Rattle.its_text.proofs.DistinctNames.{differ_back}
 use Rattle.its_writer.specs.Expressions.{name_at}
 use Rattle.its_writer.specs.Spellable.{known_with}
 
--- what holds of each name holds of the one with a number
+-- if all names are of this form, so is the one with a number
 pub name_at_is : (names : List Name) (i : ℕ) → AllByRecursion IsName names → i < length names → IsName (name_at names i)
 name_at_is [] i is h = absurd (omega (arith, h))
 name_at_is (n ∷ names) zero is h = is.0
@@ -37,7 +37,7 @@ position_at (m ∷ names) (suc i) d h =
     ap (λ (v : Bool). cond (not v) (1 + position_of (name_at names i) names) 0) (differ_back m (name_at names i) (none_at m names i d.0 within))
     ∙ (let e : 1 + position_of (name_at names i) names ≡ suc i = omega (arith, p) in e)
 
--- a name is among so many first ones exactly where its number is below
+-- a name is among this many first ones exactly if its number is below
 pub among_first : (names : List Name) (n i : ℕ) → AreDistinct names → i < length names → is_among (name_at names i) (take n names) ≡ nat_lt i n
 among_first [] n i d h = absurd (omega (arith, h))
 among_first (m ∷ names) zero i d h = let e : nat_lt i 0 ≡ false = grind (arith, nat_tests) in sym e
@@ -55,7 +55,7 @@ first_next [] n h = absurd (omega (arith, h))
 first_next (m ∷ names) zero h = refl
 first_next (m ∷ names) (suc n) h = ap (λ ns. m ∷ ns) (first_next names n (omega (arith, h)))
 
--- a name is read behind the first ones: one that is known, or the next one
+-- a name is read after the first ones: it is known, or the next one
 pub first_with : (names : List Name) (n i : ℕ) → AreDistinct names → i ≤ n → i < length names → with_name (take n names) (name_at names i) ≡ take (known_with n i) names
 first_with names n i d le h =
     ap (λ (v : Bool). if v then take n names else take n names ++ name_at names i ∷ []) (among_first names n i d h) ∙ go (nat_lt i n) refl
@@ -66,7 +66,7 @@ first_with names n i d le h =
         let same : n ≡ i = let k : n ≤ i = grind (arith, nat_tests) in omega (arith, k, le) in
         ap (λ m. take m names ++ name_at names i ∷ []) same ∙ first_next names i h
 
--- at least as many are known behind as before, and more than the number
+-- at least as many items are known after one as before it, and more than its number
 pub known_grows : (n i : ℕ) → n ≤ known_with n i
 known_grows n i = go (nat_lt i n) refl
   where
@@ -99,7 +99,7 @@ pub names_count : (symbols : List Symbol) → length (names_of symbols) ≡ leng
 names_count [] = refl
 names_count (s ∷ symbols) = let e = names_count symbols in omega (arith, e)
 
--- a symbol is read behind the first ones
+-- a symbol is read after the first ones
 pub symbols_with : (symbols : List Symbol) (n i arity : ℕ) → AreDistinct (names_of symbols) → i ≤ n → i < length symbols → arity_in (slice_get symbols i) ≡ arity
     → with_symbol (take n symbols) (name_at (names_of symbols) i) arity ≡ take (known_with n i) symbols
 symbols_with symbols n i arity d le h places =

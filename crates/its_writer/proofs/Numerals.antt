@@ -1,4 +1,4 @@
--- Numerals: how they grow by a digit, what they are made of, and which number they write.
+-- Numerals: how they grow by a digit, their digits, and the number that they denote.
 use Rattle.std.proofs.Common.{◌≡◌, ℕ, zero, suc, ◌+◌, ◌/◌, ◌%◌, ◌^◌, ◌<◌, ◌≤◌, true, List, [], ◌∷◌, ◌++◌, map, length}
 use Rattle.std.proofs.Common.{length-append, refl, sym, ap, subst, ◌∙◌, arith}
 use Rattle.std.specs.Prelude.{ℤ, pos, negsuc, nat_abs, nat_lt, Bool, false}
@@ -93,7 +93,7 @@ numeral_within (suc turns) n h = numeral_from n (λ many. numeral_within turns (
 pub numeral_is : (n : ℕ) → IsNumeral n (numeral n)
 numeral_is n = numeral_within n n (omega arith)
 
--- what was written is an integer, where its decimal text was
+-- if the decimal text of an integer was written, the integer was
 pub integer_written : (z y : ℤ) (old new bytes : List ℕ) (r : Result (Unit {0}) AllocError) → nat_abs z < 10 ^ 64 → bytes ≡ signed_decimal y → y ≡ z
     → OnOk r (WritesAll old new (λ rest. bytes ++ rest)) → OnOk r (WritesAll old new (integer_then z))
 integer_written z y old new bytes (Err e) small text same w = tt

@@ -1,4 +1,4 @@
--- The written sections of a program that a text spells stand for it.
+-- The written sections of a program that a text spells denote the program.
 use Rattle.std.proofs.Common.{◌≡◌, ℕ, zero, suc, ◌+◌, ◌-◌, ◌<◌, ◌≤◌, nat_eq, Bool, true, false, if◌then◌else◌, List, []}
 use Rattle.std.proofs.Common.{◌∷◌, ◌++◌, length, take, reverse, Some, None, refl, ap, sym, subst, ◌∙◌}
 use Rattle.std.proofs.Common.{arith, append_assoc, append-nil}
@@ -31,7 +31,7 @@ use Rattle.its_writer.proofs.TermsBack.{all_grow, arguments_back, cost_back, gua
 use Rattle.its_writer.proofs.RulesRead.{IsWritableRule}
 use Rattle.its_writer.proofs.TextsRead.{canonical_read}
 
--- what was put on in order, the last one first, is that in the other order
+-- the reverse of a list built by `onto`
 pub onto_back : {X : Type 0} (xs rest : List X) → reverse (onto xs rest) ≡ reverse rest ++ xs
 onto_back [] rest = sym (append-nil (reverse rest))
 onto_back (x ∷ xs) rest = onto_back xs (x ∷ rest) ∙ ap (λ ys. ys ++ xs) (reverse-cons x rest) ∙ append_assoc (reverse rest) (x ∷ []) xs
@@ -43,7 +43,7 @@ onto_count : {X : Type 0} (xs rest : List X) → length (onto xs rest) ≡ lengt
 onto_count [] rest = let e : length rest ≡ 0 + length rest = omega arith in e
 onto_count (x ∷ xs) rest = let e = onto_count xs (x ∷ rest) in omega (arith, e)
 
--- this many first names are names and differ, where all are and do
+-- the first n of distinct names are distinct names
 none_taken : (m : Name) (names : List Name) (n : ℕ) → is_among m names ≡ false → is_among m (take n names) ≡ false
 none_taken m [] zero e = refl
 none_taken m [] (suc n) e = refl
@@ -81,7 +81,7 @@ spellable_parts (e ∷ es) fs n s = let x = spellable_parts es fs (known_behind 
 abbrev left_of : List Name → Rule → LeftTerm
 left_of symbols r = record { name = name_at symbols r.source; arguments = onto (left_names r) [] }
 
--- a written rule stands for its rule
+-- a written rule denotes its rule
 record IsRuleBack (p : Program) (r : Rule) : Type 0 where
   numbered : rule_numbered p.symbols (rule_written (symbol_names p) r) ≡ r
   rule : IsRule p.symbols (rule_written (symbol_names p) r)
@@ -159,7 +159,7 @@ symbols_grow (r ∷ rules) n =
     let c = symbols_grow rules (known_with (known_with n r.source) r.target) in
     omega (arith, a, b, c)
 
--- written rules behind others stand for the rules
+-- written rules after others denote the rules
 record AreRulesBack (p : Program) (n : ℕ) (done : List WrittenRule) (rules : List Rule) : Type 0 where
   known : symbols_of done ≡ take n p.symbols → symbols_of (rules_written (symbol_names p) done rules) ≡ take (symbols_behind n rules) p.symbols
   numbered : rules_numbered p.symbols (rules_written (symbol_names p) done rules) ≡ rules_numbered p.symbols done ++ rules
@@ -192,7 +192,7 @@ rules_back p are differ (r ∷ rules) n done order h is =
       writable = (one.writable, rest.writable);
     }
 
--- two names are the same exactly where their numbers are
+-- two names are the same exactly if their numbers are
 same_numbers : (names : List Name) (i j : ℕ) → AreDistinct names → i < length names → j < length names → is_same (name_at names i) (name_at names j) ≡ nat_eq i j
 same_numbers names i j d h k = go (is_same (name_at names i) (name_at names j)) refl (nat_eq i j) refl
   where

@@ -45,7 +45,7 @@ name_back n (m ∷ names) h = go (is_same n m) refl h (λ k. name_back n names k
         at (suc (position_of n names)) (ap (λ (v : Bool). cond (not v) (1 + position_of n names) 0) e ∙ (let one : 1 + position_of n names ≡ suc (position_of n names) = omega arith in one))
         ∙ ih k
 
--- names that are there are the same exactly where their positions are
+-- two known names are the same exactly if their positions are
 same_positions : (a b : Name) (names : List Name) → is_among a names ≡ true → is_among b names ≡ true → nat_eq (position_of a names) (position_of b names) ≡ is_same a b
 same_positions a b names h k = go (nat_eq (position_of a names) (position_of b names)) refl (is_same a b) refl
   where
@@ -78,7 +78,7 @@ places_at (s ∷ symbols) n h = go (is_same n s.name) refl h (λ k. places_at sy
         ∙ ih k
         ∙ sym (ap (λ (v : Bool). if v then s.arity else numbered.arity_of symbols n) e)
 
--- the first of names that others were put behind
+-- taking the first part of an appended list
 taken_back : (xs ys zs : List Name) → zs ≡ xs ++ ys → take (length xs) zs ≡ xs
 taken_back xs ys zs e = ap (take (length xs)) e ∙ go xs
   where

@@ -23,7 +23,7 @@ use Rattle.its_writer.proofs.CanonicalSections.{guard_written, cost_written, rul
 use Rattle.its_writer.proofs.Lexed.{lexed, moved, word_lexed}
 use Rattle.its_writer.proofs.ExpressionsRead.{IsWritable, IsRead, expression_read}
 
--- a list that is written behind commas goes on with no name
+-- a list with commas before its elements doesn't continue a name
 commas_stop : {X : Type 0} (text : X → List ℕ → List ℕ) (xs : List X) (rest : List ℕ) → Stops continues_name rest → Stops continues_name (each_then (led_by (codes ",") text) xs rest)
 commas_stop text [] rest stop = stop
 commas_stop text (x ∷ xs) rest stop = refl
@@ -97,12 +97,12 @@ atom_read d names (plain.Compare l relation r) w = record {
       ∙ (expression_read names r w.1 d).each (In (inner.Related (sign_written relation)) ∷ sum_behind In (expression_written names l) before) rest stop;
 }
 
--- atoms behind others go on with no name
+-- atoms after `&&` don't continue a name
 joints_stop : {X : Type 0} (text : X → List ℕ → List ℕ) (xs : List X) (rest : List ℕ) → Stops continues_name rest → Stops continues_name (each_then (led_by (codes " && ") text) xs rest)
 joints_stop text [] rest stop = stop
 joints_stop text (x ∷ xs) rest stop = refl
 
--- atoms behind others
+-- atoms after others are read
 more_atoms : (d : ℕ) (names : List Name) (done : Atoms) (atoms : List plain.Atom) (before : List Piece) (rest : List ℕ) → AllByRecursion (IsWritableAtom names) atoms → Stops continues_name rest
     → onto (atoms_behind In done before) (lexed (Within d) (each_then (led_by (codes " && ") (atom_then names)) atoms rest)) ≡ onto (atoms_behind In (atoms_written names done atoms) before) (lexed (Within d) rest)
 more_atoms d names done [] before rest w stop = refl

@@ -1,4 +1,4 @@
--- A text spells a program exactly where its canonical text does.
+-- A text spells a program exactly if its canonical text does.
 use Rattle.its_text.specs.expr_text.model.Programs.{Program}
 use Rattle.its_text.proofs.SpelledVerdicts.{verdicts_are_spelled}
 use Rattle.its_writer.specs.Texts.{canonical_text}

@@ -1,4 +1,4 @@
--- What is written stands for the expressions that it was made of.
+-- The written form of an expression denotes the expression.
 use Rattle.std.proofs.Common.{◌≡◌, ℕ, ◌+◌, ◌<◌, ◌≤◌, List, [], ◌∷◌, ◌++◌, length, take, Option, Some, None}
 use Rattle.std.proofs.Common.{refl, ap, sym, subst, ◌∙◌, arith, append_assoc, append-nil}
 use Rattle.std.specs.Prelude.{pos, negsuc}
@@ -24,7 +24,7 @@ use Rattle.its_writer.proofs.NamesAt.{name_at_is, position_at, first_with, known
 use Rattle.its_writer.proofs.ExpressionsRead.{IsWritable}
 use Rattle.its_writer.proofs.RulesRead.{IsWritableAtom, IsWritableCost}
 
--- an operand names and stands for what its expression does
+-- the written form of an operand names and denotes the same as that of its expression
 operand_names : (names known : List Name) (e : Term) → with_base known (operand_written names e (expression_written names e)) ≡ with_sum known (expression_written names e)
 operand_names names known (Literal z) = refl
 operand_names names known (Variable i) = refl
@@ -43,7 +43,7 @@ operand_term names known (Subtraction d e) = refl
 operand_term names known (Multiplication d e) = refl
 operand_term names known (Exponentiation e n) = refl
 
--- at least as many variables are known behind an expression as before it
+-- at least as many variables are known after an expression as before it
 pub behind_grows : (e : Term) (n : ℕ) → n ≤ known_behind n e
 behind_grows (Literal z) n = omega arith
 behind_grows (Variable i) n = known_grows n i
@@ -61,7 +61,7 @@ all_grow (e ∷ es) n = let a = behind_grows e n in let b = all_grow es (known_b
 numeral_value : (n : ℕ) → Literal (pos (digits_value 10 (numeral n))) ≡ Literal (pos n)
 numeral_value n = ap (λ m. Literal (pos m)) (numeral_is n).value
 
--- a written expression knows as many names behind it as the expression, stands for it, and can be written
+-- the written form of an expression has its variables, denotes it, and can be written
 pub record IsBack (names : List Name) (n : ℕ) (e : Term) : Type 0 where
   pub known : with_sum (take n names) (expression_written names e) ≡ take (known_behind n e) names
   pub term : sum_term names (expression_written names e) ≡ e

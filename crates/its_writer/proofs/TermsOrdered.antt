@@ -71,7 +71,7 @@ name_next names last n = go (is_among n names) refl
               ∙ ap length (sym same);
         }
 
--- an expression that names were read before, and those behind it
+-- an expression, the names known before it, and those known after it
 pub record IsOrdered (names behind : List Name) (t : Term) : Type 0 where
   pub spellable : IsSpellableTerm (length names) t
   pub known : known_behind (length names) t ≡ length behind
@@ -121,7 +121,7 @@ mutual
   base_ordered names last (Named n) x = let a = name_next names last n x in record { spellable = a.next; known = a.known }
   base_ordered names last (Bracketed s) x = sum_ordered names last s x
 
--- expressions that names were read before, and those behind them
+-- expressions, the names known before them, and those known after them
 pub record AreOrdered (names behind : List Name) (ts : List Term) : Type 0 where
   pub spellable : AreSpellable (length names) ts
   pub known : known_behind_all (length names) ts ≡ length behind
@@ -133,7 +133,7 @@ none_ordered names = record { spellable = tt; known = refl }
 pub one_ordered : (names behind : List Name) (t : Term) → IsOrdered names behind t → AreOrdered names behind (t ∷ [])
 one_ordered names behind t a = record { spellable = (a.spellable, tt); known = a.known }
 
--- some, and others behind them
+-- expressions followed by others
 more_spellable : (ts us : List Term) (n : ℕ) → AreSpellable n ts → AreSpellable (known_behind_all n ts) us → AreSpellable n (ts ++ us)
 more_spellable [] us n a b = b
 more_spellable (t ∷ ts) us n a b = (a.0, more_spellable ts us (known_behind n t) a.1 b)

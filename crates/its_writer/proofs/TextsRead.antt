@@ -20,12 +20,12 @@ use Rattle.its_writer.proofs.CanonicalSections.{rule_written, rules_written, can
 use Rattle.its_writer.proofs.Lexed.{lexed, moved, word_lexed}
 use Rattle.its_writer.proofs.RulesRead.{IsWritableRule, rules_read}
 
--- names behind blanks go on with no name
+-- names with blanks before them don't continue a name
 blanks_stop : (names : List Name) (rest : List ℕ) → Stops continues_name rest → Stops continues_name (each_then (led_by (codes " ") name_then) names rest)
 blanks_stop [] rest stop = stop
 blanks_stop (n ∷ names) rest stop = refl
 
--- names behind blanks
+-- names with blanks before them are read
 words_read : (done names : List Name) (before : List Piece) (rest : List ℕ) → AllByRecursion IsName names → Stops continues_name rest
     → onto (words_behind done before) (lexed (Within 0) (each_then (led_by (codes " ") name_then) names rest)) ≡ onto (words_behind (onto names done) before) (lexed (Within 0) rest)
 words_read done [] before rest is stop = refl

@@ -1,4 +1,4 @@
--- What is written behind a text, part by part.
+-- Texts that are written after others, part by part.
 use Rattle.std.proofs.Common.{◌≡◌, ℕ, zero, suc, ◌+◌, ◌<◌, ◌≤◌, min, List, [], ◌∷◌, ◌++◌, length, map, drop, take, get_or}
 use Rattle.std.proofs.Common.{Some, None, refl, ap, sym, ◌∙◌, arith, append-nil}
 use Rattle.std.specs.Prelude.{codes, Result, Ok, Err, OnOk, slice_get}
@@ -14,7 +14,7 @@ use Rattle.its_writer.specs.Texts.{symbol_names, variables_of, rule_then, progra
 use Rattle.its_writer.specs.Printing.{Writes, WritesAll}
 
 module _ {X Y : Type 0} (view : X → Y) (text : Y → List ℕ → List ℕ) where
-  -- one more part is written, with what leads it
+  -- one more part is written, with its separator before it
   pub written_more : (led : List ℕ) (xs : List X) (i : ℕ) (x : X) (old mid next new : List ℕ) (all : List ℕ → List ℕ) → i < length xs → x ≡ get_or xs i x
       → Writes old mid all (each_then (led_by led text) (map view (drop i xs))) → WritesAll mid next (λ rest. led ++ rest) → WritesAll next new (text (view x))
       → Writes old new all (each_then (led_by led text) (map view (drop (i + 1) xs)))
@@ -32,7 +32,7 @@ module _ {X Y : Type 0} (view : X → Y) (text : Y → List ℕ → List ℕ) wh
     each = λ rest. ap (λ (ys : List X). new ++ each_then (led_by led text) (map view ys) rest) (sym (drop_all i xs h)) ∙ a.each rest;
   }
 
-  -- the same without what leads
+  -- one more part is written, without a separator
   pub written_next : (xs : List X) (i : ℕ) (x : X) (old mid new : List ℕ) (all : List ℕ → List ℕ) → i < length xs → x ≡ get_or xs i x
       → Writes old mid all (each_then text (map view (drop i xs))) → WritesAll mid new (text (view x)) → Writes old new all (each_then text (map view (drop (i + 1) xs)))
   written_next xs i x old mid new all h is a c = record {
@@ -45,7 +45,7 @@ module _ {X Y : Type 0} (view : X → Y) (text : Y → List ℕ → List ℕ) wh
   pub written_end : (xs : List X) (i : ℕ) (old new : List ℕ) (all : List ℕ → List ℕ) → length xs ≤ i → Writes old new all (each_then text (map view (drop i xs))) → WritesAll old new all
   written_end xs i old new all h a = record { each = λ rest. ap (λ (ys : List X). new ++ each_then text (map view ys) rest) (sym (drop_all i xs h)) ∙ a.each rest }
 
--- this many elements at most, as they are read
+-- at most this many elements, through their view
 pub taken : {X Y : Type 0} (view : X → Y) (xs : List X) (n : ℕ) → map view (take (min (length xs) n) xs) ≡ take n (map view xs)
 taken view [] zero = refl
 taken view [] (suc n) = ap (λ k. map view (take k [])) (let e : min (length {A = ℕ} []) (suc n) ≡ 0 = omega arith in e)
@@ -66,7 +66,7 @@ symbol_missing [] i h = refl
 symbol_missing (s ∷ symbols) zero h = absurd (omega (arith, h))
 symbol_missing (s ∷ symbols) (suc i) h = symbol_missing symbols i (omega (arith, h))
 
--- the text of each is that of one of them, and of those behind it
+-- the text of each of some names is that of the first, and of the others
 pub one_then : (text : Name → List ℕ → List ℕ) (names : List Name) (i : ℕ) (rest : List ℕ) → each_then text (take 1 (drop i names)) (each_then text (drop (i + 1) names) rest) ≡ each_then text (drop i names) rest
 one_then text [] zero rest = refl
 one_then text [] (suc i) rest = ap (λ k. each_then text (drop k []) rest) (let e : suc i + 1 ≡ suc (i + 1) = omega arith in e)
@@ -123,7 +123,7 @@ program_written p known t0 t1 t2 t3 t4 t5 t6 t7 (Ok u) same a b c d f g h = reco
 pub whole_text : (old new : List ℕ) (text : List ℕ → List ℕ) → old ≡ [] → WritesAll old new text → new ≡ text []
 whole_text old new text empty a = sym (append-nil new) ∙ a.each [] ∙ ap (λ (bs : List ℕ). bs ++ text []) empty
 
--- a name is written behind a blank, where there is one
+-- a name is written after a blank, if there is one
 pub name_led : (one : List Name) (name : Name) (old mid new : List ℕ) (r : Result (Unit {0}) AllocError) → one ≡ name ∷ [] → WritesAll old mid (λ rest. codes " " ++ rest)
     → OnOk r (WritesAll mid new (λ rest. name ++ rest)) → OnOk r (WritesAll old new (each_then (led_by (codes " ") name_then) one))
 name_led one name old mid new (Err e) same a b = tt

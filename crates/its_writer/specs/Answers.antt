@@ -14,7 +14,7 @@ pub record SpellsBack (text : List ℕ) (p : Program) : Type 0 where
   pub spells : (bytes : List ℕ) → Spells bytes p → Spells text p
   pub read_back : SpellsWithin text p → verdict text ≡ Stands p
 
--- what a text spells is spellable, and the canonical text of what is spellable spells it
+-- a program that a text spells is spellable, and the canonical text of a spellable program spells it
 pub record SpelledPrograms : Type 0 where
   pub spelled : (bytes : List ℕ) (p : Program) → Spells bytes p → IsSpellable p
   pub spells : (p : Program) → IsSpellable p → Spells (canonical_text p) p

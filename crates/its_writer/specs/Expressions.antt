@@ -60,7 +60,7 @@ atom_then names Always rest = codes "TRUE" ++ rest
 atom_then names (Compare d relation e) rest =
     expression_then names d (sign_of relation ++ expression_then names e rest)
 
--- a guard: no text where it has no atoms, else the atoms behind `:|:`, with `&&` between each two
+-- a guard: no text where it has no atoms, else the atoms after `:|:`, with `&&` between each two
 abbrev pub guard_then : List Name → List Atom → List ℕ → List ℕ
 guard_then names [] rest = rest
 guard_then names (a ∷ atoms) rest = codes " :|: " ++ joined_then (codes " && ") (atom_then names) (a ∷ atoms) rest

@@ -38,7 +38,7 @@ counting_rule i = record {
   cost = None;
 }
 
--- the rule that leads on: `li(A,B) -> Com_1(lj(B,B))` with j = i + 1
+-- the rule to the next location: `li(A,B) -> Com_1(lj(B,B))` with j = i + 1
 abbrev pub leaving_rule : ℕ → Rule
 leaving_rule i = record {
   source = i;

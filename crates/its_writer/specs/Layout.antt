@@ -12,7 +12,7 @@ abbrev pub integer_then : ℤ → List ℕ → List ℕ
 integer_then (pos n) rest = numeral n ++ rest
 integer_then (negsuc n) rest = codes "-" ++ (numeral (suc n) ++ rest)
 
--- a text, in brackets where the test says so
+-- a text, in brackets if the test is true
 abbrev pub bracketed_then : Bool → (List ℕ → List ℕ) → List ℕ → List ℕ
 bracketed_then true text rest = codes "(" ++ text (codes ")" ++ rest)
 bracketed_then false text rest = text rest
@@ -23,7 +23,7 @@ module _ {X : Type 0} where
   each_then text [] rest = rest
   each_then text (x ∷ xs) rest = text x (each_then text xs rest)
 
-  -- a text behind bytes
+  -- a text with these bytes before it
   abbrev pub led_by : List ℕ → (X → List ℕ → List ℕ) → X → List ℕ → List ℕ
   led_by before text x rest = before ++ text x rest
 

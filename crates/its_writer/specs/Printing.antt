@@ -1,10 +1,10 @@
 -- What was appended to a text.
 use Rattle.std.specs.Prelude.{◌≡◌, ℕ, List, ◌++◌}
 
--- from the old bytes to the new ones that was written which, with `left` behind it, is `text`
+-- from the old bytes to the new ones, the part of `text` before `left` was written
 pub record Writes (old new : List ℕ) (text left : List ℕ → List ℕ) : Type 0 where
   pub each : (rest : List ℕ) → new ++ left rest ≡ old ++ text rest
 
--- behind the old bytes the text was written
+-- the whole text was appended to the old bytes
 abbrev pub WritesAll : List ℕ → List ℕ → (List ℕ → List ℕ) → Type 0
 WritesAll old new text = Writes old new text (λ rest. rest)

@@ -10,7 +10,7 @@ use Rattle.its_text.specs.Numbering.{is_com}
 use Rattle.its_writer.specs.Expressions.{name_at}
 use Rattle.its_writer.specs.Texts.{symbol_names, left_names}
 
--- how many things are known behind one, where so many are before it
+-- the number of known items after item i, if n were known before it
 abbrev pub known_with : ℕ → ℕ → ℕ
 known_with n i = if nat_lt i n then n else suc i
 
@@ -19,7 +19,7 @@ abbrev pub IsNatural : ℤ → Type 0
 IsNatural (pos n) = ⊤
 IsNatural (negsuc n) = ⊥
 
--- how many variables are known behind an expression, where so many are before it
+-- the number of known variables after an expression, if n were known before it
 abbrev pub known_behind : ℕ → Term → ℕ
 known_behind n (Literal z) = n
 known_behind n (Variable i) = known_with n i
@@ -39,7 +39,7 @@ IsSpellableTerm n (Subtraction d e) = IsSpellableTerm n d × IsSpellableTerm (kn
 IsSpellableTerm n (Multiplication d e) = IsSpellableTerm n d × IsSpellableTerm (known_behind n d) e
 IsSpellableTerm n (Exponentiation e m) = IsSpellableTerm n e
 
--- how many variables are known behind expressions, where so many are before them
+-- the number of known variables after expressions, if n were known before them
 abbrev pub known_behind_all : ℕ → List Term → ℕ
 known_behind_all n [] = n
 known_behind_all n (e ∷ es) = known_behind_all (known_behind n e) es
@@ -68,8 +68,8 @@ terms_of_guard (a ∷ atoms) = terms_before a (terms_of_guard atoms)
 abbrev pub terms_of : Rule → List Term
 terms_of r = terms_of_cost r.cost ++ (r.updates ++ terms_of_guard r.guard)
 
--- a rule: it has a name for each of its variables, which are names that differ; both symbols have as many places as
--- there are arguments, and the target isn't called `Com_` and digits; and its free variables are numbered as they occur
+-- a rule: it has distinct names for its variables; both symbols have as many places as it has arguments; the target
+-- isn't named `Com_` and digits; and its free variables are numbered in order of occurrence
 pub record IsSpellableRule (p : Program) (r : Rule) : Type 0 where
   pub names : AllByRecursion IsName r.names
   pub distinct : AreDistinct r.names
@@ -80,7 +80,7 @@ pub record IsSpellableRule (p : Program) (r : Rule) : Type 0 where
   pub terms : AreSpellable r.left (terms_of r)
   pub known : known_behind_all r.left (terms_of r) ≡ r.left + r.free
 
--- how many symbols are known behind rules, where so many are before them
+-- the number of known symbols after rules, if n were known before them
 abbrev pub symbols_behind : ℕ → List Rule → ℕ
 symbols_behind n [] = n
 symbols_behind n (r ∷ rules) = symbols_behind (known_with (known_with n r.source) r.target) rules
@@ -97,8 +97,8 @@ abbrev pub names_at : ℕ → List Rule → Option (List Name)
 names_at start [] = None
 names_at start (r ∷ rules) = if nat_eq start r.source then Some (left_names r) else names_at start rules
 
--- a text spells the program: its symbols have names that differ and are numbered as they occur, its rules are such, and
--- the start symbol has the names of the first rule that leaves it
+-- the program can be spelled: its symbols have distinct names and are numbered in order of occurrence, its rules can
+-- be spelled, and the start symbol has the names of the first rule that leaves it
 pub record IsSpellable (p : Program) : Type 0 where
   pub names : AllByRecursion IsName (symbol_names p)
   pub distinct : AreDistinct (symbol_names p)

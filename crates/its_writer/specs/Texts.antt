@@ -19,7 +19,7 @@ abbrev pub arrow_then : List Name → Option Term → List ℕ → List ℕ
 arrow_then names None rest = codes "->" ++ rest
 arrow_then names (Some c) rest = codes "-{" ++ expression_then names c (codes "}>" ++ rest)
 
--- a rule in a line of its own, behind two blanks
+-- a rule in a line of its own, after two blanks
 abbrev pub rule_then : List Name → Rule → List ℕ → List ℕ
 rule_then symbols r rest =
     codes "  " ++ (name_at symbols r.source ++ (codes "(" ++ joined_then (codes ",") name_then (left_names r)
@@ -40,7 +40,7 @@ with_rules known (r ∷ rules) = with_rules (with_names known r.names) rules
 abbrev pub variables_of : Program → List Name
 variables_of p = with_rules [] p.rules
 
--- the sections of a program: what is wanted, the start symbol, the variables and the rules
+-- the sections of a program: the goal, the start symbol, the variables and the rules
 abbrev pub program_then : Program → List ℕ → List ℕ
 program_then p rest =
     codes "(GOAL COMPLEXITY)\n(STARTTERM (FUNCTIONSYMBOLS " ++ (name_at (symbol_names p) p.start ++ (codes "))\n(VAR"

@@ -155,10 +155,10 @@ pub record WorkedTexts : Type 0 where
 
 -- which expressions and rules a text spells, where one variable is known, or no symbol
 pub record WorkedSpelling : Type 0 where
-  -- the next variable, and the one behind it
+  -- the next variable, and the one after it
   pub next : IsSpellableTerm 1 (Addition (Variable 1) (Multiplication (Variable 0) (Variable 2)))
   pub known : known_behind 1 (Addition (Variable 1) (Multiplication (Variable 0) (Variable 2))) ≡ 3
-  -- but not the other way round
+  -- the variable after the next one can't come first
   pub skipped : ¬ IsSpellableTerm 1 (Addition (Variable 2) (Variable 1))
   pub negative_literal : ¬ IsSpellableTerm 1 (Literal (negsuc 0))
   -- the cost comes first, then the right side, then the guard

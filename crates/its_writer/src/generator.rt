@@ -142,7 +142,7 @@ fn rules(alloc: Global, n: u32) -> Result<Vec<Rule>, Memory>
     Ok(rules)
 }
 
-/// The generated program of a number: over `A` and `B`, with a chain of n loops behind the start symbol `l0`, each of
+/// The generated program of a number: over `A` and `B`, with a chain of n loops after the start symbol `l0`, each of
 /// which counts `A` down. Its printed text spells it within the limits.
 ///
 /// # Errors

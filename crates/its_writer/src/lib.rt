@@ -1,9 +1,9 @@
 //! The printer of program texts: from a program to its canonical text; and the generated programs.
 //!
 //! Builds on `its_text` and `its_model`. Main guarantee: `print` gives the canonical text, which spells the program if
-//! any text does, and is read back as that program where it is within the limits (`spelled_programs_are_spellable` says
-//! which programs have a text). `generate` gives the generated program of a number; its canonical text is within the
-//! limits, also where it is read from a file (`generated_programs_are_spelled`).
+//! any text does, and is read back as that program if it is within the limits (`spelled_programs_are_spellable` states
+//! which programs have a text). `generate` gives the n-th generated program; its canonical text is within the limits,
+//! also when it is read from a file (`generated_programs_are_spelled`).
 #![tactic(auto)]
 
 mod bytes;

@@ -40,7 +40,7 @@ pub(crate) fn variables_of<'a>(alloc: Global, rules: &'a [Rule]) -> Result<Varia
     Ok(known)
 }
 
-// The name with a number behind a blank, where there is one.
+// Writes the name with a number after a blank, if there is one.
 fn write_variable(text: &mut Vec<u8>, known: &Variables<'_>, number: usize) -> Result<(), Memory>
     ensures { OnOk result (WritesAll text.old.items text.new.items
         (each_then (led_by (codes " ") name_then) (take 1 (drop number (names_in known.now))))) }
@@ -54,7 +54,7 @@ fn write_variable(text: &mut Vec<u8>, known: &Variables<'_>, number: usize) -> R
     }
 }
 
-/// Writes names, each behind a blank.
+/// Writes names, each after a blank.
 ///
 /// # Errors
 ///

@@ -201,8 +201,8 @@ pub record FallingStaysBelow : Type 0 where
   pub refuted : IsDual (program_of_question (fixed_question falling_rule (value_up falling_rule 1)
       (opposite (before_rule 1)))) (at (pos 1 ∷ pos 1 ∷ []))
 
--- its negation 1 - A is at most a constant b: -m = -1 and b + m - s = 1, in the columns b+, b-, m, s, which m = 1 and b
--- = 0 solve; the constant weighs by the second costs
+-- the negated new value 1 - A is at most a constant b: -m = -1 and b + m - s = 1, in the columns b+, b-, m, s, which
+-- m = 1 and b = 0 solve; the constant weighs by the second costs
 pub record FallingStaysAbove : Type 0 where
   pub columns : (program_of_question (constant_question falling_rule (value_low falling_rule 1))).columns ≡ 4
   pub equations_are : equations 0 (constant_question falling_rule (value_low falling_rule 1)).groups

@@ -1,4 +1,4 @@
-//! The limits that a linear program can exceed (trip).
+//! The limits that a linear program can hit.
 
 /// The limit that a linear program passed.
 #[derive(Clone, Copy, Debug, PartialEq, Eq, Hash)]

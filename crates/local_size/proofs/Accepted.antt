@@ -1,4 +1,4 @@
--- Both arms of an answer are accepted.
+-- Both side bounds of an answer are accepted.
 use Rattle.std.proofs.Common.{ℕ, ◌-◌, ap, sym, ◌∙◌, subst, inl, inr, List, ◌∷◌, length, Option}
 use Rattle.std.specs.Prelude.{ℤ, pos}
 use Rattle.std.specs.List.{All}
@@ -34,7 +34,7 @@ use Rattle.local_size.proofs.KindsAsked.{Found, found, kinds-fit}
 use Rattle.local_size.proofs.NewValues.{value-fits, goal-is}
 pub use Rattle.rule_questions.proofs.EmptyLaws.{at-least-one}
 
--- the kind of an arm that is found is one that the rule has
+-- the kind of a side bound that is found is one of the rule's
 pub found-fits : (m : Prepared) (place pivots : ℕ) (side : Side) (side_bound : SideBound)
     (f : Found (local_forms m) (value_on side m place) pivots (kinds_of m place) side_bound)
     → All (IsKindOf m.left) (f.before) × IsKindOf m.left f.kind
@@ -49,7 +49,7 @@ module _ (p : Program) (r : Rule) (result_variable : ResultVariable) (pivots : �
   abbrev m : Prepared
   m = prepared r
 
-  -- what questions see of the rule fits
+  -- the forms of the rule that the questions use fit
   pub fits : (side : Side) → Fits (local_forms m) (value_on side m result_variable.place)
   fits side = value-fits m (prepared-shaped 0 0 r (preparable p result_variable.rule r valid is.numbered)) side result_variable.place
 
@@ -67,7 +67,7 @@ module _ (p : Program) (r : Rule) (result_variable : ResultVariable) (pivots : �
     abbrev multipliers : List ℕ
     multipliers = solved_multipliers (local_forms m) (value_on side m result_variable.place) kind column
 
-    -- the numbers of the arm are within the limits
+    -- the numbers of the side bound are within the limits
     linear-shaped : HasLinearShape (setting_of p) result_variable.rule (left_of p result_variable.rule) den form multipliers
     linear-shaped = record {
       over = at-least-one den c.1.1.solution.denominator;
@@ -90,7 +90,7 @@ module _ (p : Program) (r : Rule) (result_variable : ResultVariable) (pivots : �
     side_bound-shaped =
         subst (λ (a : SideBound). HasSideBoundShape (setting_of p) result_variable.rule (left_of p result_variable.rule) a) (sym c.1.2) linear-shaped
 
-    -- and the rows imply it
+    -- the rows imply the side bound
     implied : IsKindOf r.left kind → Implies (rows_in (rule_at p result_variable.rule)) multipliers
         (side_bound_goal side den form (form_at (new_values_in (rule_at p result_variable.rule)) (result_variable.place - 1)))
     implied k =
@@ -103,21 +103,21 @@ module _ (p : Program) (r : Rule) (result_variable : ResultVariable) (pivots : �
     pub side_bound-accepted : IsKindOf r.left kind → AcceptsSideBound (setting_of p) result_variable side side_bound
     side_bound-accepted k = subst (λ (a : SideBound). AcceptsSideBound (setting_of p) result_variable side a) (sym c.1.2) (implied k)
 
-  -- an arm that is the result of a side
+  -- a side bound that is the result of a side has the right shape
   side-shaped : (side : Side) (side_bound : SideBound) → SideComesTo m result_variable.place pivots side (SideBoundFound side_bound)
       → HasSideBoundShape (setting_of p) result_variable.rule (left_of p result_variable.rule) side_bound
   side-shaped side side_bound h =
       let f = found (local_forms m) (value_on side m result_variable.place) pivots (kinds_of m result_variable.place) side_bound h in
       side_bound-shaped side f.kind side_bound f.comes
 
-  -- it is accepted
+  -- a side bound that is the result of a side is accepted
   side-accepted : (side : Side) (side_bound : SideBound) → SideComesTo m result_variable.place pivots side (SideBoundFound side_bound)
       → AcceptsSideBound (setting_of p) result_variable side side_bound
   side-accepted side side_bound h =
       let f = found (local_forms m) (value_on side m result_variable.place) pivots (kinds_of m result_variable.place) side_bound h in
       side_bound-accepted side f.kind side_bound f.comes (found-fits m result_variable.place pivots side side_bound f).1
 
-  -- both arms of an answer
+  -- both side bounds of an answer
   module _ (empty : GuardFeasibility) where
     pub bound-shaped : (l : LocalBound) → IsLocal m result_variable pivots empty (HasBound l)
         → HasMemberShape (setting_of p) (record { result_variable = result_variable; local = l })
@@ -148,7 +148,7 @@ module _ (p : Program) (r : Rule) (result_variable : ResultVariable) (pivots : �
         (polynomial-accepted p r result_variable is.numbered h.0)
     low-accepted l (inr h) = side-accepted Low l.low h.low
 
--- so both arms of each answer are accepted
+-- both side bounds of each answer are accepted
 pub bounds-accepted : LocalBoundsAreAccepted
 bounds-accepted = record {
   shape = λ p r result_variable pivots empty l valid is h. bound-shaped p r result_variable pivots valid is empty l h;

@@ -76,7 +76,7 @@ module _ (p : LinearProgram) (pivots : ℕ) (numbers : List ℤ) (den : ℕ)
       go (inl l) = s.within.each j l
       go (inr l) = subst (λ (z : ℤ). IsInLimit (nat_abs z)) (sym (get_or_past numbers j (pos 0) l)) zero-small
 
-  -- and at least 0
+  -- each number is at least 0
   column-nonneg : (j : ℕ) → pos 0 ≤ℤ at numbers j
   column-nonneg j = go (cases_lt j (length numbers))
     where
@@ -85,7 +85,7 @@ module _ (p : LinearProgram) (pivots : ℕ) (numbers : List ℤ) (den : ℕ)
       go (inr l) = subst (λ (z : ℤ). pos 0 ≤ℤ z) (sym (get_or_past numbers j (pos 0) l))
           (let k : pos 0 ≤ℤ pos 0 = omega (arith, ints) in k)
 
-  -- the same for the parameters within it
+  -- the parameters among the numbers are within the limit
   pub parameter-small : (k : ℕ) → IsInLimit (nat_abs (parameters_of (at numbers) k))
   parameter-small k =
       apart (at numbers (double k)) (at numbers (suc (double k))) certificate_limit (column-nonneg (double k))
@@ -97,7 +97,7 @@ module _ (p : LinearProgram) (pivots : ℕ) (numbers : List ℤ) (den : ℕ)
       apart (pos u) (negsuc v) l g h i j = absurd (omega (arith, ints, h))
       apart (negsuc u) y l g h i j = absurd (omega (arith, ints, g))
 
-  -- and the multipliers of rows, from the column on that is first of them
+  -- the multipliers of rows are within the limit, from the first of their columns on
   pub multipliers-small : (n : ℕ) (rows : List Form) → AreInLimit (multipliers_of (after n (at numbers)) rows)
   multipliers-small n rows =
       subst AreInLimit (sym (multipliers-listed rows (after n (at numbers))))

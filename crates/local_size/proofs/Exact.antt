@@ -1,4 +1,4 @@
--- A place is answered loose exactly where a side of it is and no question trips, and tripped exactly where one does.
+-- The answer is unbounded exactly if a side is and no question hits a limit, and a limit hit exactly if one does.
 use Rattle.std.proofs.Common.{◌≡◌, ℕ, suc, zero, ◌≤◌, arith, refl, ◌∙◌, inl, inr, List}
 use Rattle.std.specs.Prelude.{◌↔◌, ℤ, pos, ◌*ℤ◌}
 use Rattle.simplex_core.proofs.int_laws.RingLaws.{mul-zero_ℤ}
@@ -52,12 +52,12 @@ same-again (empties.Empty n) = (refl, refl)
 same-again (empties.Point z) = refl
 same-again (empties.OutOfLimits t) = (refl, refl)
 
--- a loose answer isn't a trip
+-- an unbounded answer isn't a limit hit
 unbounded-no_limit_hit : (side : Side) (ray : List ℤ) (kept : ScaledPoint) (t : LimitHit)
     → IsUnboundedOn side ray kept ≡ HasTripped t → ⊥
 unbounded-no_limit_hit side ray kept t e = cc
 
--- nor are arms
+-- side bounds aren't a limit hit
 bound-no_limit_hit : (l : LocalBound) (t : LimitHit) → HasBound l ≡ HasTripped t → ⊥
 bound-no_limit_hit l t e = cc
 
@@ -65,7 +65,7 @@ module _ (p : Program) (r : Rule) (result_variable : ResultVariable) (pivots : �
   abbrev m : Prepared
   m = prepared r
 
-  -- a side with an arm isn't loose
+  -- a side with a side bound isn't unbounded
   side_bound-not_unbounded : (side : Side) (side_bound : SideBound) → SideComesTo m result_variable.place pivots side (SideBoundFound side_bound)
       → IsUnboundedSide m result_variable.place side → ⊥
   side_bound-not_unbounded side side_bound h unbounded =
@@ -80,14 +80,14 @@ module _ (p : Program) (r : Rule) (result_variable : ResultVariable) (pivots : �
       k : IsKindOf m.left f.kind
       k = (found-fits m result_variable.place pivots side side_bound f).1
 
-  -- so no side is loose where the answer has arms
+  -- no side is unbounded if the answer has side bounds
   bound-not_unbounded : (empty : GuardFeasibility) (l : LocalBound) (side : Side) → IsLocal m result_variable pivots empty (HasBound l)
       → IsUnboundedSide m result_variable.place side → ⊥
   bound-not_unbounded empty l side (inl h) unbounded = unbounded.asked h.0
   bound-not_unbounded empty l Up (inr h) unbounded = side_bound-not_unbounded Up l.up h.up unbounded
   bound-not_unbounded empty l Low (inr h) unbounded = side_bound-not_unbounded Low l.low h.low unbounded
 
-  -- a place is answered loose exactly where a side is loose and no question trips
+  -- the answer is unbounded exactly if a side is unbounded and no question hits a limit
   unbounded-if : (empty : GuardFeasibility) (x : Local) → IsEmptyAnswer m result_variable.rule pivots empty → IsLocal m result_variable pivots empty x
       → SaysUnbounded x ↔ (((side : Side) × IsUnboundedSide m result_variable.place side) × (¬ PlaceTrips m result_variable pivots empty))
   unbounded-if empty (HasBound l) known h = (λ s. absurd s, λ g. bound-not_unbounded empty l g.0.0 h g.0.1)
@@ -110,7 +110,7 @@ module _ (p : Program) (r : Rule) (result_variable : ResultVariable) (pivots : �
   )
   unbounded-if empty (HasTripped t) known h = (λ s. absurd s, λ g. g.1 (record { limit_hit = t; tripped = h }))
 
--- and tripped exactly where one does
+-- the answer is a limit hit exactly if a question hits a limit
 tripped-if : (m : Prepared) (result_variable : ResultVariable) (pivots : ℕ) (empty : GuardFeasibility) (x : Local) → IsLocal m result_variable pivots empty x
     → SaysTripped x ↔ PlaceTrips m result_variable pivots empty
 tripped-if m result_variable pivots empty (HasBound l) h = (
@@ -126,7 +126,7 @@ tripped-if m result_variable pivots empty (IsUnboundedOn side ray kept) h = (
 )
 tripped-if m result_variable pivots empty (HasTripped t) h = (λ s. record { limit_hit = t; tripped = h }, λ u. tt)
 
--- so each answer comes exactly in its case
+-- each answer comes exactly in its case
 pub answers-exact : LocalAnswersAreExact
 answers-exact = record {
   unbounded = λ p r result_variable pivots empty x valid is known h. unbounded-if p r result_variable pivots valid is empty x known h;

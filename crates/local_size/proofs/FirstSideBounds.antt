@@ -1,4 +1,4 @@
--- Where the rule has a point, each arm is the first on its side.
+-- If the rule has a point, each side bound is the first one of its side.
 use Rattle.std.proofs.Common.{◌≡◌, ℕ, ap, sym, subst, inl, inr, false, List, get_or}
 use Rattle.std.specs.Prelude.{pos}
 use Rattle.std.specs.List.{All}
@@ -34,7 +34,7 @@ module _ (p : Program) (r : Rule) (result_variable : ResultVariable) (pivots : �
   abbrev w : Form
   w = value_on side m result_variable.place
 
-  -- the form that an arm of a kind is read off is of the kind, and at least the value
+  -- the form of a side bound of a kind is of the kind, and at least the value
   module _ (kind : Kind) (side_bound : SideBound) (k : IsKindOf m.left kind)
       (c : ComesTo (local_forms m) w pivots kind (SideBoundFound side_bound))
     where
@@ -84,7 +84,7 @@ module _ (p : Program) (r : Rule) (result_variable : ResultVariable) (pivots : �
         k : All (IsKindOf m.left) f.before × IsKindOf m.left f.kind
         k = found-fits m result_variable.place pivots side side_bound f
 
--- the same for both arms of an answer
+-- both side bounds of an answer are the first ones
 bounds-first : (p : Program) (r : Rule) (result_variable : ResultVariable) (pivots : ℕ) (empty : GuardFeasibility) (l : LocalBound) → IsValid p
     → IsResultVariableOf p result_variable r → IsLocal (prepared r) result_variable pivots empty (HasBound l) → HasPoint (prepared r).rows
     → IsFirstSideBound (prepared r) result_variable.place Up l.up × IsFirstSideBound (prepared r) result_variable.place Low l.low
@@ -97,7 +97,7 @@ bounds-first p r result_variable pivots empty l valid is (inr h) point = (
   side_bound-first p r result_variable pivots valid is Low point l.low h.low h.asked,
 )
 
--- so each arm is the first on its side
+-- each side bound is the first one of its side
 pub bounds-are-first : LocalBoundsAreFirst
 bounds-are-first = record {
   each = λ r result_variable pivots empty l p valid is h point. bounds-first p r result_variable pivots empty l valid is h point;

@@ -43,7 +43,7 @@ behind-none p b (suc n) l = go (nat_eq b p) refl (behind-none p (b + 1) n (omega
     go true e rest = absurd (let f = eqb-true b p e in omega (arith, f, l))
     go false e rest = rest
 
--- and one that is passes alone
+-- a number that is passes the filter alone
 among-one : (p b n : ℕ) → b ≤ p → p < b + n → filter (λ j. j == p) (range_with_len b n) ≡ p ∷ []
 among-one p b zero l m = absurd (omega (arith, l, m))
 among-one p b (suc n) l m = go (nat_eq b p) refl (among-one p (b + 1) n)

@@ -23,7 +23,7 @@ range-left left a (suc n) l m =
     All-cons (IsLeft left) a (range_with_len (a + 1) n) (l, omega (arith, m))
     (range-left left (a + 1) n (omega (arith, l)) (omega (arith, m)))
 
--- the same for those of the arguments, in their order
+-- the kinds of the arguments, in their order, are kinds of the rule
 places-left : (left place : ℕ) → All (IsLeft left) (places_from left place)
 places-left left place =
     let all = range-left left 1 left (omega arith) (omega arith) in
@@ -41,7 +41,7 @@ arguments-fit left (place ∷ places) h =
     (All-cons (IsKindOf left) (Argument place Minus) (arguments places) here
     (arguments-fit left places (All-tail (IsLeft left) place places h)))
 
--- the same for all kinds that are looked for
+-- all kinds that are tried are kinds of the rule
 pub kinds-fit : (nonlinear : Bool) (left place : ℕ) → All (IsKindOf left) (kinds_for nonlinear left place)
 kinds-fit true left place = All-cons (IsKindOf left) Affine [] tt (All-nil (IsKindOf left))
 kinds-fit false left place =
@@ -61,7 +61,7 @@ module _ (r : RuleForms) (w : Form) (pivots : ℕ) where
   abbrev pub HasDual : Kind → Type 0
   HasDual kind = (ray : List ℤ) × ComesTo r w pivots kind (NoneFound ray)
 
-  -- an arm that is found: it is the result of the question of its kind, and those before have none
+  -- a side bound that is found is the result of the question of its kind, and the kinds before have none
   pub record Found (kinds : List Kind) (side_bound : SideBound) : Type 0 where
     pub kind : Kind
     pub before : List Kind
@@ -70,7 +70,7 @@ module _ (r : RuleForms) (w : Form) (pivots : ℕ) where
     pub none : All HasDual before
     pub comes : ComesTo r w pivots kind (SideBoundFound side_bound)
 
-  -- an arm that is the result of a search is found
+  -- a side bound that is the result of a search is found so
   pub found : (kinds : List Kind) (side_bound : SideBound) → SearchComesTo r w pivots kinds (SideBoundFound side_bound) → Found kinds side_bound
   found [] side_bound h = absurd h
   found (kind ∷ []) side_bound h =
@@ -87,7 +87,7 @@ module _ (r : RuleForms) (w : Form) (pivots : ℕ) where
         comes = f.comes;
       }
 
-  -- a search that finds none has tried the last kind
+  -- a search without a result has tried the last kind
   pub last-asked : (kinds : List Kind) (kind : Kind) (ray : List ℤ)
       → SearchComesTo r w pivots (kinds ++ kind ∷ []) (NoneFound ray) → ComesTo r w pivots kind (NoneFound ray)
   last-asked [] kind ray h = h

@@ -77,7 +77,7 @@ placed : (m : Prepared) (place : ℕ) → 1 ≤ place → after_rule (local_form
 placed m zero l = absurd (omega (arith, l))
 placed m (suc i) l = form_at-is m.new_values i ∙ ap (form_at m.new_values) (let e : i ≡ suc i - 1 = omega arith in e)
 
--- what a form exceeds the new value by is what acceptance asks for
+-- the excess of a form over the new value is the goal that acceptance requires
 pub goal-is : (m : Prepared) (side : Side) (den place : ℕ) (form : Form) → 1 ≤ place
     → excess form (pos den) (value_on side m place) ≡ side_bound_goal side den form (form_at m.new_values (place - 1))
 goal-is m Up den place form l = ap (λ (f : Form). form_sum form (form_times (neg_ℤ (pos den)) f)) (placed m place l)

@@ -23,22 +23,22 @@ use Rattle.local_size.specs.LocalLaws.{LocalAnswersAreOne}
 use Rattle.local_size.proofs.OneSideOutcome.{search-once}
 use Rattle.poly_terms.proofs.model.Cases.{some_same as some-limit_hit, none_some as no-limit_hit}
 
--- a trip by its parts
+-- a limit hit by its parts
 limit_hit_with : Question → LimitCause → LimitHit
 limit_hit_with question cause = record { question = question; cause = cause }
 
--- trips with the same parts are the same
+-- limit hits with equal parts are equal
 limit_hit-same : (t u : LimitHit) → t.question ≡ u.question → cause_of t.cause ≡ cause_of u.cause → t ≡ u
 unfolding limit_hit_with
 limit_hit-same t u e f =
     ap (λ (q : Question). limit_hit_with q t.cause) e
     ∙ ap (λ (c : LimitCause). limit_hit_with u.question c) (names-same t.cause u.cause f)
 
--- a bound by its arms
+-- a bound by its side bounds
 bound_with : SideBound → SideBound → LocalBound
 bound_with up low = record { up = up; low = low }
 
--- bounds with the same arms are the same
+-- bounds with equal side bounds are equal
 bound-same : (l k : LocalBound) → l.up ≡ k.up → l.low ≡ k.low → l ≡ k
 unfolding bound_with
 bound-same l k e f = ap (λ (a : SideBound). bound_with a l.low) e ∙ ap (λ (a : SideBound). bound_with k.up a) f
@@ -51,19 +51,19 @@ some-point z w e = cc
 no-point : (z : ScaledPoint) → None ≡ Some z → ⊥
 no-point z e = cc
 
--- an arm that is found is determined
+-- a side bound that is found is unique
 side_bound-same : (a b : SideBound) → SideBoundFound a ≡ SideBoundFound b → a ≡ b
 side_bound-same a b e = cc
 
--- the same for a ray
+-- a ray that is found is unique
 ray-same : (a b : List ℤ) → NoneFound a ≡ NoneFound b → a ≡ b
 ray-same a b e = cc
 
--- and the cause of a limit
+-- the cause of a limit is unique
 cause-same : (c d : Cause) → LimitPassed c ≡ LimitPassed d → c ≡ d
 cause-same c d e = cc
 
--- an arm, a ray and a limit differ
+-- a side bound, a ray and a limit differ
 side_bound-no_ray : (a : SideBound) (ray : List ℤ) → SideBoundFound a ≡ NoneFound ray → ⊥
 side_bound-no_ray a ray e = cc
 
@@ -73,7 +73,7 @@ side_bound-no_limit a c e = cc
 ray-no_limit : (ray : List ℤ) (c : Cause) → NoneFound ray ≡ LimitPassed c → ⊥
 ray-no_limit ray c e = cc
 
--- the same answers have the same point
+-- equal answers have the same point
 points-same : (d e : GuardFeasibility) → IsSameEmptyAnswer d e → point_in (Some d) ≡ point_in (Some e)
 points-same (empties.Empty n) (empties.Empty k) s = refl
 points-same (empties.Empty n) (empties.Point z) s = absurd s
@@ -85,7 +85,7 @@ points-same (empties.OutOfLimits t) (empties.Empty n) s = absurd s
 points-same (empties.OutOfLimits t) (empties.Point z) s = absurd s
 points-same (empties.OutOfLimits t) (empties.OutOfLimits u) s = refl
 
--- and the same trip
+-- equal answers have the same limit hit
 trips-same : (d e : GuardFeasibility) → IsSameEmptyAnswer d e → limit_hit_in (Some d) ≡ limit_hit_in (Some e)
 trips-same (empties.Empty n) (empties.Empty k) s = refl
 trips-same (empties.Empty n) (empties.Point z) s = absurd s
@@ -97,7 +97,7 @@ trips-same (empties.OutOfLimits t) (empties.Empty n) s = absurd s
 trips-same (empties.OutOfLimits t) (empties.Point z) s = absurd s
 trips-same (empties.OutOfLimits t) (empties.OutOfLimits u) s = ap (λ (v : LimitHit). Some v) (limit_hit-same t u s.0 s.1)
 
--- an answer has no point beside a trip
+-- an answer with a point has no limit hit
 not-both : (d : GuardFeasibility) (z : ScaledPoint) (t : LimitHit) → point_in (Some d) ≡ Some z → limit_hit_in (Some d) ≡ Some t → ⊥
 not-both (empties.Empty n) z t e f = no-point z e
 not-both (empties.Point w) z t e f = no-limit_hit t f
@@ -123,13 +123,13 @@ module _ (m : Prepared) (place pivots : ℕ) where
   lacks-pass Up ray h = (inr (ray, h.0), h.1)
   lacks-pass Low ray h = (inl h.0, inr (ray, h.1))
 
-  -- where both sides have an arm, none lacks a form
+  -- if both sides have a side bound, none lacks a form
   side_bounds-suffice : (side : Side) (ray : List ℤ) (l : LocalBound) → HasSideBounds m place pivots l
       → LacksForm m place pivots side ray → ⊥
   side_bounds-suffice Up ray l h n = side_bound-no_ray l.up ray (side-once Up (SideBoundFound l.up) (NoneFound ray) h.up n.0)
   side_bounds-suffice Low ray l h n = side_bound-no_ray l.low ray (side-once Low (SideBoundFound l.low) (NoneFound ray) h.low n.1)
 
-  -- the side that lacks a form and its ray are determined
+  -- the side that lacks a form and its ray are unique
   lacks-once : (a b : Side) (ray other : List ℤ) → LacksForm m place pivots a ray → LacksForm m place pivots b other
       → (a ≡ b) × (ray ≡ other)
   lacks-once Up Up ray other g h =
@@ -146,7 +146,7 @@ module _ (m : Prepared) (place pivots : ℕ) where
   PassesFirst c = SideComesTo m place pivots Up (LimitPassed c)
       ⊎ (PassesNone m place pivots Up × SideComesTo m place pivots Low (LimitPassed c))
 
-  -- then a side passes one
+  -- a side that hits a limit contradicts that neither does
   first-apart : (c : Cause) → PassesFirst c → PassesNone m place pivots Up × PassesNone m place pivots Low → ⊥
   first-apart c (inl g) h = unpassed Up c h.0 g
   first-apart c (inr g) h = unpassed Low c h.1 g.1
@@ -158,11 +158,11 @@ module _ (m : Prepared) (place pivots : ℕ) where
   first-once c d (inr g) (inl h) = absurd (unpassed Up d g.0 h)
   first-once c d (inr g) (inr h) = cause-same c d (side-once Low (LimitPassed c) (LimitPassed d) g.1 h.1)
 
-  -- where both sides have an arm, none exceeds a limit
+  -- if both sides have a side bound, none hits a limit
   side_bounds-pass : (l : LocalBound) → HasSideBounds m place pivots l → PassesNone m place pivots Up × PassesNone m place pivots Low
   side_bounds-pass l h = (inl (l.up, h.up), inl (l.low, h.low))
 
-  -- the arms are determined
+  -- the side bounds are unique
   side_bounds-once : (l k : LocalBound) → HasSideBounds m place pivots l → HasSideBounds m place pivots k → l ≡ k
   side_bounds-once l k g h =
       bound-same l k (side_bound-same l.up k.up (side-once Up (SideBoundFound l.up) (SideBoundFound k.up) g.up h.up))
@@ -180,13 +180,13 @@ module _ (m : Prepared) (result_variable : ResultVariable) (pivots : ℕ) where
   bounds-once d e l k (inr g) (inl h) = absurd (apart _ h.0 g.asked)
   bounds-once d e l k (inr g) (inr h) = ap HasBound (side_bounds-once m result_variable.place pivots l k g h)
 
-  -- arms aren't a loose answer
+  -- side bounds aren't an unbounded answer
   bound-not_unbounded : (d e : GuardFeasibility) (l : LocalBound) (side : Side) (ray : List ℤ) (kept : ScaledPoint)
       → IsLocal m result_variable pivots d (HasBound l) → IsLocal m result_variable pivots e (IsUnboundedOn side ray kept) → ⊥
   bound-not_unbounded d e l side ray kept (inl g) h = apart _ g.0 h.asked
   bound-not_unbounded d e l side ray kept (inr g) h = side_bounds-suffice m result_variable.place pivots side ray l g h.lacks
 
-  -- nor a trip
+  -- side bounds aren't a limit hit
   bound-not_tripped : (d e : GuardFeasibility) (l : LocalBound) (t : LimitHit) → IsLocal m result_variable pivots d (HasBound l)
       → IsLocal m result_variable pivots e (HasTripped t) → ⊥
   bound-not_tripped d e l t (inl g) (inl h) = apart _ g.0 h.asked
@@ -196,7 +196,7 @@ module _ (m : Prepared) (result_variable : ResultVariable) (pivots : ℕ) where
   bound-not_tripped d e l t (inr g) (inr h) =
       side_bounds-suffice m result_variable.place pivots h.lacks.0 h.lacks.1.0 l g h.lacks.1.1
 
-  -- a loose answer isn't a trip
+  -- an unbounded answer isn't a limit hit
   unbounded-not_tripped : (d e : GuardFeasibility) (side : Side) (ray : List ℤ) (kept : ScaledPoint) (t : LimitHit)
       → IsSameEmptyAnswer d e → IsLocal m result_variable pivots d (IsUnboundedOn side ray kept)
       → IsLocal m result_variable pivots e (HasTripped t) → ⊥
@@ -205,7 +205,7 @@ module _ (m : Prepared) (result_variable : ResultVariable) (pivots : ℕ) where
   unbounded-not_tripped d e side ray kept t same g (inr h) =
       not-both e kept t (sym (points-same d e same) ∙ g.point) h.limit_hit
 
-  -- nor a trip a loose answer
+  -- a limit hit isn't an unbounded answer
   tripped-not_unbounded : (d e : GuardFeasibility) (t : LimitHit) (side : Side) (ray : List ℤ) (kept : ScaledPoint)
       → IsSameEmptyAnswer d e → IsLocal m result_variable pivots d (HasTripped t)
       → IsLocal m result_variable pivots e (IsUnboundedOn side ray kept) → ⊥
@@ -214,11 +214,11 @@ module _ (m : Prepared) (result_variable : ResultVariable) (pivots : ℕ) where
   tripped-not_unbounded d e t side ray kept same (inr g) h =
       not-both d kept t (points-same d e same ∙ h.point) g.limit_hit
 
-  -- a loose answer by its parts
+  -- an unbounded answer by its parts
   unbounded_on : Side → List ℤ → ScaledPoint → Local
   unbounded_on side ray kept = IsUnboundedOn side ray kept
 
-  -- a loose answer is determined
+  -- an unbounded answer is unique
   unbounded-once : (d e : GuardFeasibility) (a b : Side) (ray other : List ℤ) (kept point : ScaledPoint)
       → IsSameEmptyAnswer d e → IsLocal m result_variable pivots d (IsUnboundedOn a ray kept)
       → IsLocal m result_variable pivots e (IsUnboundedOn b other point) → IsUnboundedOn a ray kept ≡ IsUnboundedOn b other point
@@ -230,7 +230,7 @@ module _ (m : Prepared) (result_variable : ResultVariable) (pivots : ℕ) where
       ∙ ap (λ (p : ScaledPoint). unbounded_on b other p)
       (some-point kept point (sym g.point ∙ (points-same d e same ∙ h.point))))
 
-  -- a trip is determined
+  -- a limit hit is unique
   trips-once : (d e : GuardFeasibility) (t u : LimitHit) → IsSameEmptyAnswer d e → IsLocal m result_variable pivots d (HasTripped t)
       → IsLocal m result_variable pivots e (HasTripped u) → HasTripped t ≡ HasTripped u
   trips-once d e t u same (inl g) (inl h) =

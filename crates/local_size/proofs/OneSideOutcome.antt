@@ -1,4 +1,4 @@
--- What the questions of a side come to is determined.
+-- The result of the questions of a side is unique.
 use Rattle.std.proofs.Common.{◌≡◌, ℕ, ap, sym, ◌∙◌, subst, inl, inr, List, [], ◌∷◌}
 use Rattle.std.specs.Prelude.{ℤ}
 use Rattle.simplex_core.specs.linear_forms.Forms.{Form, at}

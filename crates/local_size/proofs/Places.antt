@@ -1,4 +1,4 @@
--- What the answers for the sides of a place come to together.
+-- The answer for a place, from the results of its two sides.
 use Rattle.std.proofs.Common.{◌≡◌, ℕ, ◌⊎◌, inl, inr, sym, ap, ◌∙◌, subst, List, true, false}
 use Rattle.std.specs.Prelude.{ℤ}
 use Rattle.simplex_core.specs.linear_forms.Causes.{cause_of}
@@ -22,7 +22,7 @@ module _ (m : Prepared) (result_variable : ResultVariable) (pivots : ℕ) (empty
   by-itself l e f = inl (e, f)
 
   module _ (no : is_polynomial_at m result_variable.place ≡ false) where
-    -- both sides have an arm
+    -- both sides have a side bound
     pub both-side_bounds : (l : LocalBound) → SideComesTo m result_variable.place pivots Up (SideBoundFound l.up)
         → SideComesTo m result_variable.place pivots Low (SideBoundFound l.low) → IsLocal m result_variable pivots empty (HasBound l)
     both-side_bounds l up low = inr (record { asked = no; up = up; low = low })
@@ -50,7 +50,7 @@ module _ (m : Prepared) (result_variable : ResultVariable) (pivots : ℕ) (empty
         → IsLocal m result_variable pivots empty (HasTripped t)
     tripped-low t e up low = inl (record { asked = no; question = e; first = inr (up, low) })
 
--- a side with an arm or without one as its result exceeds no limit
+-- a side whose result is a side bound, or none, hits no limit
 pub passes : {A B : Type 0} (m : Prepared) (place pivots : ℕ) (side : Side) (s : SideAnswer) (f : A → SideAnswer)
     (g : B → SideAnswer) (side_bound : A → SideBound) (ray : B → List ℤ) → ((a : A) → side_outcome_of (f a) ≡ SideBoundFound (side_bound a))
     → ((b : B) → side_outcome_of (g b) ≡ NoneFound (ray b)) → ((x : A) × (s ≡ f x)) ⊎ ((y : B) × (s ≡ g y))

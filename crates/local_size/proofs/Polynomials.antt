@@ -14,7 +14,7 @@ use Rattle.cert_types.specs.cert_rules.ComposedSizes.{poly_of}
 use Rattle.cert_types.specs.cert_program.Setting.{polys_in, nonlinear_at, setting_of}
 use Rattle.local_size.specs.Places.{is_of_left, expanded_at, is_polynomial_at}
 
--- what passes a test, one by one
+-- elements that pass a test have its property
 all-pass : {A : Type 0} (test : A → Bool) (P : A → Type 0) → ((x : A) → test x ≡ true → P x) → (xs : List A)
     → list_all test xs ≡ true → All P xs
 all-pass test P h [] e = All-nil P
@@ -28,7 +28,7 @@ reads-left left q e =
     all-pass (λ m. list_all (λ v. nat_lt v left) m.vars) (λ m. All (λ v. v < left) m.vars)
     (λ m f. all-pass (λ v. nat_lt v left) (λ v. v < left) (λ v g. ltb-true v left g) m.vars f) q e
 
--- a bent update is found among the bent ones
+-- a nonlinear update is found among the nonlinear ones
 nonlinear-there : (qs : List Polynomial) (i : ℕ) → slice_index_or (map is_nonlinear qs) i false ≡ true
     → nonlinear_at qs i ≡ Some (slice_index_or qs i [])
 nonlinear-there [] i e = absurd (true≢false (sym e))

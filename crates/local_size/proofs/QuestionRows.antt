@@ -34,7 +34,7 @@ pub argument-small : (place : ℕ) → IsSmall (before_rule place)
 argument-small zero = constant-small (pos 1) (omega arith)
 argument-small (suc i) = unknown-small i
 
--- the same for what isn't sought
+-- the fixed part is small
 pub fixed-small : (kind : plain.Kind) → IsSmall (fixed_part kind)
 fixed-small Number = constant-small (pos 0) (omega arith)
 fixed-small (Argument place Plus) = subst IsSmall (sym (once-form (before_rule place))) (argument-small place)

@@ -1,4 +1,4 @@
--- The arm that is read off a solution, and the ray off a dual.
+-- The side bound that is read off a solution, and the ray that is read off a dual.
 use Rattle.std.proofs.Common.{◌≡◌, ℕ, zero, suc, ◌+◌, ◌*◌, ◌<◌, ◌≤◌, refl, sym, ap, ◌∙◌, arith, List, ◌∷◌}
 use Rattle.std.proofs.Common.{length, replicate}
 use Rattle.std.specs.Prelude.{ℤ, pos, nat_abs}
@@ -51,7 +51,7 @@ form-is left kind v d coefs constant e f =
     made : List ℤ → ℤ → Form
     made xs z = record { coefs = xs; constant = z }
 
--- the arm of the parts
+-- a side bound by its parts
 pub side_bound-is : (den : ℕ) (f g : Form) (ms ns : List ℕ) → f ≡ g → ms ≡ ns → Linear den f ms ≡ Linear den g ns
 side_bound-is den f g ms ns e h = ap (λ (x : Form). Linear den x ms) e ∙ ap (λ (xs : List ℕ). Linear den g xs) h
 
@@ -60,7 +60,7 @@ module _ (r : RuleForms) (w : Form) (kind : plain.Kind) where
   parameters-are : (question_of r w kind).parameters ≡ length (sought_places r.left kind)
   parameters-are = ap (λ (q : Question). q.parameters) (question-is r w kind)
 
-  -- the form and the multipliers that are read off a solution make the arm that it gives
+  -- the form and the multipliers of a solution make its side bound
   pub solved-is : (numbers : List ℤ) (den rows : ℕ) → rows ≡ length r.rows
       → Linear den (form_of r.left kind (parameters_of (at numbers)) (pos den))
       (listed rows (λ j. nat_abs (at numbers (2 * length (sought_places r.left kind) + j))))
@@ -88,7 +88,7 @@ module _ (r : RuleForms) (w : Form) (kind : plain.Kind) where
       let c = ap (λ (q : Question). double q.parameters + group_columns q.groups) (question-is r w kind) in
       let d = double-is (length (sought_places r.left kind)) in omega (arith, a, b, c, d)
 
-  -- and a line for each unknown
+  -- the problem has a line for each unknown
   lines-are : (q : Question) → (program_of_question q).rows ≡ group_lines q.groups
   unfolding program_of_question
   lines-are q = equations-many 0 q.groups

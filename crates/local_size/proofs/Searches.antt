@@ -1,4 +1,4 @@
--- What the answers of the solver make of a kind's question, and of a side.
+-- The answers of the solver to a kind's question, and those of a side.
 use Rattle.simplex_core.specs.linear_forms.declared.limit_cause.LimitCause.{LimitCause}
 use Rattle.std.proofs.Common.{◌≡◌, ℕ, ◌+◌, ◌*◌, ◌<◌, ◌≤◌, inl, inr, refl, sym, ap, ◌∙◌, subst, arith, List, [], ◌∷◌}
 use Rattle.std.proofs.Common.{map}
@@ -37,7 +37,7 @@ module _ (r : RuleForms) (w : Form) (kind : plain.Kind) (pivots : ℕ) (problem 
   moved : (a : Answer) → IsWholeAnswer (program_of problem) pivots a → IsWholeAnswer (kind_program r w kind) pivots a
   moved a h = whole-answers-agree (program_of problem) (kind_program r w kind) pivots a of.agrees h
 
-  -- the numbers of a solution suffice for an arm
+  -- the numbers of a solution suffice for a side bound
   pub solution-room : (s : Numerators) (rows : ℕ) → IsWholeAnswer (program_of problem) pivots (Solution s)
       → rows ≡ length r.rows
       → 2 * length (sought_places r.left kind) + rows ≤ length s.numbers.items
@@ -45,7 +45,7 @@ module _ (r : RuleForms) (w : Form) (kind : plain.Kind) (pivots : ℕ) (problem 
       let l = readings.solution-room r w kind pivots s.numbers.items s.den (moved (Solution s) h)
       in omega (arith, l, e)
 
-  -- where the solver gives a solution, the question's result is the arm that is read off it
+  -- if the solver gives a solution, the question's result is its side bound
   pub side_bound-found : (s : Numerators) (rows : ℕ) (side_bound : SideBound) → IsWholeAnswer (program_of problem) pivots (Solution s)
       → rows ≡ length r.rows
       → side_bound ≡ Linear s.den (form_of r.left kind (parameters_of (at s.numbers.items)) (pos s.den))
@@ -54,7 +54,7 @@ module _ (r : RuleForms) (w : Form) (kind : plain.Kind) (pivots : ℕ) (problem 
   side_bound-found s rows side_bound h e f =
       (s.numbers.items, (s.den, moved (Solution s) h, f ∙ readings.solved-is r w kind s.numbers.items s.den rows e))
 
-  -- those of a dual for a ray
+  -- the numbers of a dual suffice for a ray
   pub dual-room : (s : Numerators) (ns : List ℤ) → IsWholeAnswer (program_of problem) pivots (Dual s)
       → ns ≡ s.numbers.items → 0 + r.unknowns < length ns
   dual-room s ns h e =

@@ -1,4 +1,4 @@
--- A loose answer has a ray of its side and a point, and no affine form bounds the side.
+-- An unbounded answer has a ray of its side and a point, and no affine form bounds the side.
 use Rattle.std.proofs.Common.{◌≡◌, ℕ, suc, ◌+◌, ◌<◌, ◌≤◌, ap, arith, sym, ◌∙◌, subst, List, [], length}
 use Rattle.std.proofs.Common.{length-append, get_or, Some, None}
 use Rattle.std.specs.Prelude.{ℤ, pos, nat_abs, ◌≤ℤ◌, ◌<ℤ◌}
@@ -85,7 +85,7 @@ affine-asked m place pivots side ray h =
     last-asked (local_forms m) (value_on side m place) pivots e.0 Affine ray
     (subst (λ (ks : List Kind). SearchComesTo (local_forms m) (value_on side m place) pivots ks (NoneFound ray)) e.1 h)
 
--- the side that is reported lacks a form
+-- the reported side lacks a form
 pub side-lacks : (m : Prepared) (place pivots : ℕ) (side : Side) (ray : List ℤ) → LacksForm m place pivots side ray
     → SideComesTo m place pivots side (NoneFound ray)
 side-lacks m place pivots Up ray h = h.0
@@ -141,7 +141,7 @@ module _ (p : Program) (r : Rule) (result_variable : ResultVariable) (pivots : �
     pub none-affine : HasNone m.rows m.left (value_on side m result_variable.place) Affine
     none-affine = unbounded-has-none m.rows m.left (value_on side m result_variable.place) (at ray) has-point ray-of_side
 
--- so loose answers are loose
+-- unbounded answers are right
 pub unbounded-answers : UnboundedAnswersAreUnbounded
 unbounded-answers = record {
   ray = λ p r result_variable pivots empty side ray kept valid is known h. (

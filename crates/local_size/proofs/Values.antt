@@ -54,7 +54,7 @@ opposite-value m f v = record {
 }
 
 module _ (m : RuleRows) (is : IsPrepared m) where
-  -- what the questions see of a prepared rule has the shape of a rule
+  -- the forms of a prepared rule that the questions use have the shape of a rule
   pub shaped : IsRuleShaped (local_forms (prepared_of m))
   shaped = subst (λ (q : Prepared). IsRuleShaped (forms_of 0 0 q)) (sym is.same)
       (prepared-shaped 0 0 is.rule is.preparable)

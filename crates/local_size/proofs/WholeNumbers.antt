@@ -19,7 +19,7 @@ module _ (p : LinearProgram) (allowed : ℕ) (numbers : List ℤ) (den : ℕ) wh
       })
       s.den_within
 
-  -- and so are those of a dual
+  -- the numbers of a dual are in range
   dual-scaled : IsScaledDual p allowed numbers den → TripsDual p allowed → ⊥
   dual-scaled s t =
       let same = (infeasible-same p allowed s.k t.k s.dual t.dual s.ends t.ends).0 in
@@ -28,7 +28,7 @@ module _ (p : LinearProgram) (allowed : ℕ) (numbers : List ℤ) (den : ℕ) wh
         each = λ j l. s.within.each j (let a = same.lengths in let b = s.scaled.lengths in omega (arith, l, a, b));
       })
 
-  -- where there is a solution, nothing trips
+  -- with a solution no limit is hit
   pub solved-untripped : IsScaledSolution p allowed numbers den → (c : Cause) → Trips p allowed c → ⊥
   solved-untripped s (range m) t =
       range-apart p allowed s.k m s.ends.last s.ends.in_range (optimal-stops p allowed s.k s.point s.basis s.ends) t.1
@@ -39,7 +39,7 @@ module _ (p : LinearProgram) (allowed : ℕ) (numbers : List ℤ) (den : ℕ) wh
   solved-untripped s scale (w, inl t) = solution-scaled s t
   solved-untripped s scale (w, inr t) = ends-apart p allowed s.k t.k s.point s.basis t.dual s.ends t.ends
 
-  -- nor where there is a dual
+  -- with a dual no limit is hit
   pub refuted-untripped : IsScaledDual p allowed numbers den → (c : Cause) → Trips p allowed c → ⊥
   refuted-untripped s (range m) t =
       range-apart p allowed s.k m s.ends.last s.ends.in_range (infeasible-stops p allowed s.k s.dual s.ends) t.1

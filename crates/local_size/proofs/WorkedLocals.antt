@@ -72,7 +72,7 @@ argument-later kind (b ∷ before) behind e none is =
     (subst (λ (k : Kind). HasNone falling_rows 1 rising k) (sym same)
     (All-head (HasNone falling_rows 1 rising) b before none))
 
--- first arms
+-- the first side bounds
 first : FirstSideBoundsAreWorkedOut
 first = record {
   up = (
@@ -114,14 +114,14 @@ line-affine a b = λ u l. past u l
     past zero l = absurd (omega (arith, l))
     past (suc u) l = refl
 
--- the falling rule is loose on neither side
+-- no side of the falling rule is unbounded
 not-unbounded : (w g : Form) → IsOfKind 1 Affine g 1 → IsAbove falling_rows w g 1 → HasPoint (rows_of falling_rule)
     → (z : ℕ → ℤ) → IsUnboundedRay (rows_of falling_rule) 1 w z → ⊥
 not-unbounded w g is above point z ray =
     (unbounded-has-none (rows_of falling_rule) 1 w z point ray).each g 1 (omega arith) is
     (subst (λ (rows : List Form). IsAbove rows w g 1) (sym rows-are) above)
 
--- loose sides
+-- the unbounded sides
 unbounded : UnboundedSidesAreWorkedOut
 unbounded = record {
   up = record {

@@ -61,7 +61,7 @@ pub record IsValue (m : RuleRows) (w : Form) : Type 0 where
   pub fits : length w.coefs ≤ m.unknowns
   pub small : IsSmall w
 
--- the coefficient of unknown u of the form of a kind that the parameters v over d stand for
+-- the coefficient of unknown u in the form of a kind with the parameters v over d
 abbrev pub coefficient_of : plain.Kind → (ℕ → ℤ) → ℤ → ℕ → ℤ
 coefficient_of plain.Number v d u = pos 0
 coefficient_of (plain.Argument place sign) v d u = if nat_eq (suc u) place then d *ℤ unit_of sign else pos 0
@@ -77,8 +77,8 @@ constant_of left plain.Affine v = v left
 pub record AreWritableWithin (places : List ℕ) (goals : List Goal) : Type 0 where
   pub each : (n : ℕ) → All (λ i. i ≤ n) places → All (λ g. IsWritable n (form_of g.form)) goals
 
--- where a side has no form along a ray, and nothing trips: it is loose, from the point of the rule, or what the
--- question for that point tripped by
+-- the answer for a side without a form along a ray, where no question of a side hits a limit: the side is unbounded,
+-- with the point of the rule, or the feasibility question for that point hit a limit
 abbrev pub IsLoosened : nodes.Side → List ℤ → GuardFeasibility → Local → Type 0
 IsLoosened side ray empty (HasBound l) = ⊥
 IsLoosened side ray empty (IsUnboundedOn s r kept) = (s ≡ side) × (r ≡ ray) × (point_in (Some empty) ≡ Some kept)

@@ -4,7 +4,7 @@ pub mod Places
 pub mod LocalAnswers
 -- how the code asks and reads them
 pub mod Asking
--- what the answers are worth
+-- the laws of the answers
 pub mod LocalLaws
 -- worked values
 pub mod WorkedLocals

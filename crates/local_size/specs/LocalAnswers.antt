@@ -17,7 +17,7 @@ use Rattle.local_size.specs.declared.answer.LocalAnswer.TheVariants as answers
 use Rattle.local_size.specs.Sides.{SideOutcome, SideBoundFound, NoneFound, LimitPassed, SearchComesTo}
 use Rattle.local_size.specs.Places.{local_forms, value_on, is_polynomial_at, kinds_of}
 
--- an answer as plain data: both arms; a side that is loose, along a ray and from a point; or what tripped
+-- an answer as plain data: both side bounds; a side that is unbounded, along a ray and from a point; or a limit hit
 pub data Local : Type 0 where
   HasBound : LocalBound → Local
   IsUnboundedOn : Side → List ℤ → ScaledPoint → Local
@@ -37,7 +37,7 @@ SideComesTo m place pivots side x =
 abbrev pub both_polynomial : LocalBound
 both_polynomial = record { up = Poly; low = Poly }
 
--- both sides have an arm
+-- both sides have a side bound
 pub record HasSideBounds (m : Prepared) (place pivots : ℕ) (l : LocalBound) : Type 0 where
   pub asked : is_polynomial_at m place ≡ false
   pub up : SideComesTo m place pivots Up (SideBoundFound l.up)
@@ -48,7 +48,8 @@ abbrev pub PassesNone : Prepared → ℕ → ℕ → Side → Type 0
 PassesNone m place pivots side = ((side_bound : SideBound) × SideComesTo m place pivots side (SideBoundFound side_bound))
     ⊎ ((ray : List ℤ) × SideComesTo m place pivots side (NoneFound ray))
 
--- the up side has no form, and the low side exceeds no limit; or the up side has an arm, and the low side has no form
+-- the up side has no form, and the low side hits no limit; or the up side has a side bound, and the low side has no
+-- form
 abbrev pub LacksForm : Prepared → ℕ → ℕ → Side → List ℤ → Type 0
 LacksForm m place pivots Up ray = SideComesTo m place pivots Up (NoneFound ray) × PassesNone m place pivots Low
 LacksForm m place pivots Low ray = ((side_bound : SideBound) × SideComesTo m place pivots Up (SideBoundFound side_bound))
@@ -74,8 +75,9 @@ pub record IsFeasibilityLimitHit (m : Prepared) (place pivots : ℕ) (empty : Gu
   pub lacks : (side : Side) × ((ray : List ℤ) × LacksForm m place pivots side ray)
   pub limit_hit : limit_hit_in (Some empty) ≡ Some t
 
--- the meaning of the answer for a place, within a number of pivots, where this is known of the rule's rows: both arms
--- are the update's own polynomial, or those that the questions of the sides give; a side is loose; or what tripped
+-- the meaning of the answer for a place within a number of pivots, given the answer on the rule's feasibility: both
+-- side bounds are the update's own polynomial, or those of the questions of the sides; a side is unbounded; or a limit
+-- was hit
 abbrev pub IsLocal : Prepared → ResultVariable → ℕ → GuardFeasibility → Local → Type 0
 IsLocal m result_variable pivots empty (HasBound l) = ((is_polynomial_at m result_variable.place ≡ true) × (l ≡ both_polynomial))
     ⊎ HasSideBounds m result_variable.place pivots l

@@ -1,4 +1,4 @@
--- What the answers for places prove.
+-- The laws of the answers for places.
 use Rattle.std.specs.Prelude.{◌≡◌, ◌↔◌, ℕ, ◌≤◌, true, List, length, ℤ, pos, nat_abs, Some}
 use Rattle.std.specs.List.{All}
 use Rattle.poly_terms.specs.model.Programs.{Program, Rule, rule_at}
@@ -21,13 +21,13 @@ use Rattle.rule_questions.specs.OneEmptyAnswer.{IsSameEmptyAnswer}
 use Rattle.local_size.specs.Places.{value_on, is_polynomial_at, kinds_of}
 use Rattle.local_size.specs.LocalAnswers.{Local, HasBound, IsUnboundedOn, HasTripped, IsLocal}
 
--- the spot is a place of this rule of the program
+-- the result variable is a place of this rule of the program
 pub record IsResultVariableOf (p : Program) (result_variable : ResultVariable) (r : Rule) : Type 0 where
   pub numbered : rule_at p result_variable.rule ≡ Some r
   pub is_result_variable : IsResultVariable p result_variable
 
--- both arms of an answer are accepted for the place: their numbers are within the limits, and the rows imply them, or
--- the update is the polynomial itself
+-- both side bounds of an answer are accepted for the place: their numbers are within the limits, and the rows imply
+-- them, or the update is the polynomial itself
 pub record LocalBoundsAreAccepted : Type 0 where
   pub shape : (p : Program) (r : Rule) (result_variable : ResultVariable) (pivots : ℕ) (empty : GuardFeasibility) (l : LocalBound)
       → IsValid p → IsResultVariableOf p result_variable r → IsLocal (prepared r) result_variable pivots empty (HasBound l)
@@ -39,33 +39,35 @@ pub record LocalBoundsAreAccepted : Type 0 where
       → IsValid p → IsResultVariableOf p result_variable r → IsLocal (prepared r) result_variable pivots empty (HasBound l)
       → AcceptsLow (setting_of p) (record { result_variable = result_variable; local = l })
 
--- an arm is the first on its side: the polynomial where the update is one, of degree 2 or more over left variables
--- alone; else a form of least weight of the first kind, in order, that has a form which is at least the value
+-- a side bound is the first one of its side: the polynomial if the update is one, of degree 2 or more over left
+-- variables alone; else a form of least weight of the first kind, in order, that has a form which is at least the
+-- value
 abbrev pub IsFirstSideBound : Prepared → ℕ → Side → SideBound → Type 0
 IsFirstSideBound m place side (Linear den form multipliers) =
     ¬ (is_polynomial_at m place ≡ true) × IsFirstOf m.rows m.left (value_on side m place) (kinds_of m place) form den
 IsFirstSideBound m place side Poly = is_polynomial_at m place ≡ true
 
--- where the rule has a point, each arm is the first on its side
+-- if the rule has a point, each side bound is the first one of its side
 pub record LocalBoundsAreFirst : Type 0 where
   pub each : (r : Rule) (result_variable : ResultVariable) (pivots : ℕ) (empty : GuardFeasibility) (l : LocalBound) (p : Program)
       → IsValid p → IsResultVariableOf p result_variable r → IsLocal (prepared r) result_variable pivots empty (HasBound l) → HasPoint (prepared r).rows
       → IsFirstSideBound (prepared r) result_variable.place Up l.up × IsFirstSideBound (prepared r) result_variable.place Low l.low
 
--- a side of a place is loose: its update isn't the polynomial that bounds it, the rule has a point, and along some ray
--- the value on this side rises while no left argument moves
+-- a side of a place is unbounded: its update isn't the polynomial that bounds it, the rule has a point, and along some
+-- ray the value on this side rises while no left argument changes
 pub record IsUnboundedSide (m : Prepared) (place : ℕ) (side : Side) : Type 0 where
   pub asked : ¬ (is_polynomial_at m place ≡ true)
   pub point : HasPoint m.rows
   pub z : ℕ → ℤ
   pub ray : IsUnboundedRay m.rows m.left (value_on side m place) z
 
--- a question of the place trips
+-- a question of the place hits a limit
 pub record PlaceTrips (m : Prepared) (result_variable : ResultVariable) (pivots : ℕ) (empty : GuardFeasibility) : Type 0 where
   pub limit_hit : LimitHit
   pub tripped : IsLocal m result_variable pivots empty (HasTripped limit_hit)
 
--- a loose answer has a ray of that side and a point, whose numbers are within the limit, and no affine form bounds it
+-- an unbounded answer has a ray of that side and a point, whose numbers are within the limit, and no affine form
+-- bounds the side
 pub record UnboundedAnswersAreUnbounded : Type 0 where
   pub ray : (p : Program) (r : Rule) (result_variable : ResultVariable) (pivots : ℕ) (empty : GuardFeasibility) (side : Side) (ray : List ℤ)
       (kept : ScaledPoint) → IsValid p → IsResultVariableOf p result_variable r → IsEmptyAnswer (prepared r) result_variable.rule pivots empty
@@ -81,7 +83,7 @@ pub record UnboundedAnswersAreUnbounded : Type 0 where
       → IsLocal (prepared r) result_variable pivots empty (IsUnboundedOn side ray kept)
       → HasNone (prepared r).rows (prepared r).left (value_on side (prepared r) result_variable.place) Affine
 
--- which answer it is
+-- which case an answer is
 abbrev pub SaysUnbounded : Local → Type 0
 SaysUnbounded (HasBound l) = ⊥
 SaysUnbounded (IsUnboundedOn side ray kept) = Unit {0}
@@ -92,7 +94,8 @@ SaysTripped (HasBound l) = ⊥
 SaysTripped (IsUnboundedOn side ray kept) = ⊥
 SaysTripped (HasTripped t) = Unit {0}
 
--- a place is answered loose exactly where a side of it is and no question trips; and tripped exactly where one does
+-- the answer is unbounded exactly if a side of the place is and no question hits a limit; and a limit hit exactly if
+-- one does
 pub record LocalAnswersAreExact : Type 0 where
   pub unbounded : (p : Program) (r : Rule) (result_variable : ResultVariable) (pivots : ℕ) (empty : GuardFeasibility) (x : Local) → IsValid p
       → IsResultVariableOf p result_variable r → IsEmptyAnswer (prepared r) result_variable.rule pivots empty → IsLocal (prepared r) result_variable pivots empty x

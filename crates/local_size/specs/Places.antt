@@ -1,4 +1,4 @@
--- What the questions about a place of a rule need: its new value, its update, and the kinds of forms.
+-- The parts of a rule that the questions about a place use: its new value, its update, and the kinds of forms.
 use Rattle.std.specs.Prelude.{ℕ, zero, suc, ◌&&◌, nat_lt, Bool, false, List, [], slice_index_or}
 use Rattle.std.specs.List.{list_all}
 use Rattle.poly_terms.specs.model.Polynomials.{Polynomial}

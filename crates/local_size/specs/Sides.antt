@@ -11,8 +11,8 @@ use Rattle.cert_types.specs.rule_forms.Laws.{solved_form, solved_multipliers}
 use Rattle.simplex_core.specs.Trips.{Trips, IsScaledSolution, IsScaledDual}
 use Rattle.cert_types.specs.cert_rules.Nodes.{SideBound, Linear}
 
--- the result of the questions of one side: an arm; no form of any kind, as the dual of the last question shows; or a
--- limit that a linear program exceeded
+-- the result of the questions of one side: a side bound; no form of any kind, as the dual of the last question shows;
+-- or a limit that a linear program hit
 pub data SideOutcome : Type 0 where
   SideBoundFound : SideBound → SideOutcome
   NoneFound : List ℤ → SideOutcome
@@ -22,14 +22,13 @@ pub data SideOutcome : Type 0 where
 abbrev pub kind_program : RuleForms → Form → Kind → LinearProgram
 kind_program r w kind = program_of_question (question_of r w kind)
 
--- the arm that a solution of it gives: the form that its parameters stand for, over its denominator, with its
--- multipliers of the rows
+-- the side bound of a solution: the form of its parameters, over its denominator, with its multipliers of the rows
 abbrev pub solved_side_bound : RuleForms → Form → Kind → List ℤ → ℕ → SideBound
 solved_side_bound r w kind numbers den =
     Linear den (solved_form r kind (at numbers) (pos den)) (solved_multipliers r w kind (at numbers))
 
--- the question of one kind, within a number of pivots, gives an arm, by the solution at which its linear program's
--- sequence of tableaux ends; or none, with a part for each unknown of the dual at which it ends; or it exceeds a limit
+-- the result of the question of one kind within a number of pivots: a side bound, by the solution at which its linear
+-- program's sequence of tableaux ends; none, with a part of the dual for each unknown; or a limit hit
 abbrev pub ComesTo : RuleForms → Form → ℕ → Kind → SideOutcome → Type 0
 ComesTo r w pivots kind (SideBoundFound side_bound) = (numbers : List ℤ)
     × ((den : ℕ) × IsScaledSolution (kind_program r w kind) pivots numbers den
@@ -38,13 +37,13 @@ ComesTo r w pivots kind (NoneFound ray) = (numbers : List ℤ)
     × ((den : ℕ) × IsScaledDual (kind_program r w kind) pivots numbers den × (ray ≡ listed r.unknowns (at numbers)))
 ComesTo r w pivots kind (LimitPassed cause) = Trips (kind_program r w kind) pivots cause
 
--- the search ends there: with an arm, or at a limit
+-- the search ends with this result: a side bound, or a limit hit
 abbrev pub IsEnd : SideOutcome → Type 0
 IsEnd (SideBoundFound side_bound) = ⊤
 IsEnd (NoneFound ray) = ⊥
 IsEnd (LimitPassed cause) = ⊤
 
--- the kinds are tried in order: the first that gives an arm or exceeds a limit decides, and else the last
+-- the kinds are tried in order: the first that gives a side bound or hits a limit decides, and else the last
 abbrev pub SearchComesTo : RuleForms → Form → ℕ → List Kind → SideOutcome → Type 0
 SearchComesTo r w pivots [] x = ⊥
 SearchComesTo r w pivots (kind ∷ []) x = ComesTo r w pivots kind x

@@ -1,4 +1,4 @@
--- Worked values of the questions about places, of the first arm on a side, and of loose sides.
+-- Worked values of the questions about places, of the first side bound of a side, and of unbounded sides.
 use Rattle.std.specs.Prelude.{◌≡◌, true, false, [], ◌∷◌, pos, negsuc, None}
 use Rattle.cert_types.specs.rule_forms.Kinds.{Number, Argument, Affine, Plus, Minus}
 use Rattle.cert_types.specs.rule_forms.Worked.{line_form}
@@ -57,9 +57,9 @@ pub record SidesAreWorkedOut : Type 0 where
   pub up : value_on Up (updated successor) 1 ≡ two (pos 1) (pos 0) (pos 1)
   pub low : value_on Low (updated successor) 1 ≡ two (negsuc 0) (pos 0) (negsuc 0)
 
--- where A >= 1, the first arm on the up side of A - 1 is A, and on the low side 0, whatever the multipliers are; 5 is
--- none on the up side, A isn't the first on the low side, and the polynomial is on neither. The first arm of A*A is the
--- polynomial, and that of A*B isn't, nor is a form the first of A*A
+-- where A >= 1, the first side bound of A - 1 is A on the up side, and 0 on the low side, whatever the multipliers
+-- are; 5 is none on the up side, A isn't the first on the low side, and the polynomial is on neither. The first side
+-- bound of A*A is the polynomial, and that of A*B isn't, nor is a form the first of A*A
 pub record FirstSideBoundsAreWorkedOut : Type 0 where
   pub up : IsFirstSideBound (prepared falling_rule) 1 Up (Linear 1 (line_form (pos 1) (pos 0)) [])
   pub low : IsFirstSideBound (prepared falling_rule) 1 Low (Linear 1 (line_form (pos 0) (pos 0)) [])
@@ -70,7 +70,7 @@ pub record FirstSideBoundsAreWorkedOut : Type 0 where
   pub reads_free : ¬ (IsFirstSideBound (updated product) 1 Up Poly)
   pub form_of_square : ¬ (IsFirstSideBound (updated square) 1 Up (Linear 1 (line_form (pos 1) (pos 0)) []))
 
--- a free variable is loose on both sides; A - 1 is on neither, and A*A isn't, since its polynomial bounds it
+-- a free variable is unbounded on both sides; A - 1 is on neither, and A*A isn't, since its polynomial bounds it
 pub record UnboundedSidesAreWorkedOut : Type 0 where
   pub up : IsUnboundedSide (updated (Variable 1)) 1 Up
   pub low : IsUnboundedSide (updated (Variable 1)) 1 Low

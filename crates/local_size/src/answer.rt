@@ -8,7 +8,7 @@ use outcome::UnboundedSide;
 pub enum LocalAnswer {
     /// At most this, on both sides.
     Bound(LocalBound),
-    /// A side is loose: no form in the left arguments bounds it.
+    /// A side is unbounded: no form in the left arguments bounds it.
     UnboundedSide(UnboundedSide),
     /// A linear program exceeded a limit.
     OutOfLimits(LimitHit),

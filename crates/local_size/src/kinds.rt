@@ -27,7 +27,7 @@ pub enum Kind {
 
 /// The kinds of forms that are tried at a place of a rule with this many left arguments, in their order: a constant,
 /// the argument at the same place, if there is one, and its negation, each other argument and its negation, and any
-/// affine form; where the update is bent, only the last.
+/// affine form; if the update is nonlinear, only the last.
 pub(crate) fn kinds_of(
     alloc: Global,
     is_nonlinear: bool,

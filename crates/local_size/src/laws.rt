@@ -1,29 +1,29 @@
-//! What the answers for places prove.
+//! The laws of the answers for places.
 
 ghost use Rattle.local_size.specs.LocalLaws.{LocalBoundsAreAccepted, LocalBoundsAreFirst, UnboundedAnswersAreUnbounded};
 ghost use Rattle.local_size.specs.LocalLaws.{LocalAnswersAreExact, LocalAnswersAreOne};
 ghost use Rattle.local_size.specs.WorkedLocals.{LocalValuesAreWorkedOut};
 
-/// Both arms of an answer are accepted for the place, whatever else is known. It has no code, as all functions here:
-/// its contract is the law.
+/// Both side bounds of an answer are accepted for the place, whatever other facts are known. It has no code, as all
+/// functions here: its contract is the law.
 pub fn local_bounds_are_accepted()
     ensures { LocalBoundsAreAccepted }
 {}
 
-/// If the rule has a point, each arm is the first of its side: no form of a kind before its own is at least the value
-/// on all rational points, and none of its own kind that is weighs less.
+/// If the rule has a point, each side bound is the first one of its side: no form of a kind before its own is at least
+/// the value on all rational points, and no such form of its own kind weighs less.
 pub fn local_bounds_are_first()
     ensures { LocalBoundsAreFirst }
 {}
 
-/// A loose answer has a ray along which the value on its side rises while no left argument changes, and a point; so no
-/// affine form in left arguments bounds the side.
+/// An unbounded answer has a ray along which the value on its side rises while no left argument changes, and a point;
+/// so no affine form in left arguments bounds the side.
 pub fn unbounded_answers_are_unbounded()
     ensures { UnboundedAnswersAreUnbounded }
 {}
 
-/// A place is answered loose exactly where a side of it is loose and no question trips, and tripped exactly where one
-/// does.
+/// The answer is `UnboundedSide` exactly if a side of the place is unbounded and no question hits a limit, and
+/// `OutOfLimits` exactly if one does.
 pub fn local_answers_are_exact()
     ensures { LocalAnswersAreExact }
 {}
@@ -33,8 +33,8 @@ pub fn local_answers_are_one()
     ensures { LocalAnswersAreOne }
 {}
 
-/// Worked values of the questions about places, of which arm is the first on a side, and of which sides are loose, with
-/// counterexamples.
+/// Worked values of the questions about places, of which side bound is the first of a side, and of which sides are
+/// unbounded, with counterexamples.
 pub fn local_values_are_as_worked_out()
     ensures { LocalValuesAreWorkedOut }
 {}

@@ -23,14 +23,15 @@ use outcome::UnboundedSide;
 use poly_terms::Memory;
 use std::alloc::Global;
 
-/// The bound on the new value at a place in one step, as two arms: one is never below the value, the other never below
-/// its negation. If the update is a polynomial of degree 2 or more over left variables alone, both are that polynomial
-/// with absolute coefficients. Else each arm is the first form in this order that the rule's rows imply: a constant;
-/// the left argument at the same place, then its negation; each other left argument and its negation; an affine form in
-/// left arguments; and within a kind one of least weight. For an update of degree 2 or more with a free variable only
-/// the last kind is tried. `UnboundedSide` has a ray along which the value moves on a side, the up side first, and no left
-/// argument changes, with the point of the rule. `OutOfLimits` has the limit that a linear program exceeds within this many
-/// pivots or, where an affine form isn't found, that of the rule's emptiness question. Each comes exactly in its case.
+/// The bound on the new value at a place in one step, as two side bounds: one is never below the value, the other
+/// never below its negation. If the update is a polynomial of degree 2 or more over left variables alone, both are
+/// that polynomial with absolute coefficients. Else each side bound is the first form in this order that the rule's
+/// rows imply: a constant; the left argument at the same place, then its negation; each other left argument and its
+/// negation; an affine form in left arguments; and within a kind one of least weight. For an update of degree 2 or
+/// more with a free variable only the last kind is tried. `UnboundedSide` has a ray along which the value moves on a
+/// side, the up side first, while no left argument changes, with the point of the rule. `OutOfLimits` has the limit
+/// that a linear program hits within this many pivots or, if an affine form isn't found, that of the rule's
+/// feasibility question. Each comes exactly in its case.
 ///
 /// # Errors
 ///
@@ -110,8 +111,8 @@ fn tripped(result_variable: ResultVariable, cause: LimitCause) -> LocalAnswer
     })
 }
 
-// A side has no form: the point of the rule makes it loose, where there is one, and else the question for that point
-// exceeded a limit.
+// The answer for a side without a form: with the point of the rule it is unbounded; without one, the feasibility
+// question hit a limit.
 fn loosened(
     alloc: Global,
     side: Side,

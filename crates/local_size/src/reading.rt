@@ -1,4 +1,4 @@
-//! Builds the arm from a solution of a kind's linear program.
+//! Builds the side bound from a solution of a kind's linear program.
 
 ghost use Rattle.std.specs.Prelude.{◌≡◌, suc, ◌+◌, ◌*◌, ◌*ℤ◌, ◌≤◌, nat_eq, if◌then◌else◌, length, pos, nat_abs, IfOk};
 ghost use Rattle.simplex_core.specs.linear_forms.Forms.{at};
@@ -20,8 +20,8 @@ use rule_questions::{multipliers_from, parameter_at};
 use simplex_core::Numerators;
 use std::alloc::Global;
 
-/// The arm that a solution gives: the form that its parameters stand for, over its denominator, with the multipliers of
-/// this many rows.
+/// The side bound of a solution: the form of its parameters, over its denominator, with the multipliers of this many
+/// rows.
 pub(crate) fn side_bound_from(
     alloc: Global,
     left: u32,

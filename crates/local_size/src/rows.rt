@@ -38,7 +38,7 @@ fn opposite_number(number: i128) -> i128
     -number
 }
 
-/// The left argument at a place; place 0 stands for the constant 1.
+/// The left argument at a place, or the constant 1 for place 0.
 pub(crate) fn argument_row(alloc: Global, place: u32) -> Result<Row, Memory>
     ensures { IfOk result (λ row. form_of row ≡ before_rule place) }
 {

@@ -23,7 +23,7 @@ use std::alloc::Global;
 /// The result of the questions of a side.
 #[derive(Debug, PartialEq, Eq, Drop)]
 pub enum SideAnswer {
-    /// This arm.
+    /// This side bound.
     SideBound(SideBound),
     /// No form of any kind is at least the value; along this ray the value rises, and no left argument changes.
     UnboundedSide(Vec<i64>),

@@ -189,7 +189,7 @@ rows-read p prepared_rules pivots due kept t m o are within at-m is =
     subst (λ (n : ℕ). HasRows n o) (sym (forms-read p prepared_rules t m are within at-m).0)
     (few-rows pivots (forms_at p t) due kept o is)
 
--- the same for the answers of all rules into the fact's symbol
+-- the answer on a fact at the rule at position k of those into its symbol is that of the rule
 pub answer-sound : (p : plain.Program) (prepared_rules : List RuleRows) (pivots : ℕ) (due : List Bool) (kept : List LocFact)
     (f : LocFact) (ps : List FactProof) (into : List ℕ) (k t : ℕ) (m : RuleRows) (o : Option RuleUnderFacts)
     (a b : Answered) → a ≡ b → AreRowsOf prepared_rules p → into ≡ rules_into p f.symbol → k < length into → t ≡ get_or into k t

@@ -1,4 +1,4 @@
--- One thing at most is wrong first with facts and their proofs, and then it isn't so that nothing is.
+-- Facts and their proofs have one first fault at most, and if they have one they aren't proved.
 use Rattle.std.proofs.Common.{◌≡◌, ◌⊎◌, inl, inr, ℕ, ◌+◌, ◌<◌, ap, sym, ◌∙◌, subst, List, length}
 use Rattle.std.specs.Prelude.{slice_get}
 use Rattle.std.proofs.lemmas.Bool.{cases_order}
@@ -115,7 +115,7 @@ module _ (p : Program) (kept : List LocFact) where
     fault-excludes x (inr (inl w)) h = none-wrong x h.right w
     fault-excludes x (inr (inr u)) h = none-unshown x h.shown u
 
-    -- and it is one thing
+    -- there is one first fault at most
     fault-one : (x y : FactFault) → IsFirstFault p kept proofs x → IsFirstFault p kept proofs y → x ≡ y
     fault-one x y (inl u) (inl v) = fault-same x y (u.fact ∙ sym v.fact) (u.rule ∙ sym v.rule)
     fault-one x y (inl u) (inr (inl w)) = absurd (u.uneven w.one_each)

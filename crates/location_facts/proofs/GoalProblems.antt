@@ -113,7 +113,7 @@ module _ (n : ℕ) (rows : List Row) (goal : Row) (writable : All (λ r. IsWrita
         (g ∙ ap (λ (xs : List ℤ). nat_abs (at xs (0 + n))) e),
   )
 
-  -- a trip solves nothing
+  -- a linear program that hits a limit isn't solved within the pivots
   pub goal-trips : (c : LimitCause) → IsWholeAnswer (program_of problem) pivots (OutOfLimits c)
       → ¬ IsSolvedWithin pivots (goal_program n (map form_of rows) (form_of goal))
   goal-trips c h =

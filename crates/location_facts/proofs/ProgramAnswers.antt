@@ -29,7 +29,7 @@ solved-by q pivots (Solution s) h = (
 solved-by q pivots (Dual s) h = (λ no. absurd no, λ k. dual-excludes q (at s.numbers.items) h.certified k.solution)
 solved-by q pivots (OutOfLimits c) h = (λ no. absurd no, λ k. k.untripped.each (cause_of c) h)
 
--- the same for the two linear programs of a rule and a fact
+-- a rule implies a fact exactly if one of its two linear programs is answered by a solution
 implied-by : (pivots : ℕ) (r : RuleForms) (kept : List LocFact) (f : LocFact) (a b : Answer)
     → IsWholeAnswer (goal_program r.unknowns (combined r kept) minus_one) pivots a
     → IsWholeAnswer (goal_program r.unknowns (combined r kept) (row_after r.new_values f)) pivots b

@@ -45,7 +45,7 @@ ascend-lower : (p : Program) (j k : ℕ) (facts : List LocFact) → j ≤ k → 
 ascend-lower p j k [] l h = tt
 ascend-lower p j k (f ∷ facts) l (c, m, h) = (c, omega (arith, l, m), h)
 
--- the same for those of them that meet a condition
+-- the facts of an ascending list that meet a condition ascend
 pub those-ascend : (Keeps : LocFact → Type 0) (p : Program) (k : ℕ) (facts those : List LocFact)
     → HasThose Keeps facts those → Ascend p k facts → Ascend p k those
 those-ascend Keeps p k [] those h b = subst (Ascend p k) (sym h) tt

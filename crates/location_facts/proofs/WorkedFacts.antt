@@ -98,7 +98,7 @@ falling-natural b c free h =
     after-falling (first_value c.values) (first_value (b.values ++ free)) (ap first_value h.values)
     (All-head (AtomHolds (b.values ++ free)) (Compare (Variable 0) AtLeast (Literal (pos 1))) [] h.guard)
 
--- the same for each rule of the program, by its number
+-- after a step by a rule of the program, by its number, the first value is at least 0
 step-natural : (t : ℕ) (r : Rule) (b c : Config) (free : List ℤ) → rule_at counting t ≡ Some r → Leads r b free c
     → pos 0 ≤ℤ (place_value c 1 -ℤ place_value c 0)
 step-natural zero r b c free e h = absurd (none_some r e)

@@ -64,7 +64,7 @@ positive-right least ps l e h = record {
   numbers = h;
 }
 
--- the same for the first fact of a list
+-- if the first fact of a list is right, the facts of the list up to it are
 first-right : (f : LocFact) (kept : List LocFact) (ps : List FactProof) (proofs : List (List FactProof))
     → IsRight counting 0 f ps → AreRight counting (f ∷ kept) (ps ∷ proofs) 1
 first-right f kept ps proofs h =

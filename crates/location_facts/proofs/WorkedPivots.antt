@@ -183,7 +183,7 @@ zero-dual t =
 narrow : 40000000000 < 8 → ⊥
 narrow l = omega (arith, l)
 
--- so nothing trips the program of A >= 0
+-- so the linear program of A >= 0 hits no limit
 zero-untripped : (c : Cause) → Trips zero_program 0 c → ⊥
 unfolding program_of_question divisor_of
 zero-untripped (range k) (fits, t) = zero-range k t

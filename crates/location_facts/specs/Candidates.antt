@@ -5,7 +5,7 @@ use Rattle.std.specs.List.{range_with_len}
 use Rattle.poly_terms.specs.model.Programs.{Program, arity_of}
 use Rattle.location_facts.specs.declared.fact.LocFact.{LocFact}
 
--- the last place that facts of a symbol speak of: its last one, but at most the eighth
+-- the last place that facts of a symbol can use: its last one, but at most the eighth
 abbrev pub last_place : Program → ℕ → ℕ
 last_place p s = min (arity_of p s) 8
 
@@ -29,12 +29,12 @@ abbrev pub with_places : ℕ → ℕ → ℕ → List LocFact
 with_places s i j =
     map (λ k. record { symbol = s; plus = i; minus = j; least = k }) (negsuc 0 ∷ pos 0 ∷ pos 1 ∷ [])
 
--- those whose minus is among these places, and another than plus
+-- the facts of a symbol with this plus, whose minus is among these places and another than plus
 abbrev pub with_plus : ℕ → ℕ → List ℕ → List LocFact
 with_plus s i [] = []
 with_plus s i (j ∷ js) = (if nat_eq i j then [] else with_places s i j) ++ with_plus s i js
 
--- those whose plus is among places, too
+-- the facts of a symbol whose plus is among the first places, and whose minus is among the second ones
 abbrev pub with_symbol : ℕ → List ℕ → List ℕ → List LocFact
 with_symbol s [] js = []
 with_symbol s (i ∷ places) js = with_plus s i js ++ with_symbol s places js
@@ -45,7 +45,7 @@ candidates_at p s =
     let places = range_with_len 0 (suc (last_place p s)) in
     if nat_eq s p.start then [] else with_symbol s places places
 
--- those at these symbols
+-- the candidate facts at these symbols
 abbrev pub candidates_among : Program → List ℕ → List LocFact
 candidates_among p [] = []
 candidates_among p (s ∷ symbols) = candidates_at p s ++ candidates_among p symbols

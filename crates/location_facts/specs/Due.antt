@@ -61,14 +61,14 @@ abbrev pub IsUnderIfDue : ℕ → RuleForms → Option Bool → List LocFact →
 IsUnderIfDue pivots r due kept None = due ≡ Some false
 IsUnderIfDue pivots r due kept (Some u) = IsUnder pivots r kept u
 
--- the same for the rules of a program, in order
+-- each rule of a program, in order, is under the list, or it isn't due
 pub record AreUnder (p : Program) (pivots : ℕ) (due : List Bool) (kept : List LocFact) (us : List (Option RuleUnderFacts))
     : Type 0 where
   pub many : length us ≡ length p.rules
   pub each : (i : ℕ) (o : Option RuleUnderFacts) (r : Rule) → slice_get us i ≡ Some o → slice_get p.rules i ≡ Some r
       → IsUnderIfDue pivots (forms_in (Some r)) (slice_get due i) kept o
 
--- and with some list
+-- each rule is under some list of facts, or it isn't due
 pub record AnyUnder (p : Program) (pivots : ℕ) (us : List (Option RuleUnderFacts)) : Type 0 where
   pub due : List Bool
   pub kept : List LocFact

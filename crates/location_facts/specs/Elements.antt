@@ -20,14 +20,14 @@ pub record IsMeasured (p : Program) (e : Element) : Type 0 where
   pub parts : AreParts e.at.parts.items
   pub den : e.at.den ≤ point_limit
 
--- it is a point or a ray of the rule's combined rows under a list of facts, and no linear program says that these have
--- no point
+-- an element is a point or a ray of its rule's combined rows under a list of facts, and no linear program says that
+-- these have no point
 pub record IsElement (p : Program) (pivots : ℕ) (kept : List LocFact) (e : Element) : Type 0 where
   pub fit : All (λ r. length r.coefs ≤ (forms_at p e.rule).unknowns) (combined (forms_at p e.rule) kept)
   pub meets : Meets (combined (forms_at p e.rule) kept) (numerators_of e.at) (pos e.at.den)
   pub not_empty : ¬ IsSolvedWithin pivots
       (goal_program (forms_at p e.rule).unknowns (combined (forms_at p e.rule) kept) minus_one)
 
--- the same for all of them
+-- each of these elements is such a point or ray
 abbrev pub AreElements : Program → ℕ → List LocFact → List Element → Type 0
 AreElements p pivots kept es = All (IsElement p pivots kept) es

@@ -113,7 +113,7 @@ pub record IsFirstUnshown (p : Program) (kept : List LocFact) (proofs : List (Li
     pub shows_not : ¬ (ShowsFact p kept unshown x.rule proof)
     pub fact : x.fact ≡ position + 1
 
--- the first thing that is wrong: uneven lists, then facts and shapes in order, then proofs by fact and then by rule
+-- the first fault: uneven lists, then facts and shapes in order, then proofs by fact and then by rule
 abbrev pub IsFirstFault : Program → List LocFact → List (List FactProof) → FactFault → Type 0
 IsFirstFault p kept proofs x =
     IsUneven kept proofs x ⊎ (IsFirstWrong p kept proofs x ⊎ IsFirstUnshown p kept proofs x)

@@ -25,7 +25,7 @@ goal_question unknowns rows goal = record {
 abbrev pub goal_program : ℕ → List Form → Form → LinearProgram
 goal_program unknowns rows goal = program_of_question (goal_question unknowns rows goal)
 
--- a linear program has a solution, and nothing trips it within a number of pivots
+-- a linear program has a solution, and hits no limit within a number of pivots
 pub record IsSolvedWithin (pivots : ℕ) (q : LinearProgram) : Type 0 where
   pub solution : HasSolution q
   pub untripped : NothingTrips q pivots

@@ -44,7 +44,7 @@ pub record ProvedFactsHold : Type 0 where
   pub proved : (p : Program) (kept : List LocFact) (proofs : List (List FactProof)) → IsValid p
       → AreProved p kept proofs → AreHeld p kept
 
--- one thing at most is wrong first with facts and their proofs, and where something is, it isn't so that nothing is
+-- facts and their proofs have one first fault at most, and if they have one they aren't proved
 pub record FaultsAreDecided : Type 0 where
   pub excluded : (p : Program) (kept : List LocFact) (proofs : List (List FactProof)) (x : FactFault)
       → IsFirstFault p kept proofs x → ¬ (AreProved p kept proofs)

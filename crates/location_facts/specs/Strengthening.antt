@@ -68,7 +68,7 @@ strengthened_rule kept r = record {
   cost = r.cost;
 }
 
--- the same for each rule of a program
+-- a program with each of its rules strengthened
 abbrev pub strengthened : List LocFact → Program → Program
 strengthened kept p = record {
   symbols = p.symbols;

@@ -27,7 +27,7 @@ pub(crate) enum Reply {
 }
 
 /// Whether a goal follows from rows over this many unknowns: `Follows` comes exactly where the linear program that asks
-/// it has a solution and nothing trips it within this many pivots.
+/// it has a solution and hits no limit within this many pivots.
 ///
 /// # Errors
 ///

@@ -33,7 +33,7 @@ pub struct LocFacts {
     pub proofs: Vec<Vec<FactProof>>,
 }
 
-/// The first thing wrong with facts and their proofs: the number of a fact, from 1, and of a rule. The rule is 0 where
+/// The first fault of facts and their proofs: the number of a fact, from 1, and of a rule. The rule is 0 if
 /// the fact itself or the shape of its proofs is wrong; both are 0 where there isn't one list of proofs for each fact.
 #[derive(Clone, Copy, Debug, PartialEq, Eq)]
 pub struct FactFault {

@@ -31,7 +31,7 @@ use std::alloc::{AllocError, Global};
 ///
 /// # Errors
 ///
-/// `Memory` where an allocation fails, and where the number of the fact that is told has more than 32 bits.
+/// `Memory` if an allocation fails, or if the number of the fact that is reported has more than 32 bits.
 pub fn facts_fault(
     alloc: Global,
     p: &Program,

@@ -34,8 +34,8 @@ pub fn kept_facts_are_one()
     ensures { KeptFactsAreOne }
 {}
 
-/// A rule implies a fact exactly where one of its two linear programs has a solution as its answer, not a dual or a
-/// trip.
+/// A rule implies a fact exactly if the answer to one of its two linear programs is a solution, and not a dual or a hit
+/// limit.
 pub fn answers_tell_implied()
     ensures { AnswersTellImplied }
 {}

@@ -88,7 +88,7 @@ pub record StepsAreSteps : Type 0 where
   pub moves : ¬ (IsStep countdown (two_values 0 (pos 3) (pos 7)) (by_rule 1) (two_values 0 (pos 3) (pos 7)))
   pub keeps_order : ¬ (IsStep countdown (two_values 0 (pos 3) (pos 7)) (by_rule 1) (two_values 1 (pos 7) (pos 3)))
   pub loops_in_order : ¬ (IsStep countdown (two_values 1 (pos 3) (pos 7)) (by_rule 2) (two_values 1 (negsuc 2) (pos 2)))
-  -- it leaves the source of its rule: not l1 by rule 1, and not l0 by rule 2
+  -- a step leaves the source of its rule: not l1 by rule 1, and not l0 by rule 2
   pub not_from_l1 : (d : Config) → ¬ (IsStep countdown (two_values 1 (pos 3) (pos 7)) (by_rule 1) d)
   pub not_from_l0 : (d : Config) → ¬ (IsStep countdown (two_values 0 (pos 3) (pos 7)) (by_rule 2) d)
   -- at 9 and at 1 the guard holds; at 0 its first atom fails alone, and at 10 its last one
@@ -113,7 +113,7 @@ pub record RunsAreRuns : Type 0 where
   pub no_steps : IsRun countdown (both (pos 3) (pos 7)) [] (two_values 0 (pos 3) (pos 7))
   pub begins_at_start : ¬ (IsRun countdown (both (pos 3) (pos 7)) [] (two_values 1 (pos 3) (pos 7)))
   pub begins_with_start_values : ¬ (IsRun countdown (both (pos 3) (pos 7)) [] (two_values 0 (pos 7) (pos 3)))
-  -- it begins with a value for each place: not with one, and not with three
+  -- a run begins with a value for each place: not with one, and not with three
   pub one_start_value : (c : Config) → ¬ (IsRun countdown (pos 3 ∷ []) [] c)
   pub three_start_values : (c : Config) → ¬ (IsRun countdown (pos 3 ∷ pos 7 ∷ pos 7 ∷ []) [] c)
   -- by rule 1, and then three times by rule 2, from l0(3, 7) to l1(0, -1)

@@ -59,7 +59,7 @@ times_of_two a c one two (suc zero) b e = subst (λ (d : Bound). HoldsTime count
 times_of_two a c one two (suc (suc zero)) b e = subst (λ (d : Bound). HoldsTime countdown 2 d) (same_time c b e) two
 times_of_two a c one two (suc (suc (suc t))) b e = absurd (no_time b e)
 
--- the same for those of places
+-- the sizes of both places hold
 places_of_two : (rule : ℕ) (a c : Bound) → HoldsSize countdown rule 1 a → HoldsSize countdown rule 2 c
     → (i : ℕ) (b : Bound) → place_entry (Some (two_sizes a c)) i ≡ Some (Sized b) → HoldsSize countdown rule i b
 places_of_two rule a c one two zero b e = absurd (no_size b e)
@@ -136,7 +136,7 @@ unsized v w (suc zero) b e = reason_size v b e
 unsized v w (suc (suc zero)) b e = reason_size w b e
 unsized v w (suc (suc (suc i))) b e = no_size b e
 
--- nor is there one among the reasons of both rules
+-- no size is among the reasons of both rules
 none_sized : (t i : ℕ) (b : Bound) → place_entry (numbered_entry no_sizes t) i ≡ Some (Sized b) → ⊥
 none_sized zero i b e = no_size b e
 none_sized (suc zero) i b e = unsized (SizeUntimed 1) (SizeUntimed 1) i b e

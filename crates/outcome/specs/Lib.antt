@@ -1,4 +1,4 @@
--- what an analysis says of a program, and when that holds on all runs
+-- the report of an analysis on a program, and when it holds on all runs
 pub mod Reports
 pub mod Holding
 pub mod WorkedReports

@@ -18,8 +18,8 @@ pub data Time : Type 0 where
   Timed : Bound → Time
   Untimed : NoTime → Time
 
--- why a place has no size: a side is loose, along a ray and from a point; a linear program exceeded a limit; a size
--- from outside is missing; a polynomial arm reads a member; a rule has no time; or the bound is too large
+-- why a place has no size: a side is unbounded, along a ray and from a point; a linear program hit a limit; a size
+-- from outside is missing; a polynomial side bound reads a member; a rule has no time; or the bound is too large
 pub data NoSize : Type 0 where
   SizeUnbounded : Side → List ℤ → ScaledPoint → NoSize
   SizeTripped : LimitHit → NoSize

@@ -43,13 +43,13 @@ pub enum CostEntry {
 #[derive(Debug, PartialEq, Eq, Drop)]
 pub enum SizeEntry {
     Known(Stored),
-    /// The place of a member is loose.
+    /// The place of a member is unbounded.
     UnboundedSide(UnboundedSide),
     /// A linear program of a member's place exceeded a limit.
     OutOfLimits(LimitHit),
     /// This size, which is needed from outside, is missing.
     Missing(ResultVariable),
-    /// A polynomial arm of this member reads a member.
+    /// A polynomial side bound of this member reads a member.
     Nonlinear(ResultVariable),
     /// The time of this rule, which is needed, is missing.
     Untimed { rule: u32 },

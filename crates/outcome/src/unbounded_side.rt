@@ -1,4 +1,4 @@
-//! Loose places, which no arm bounds.
+//! Unbounded places, which no side bound bounds.
 
 use farkas_cert::Scaled;
 

@@ -161,7 +161,7 @@ ordered-sum_of p ms a f g = record {
   nonzero = nonzero-without_zeros (all_added p ms);
 }
 
--- the same for opposites
+-- the opposite of an ordered polynomial ascends, has its factors in order, and has no zero
 pub ascending-opposite : (p : Polynomial) → IsAscending p → IsAscending (map opposite p)
 ascending-opposite [] h = h
 ascending-opposite (m ∷ p) h = (before-opposite m.vars p h.0, ascending-opposite p h.1)
@@ -177,11 +177,11 @@ nonzero-opposite (m ∷ p) h = ((λ e. h.0 (back m.coef e)), nonzero-opposite p 
     back : (z : ℤ) → neg_ℤ z ≡ pos 0 → z ≡ pos 0
     back z e = omega (arith, ints)
 
--- the same for products
+-- a product is ordered if the factors of its first polynomial are in order
 ordered-product_of : (p q : Polynomial) → HasFactorsInOrder p → IsOrdered (product_of p q)
 ordered-product_of p q f = ordered-sum_of [] (products p q) tt tt (factors-products p q f)
 
--- and powers
+-- a power of an ordered polynomial is ordered
 ordered-power_of : (p : Polynomial) (n : ℕ) → IsOrdered p → IsOrdered (power_of p n)
 ordered-power_of p zero h = record { ascending = (tt, tt); factors = (tt, tt); nonzero = ((λ e. omega (arith, ints, e)), tt) }
 ordered-power_of p (suc n) h = ordered-product_of (power_of p n) p (ordered-power_of p n h).factors

@@ -147,7 +147,7 @@ added-raises m d (t ∷ ts) l h = go (order m.vars t.vars) refl (added-raises m 
         ap (λ (us : Polynomial). t ∷ us) (ih (within (position_in m.vars ts) p) (same (suc (position_in m.vars ts)) p))
         ∙ ap (λ (i : ℕ). set (t ∷ ts) i (raised (get_or (t ∷ ts) i d) m)) (sym p)
 
--- the same for the code's monomials: m is at position i
+-- the plain monomial at position i is that of the code's monomial at position i
 pub at-monomial : (ms : List code.Monomial) (i : ℕ) (m : code.Monomial) (d : Monomial) → i < length ms → m ≡ get_or ms i m
     → get_or (monomials_of ms) i d ≡ monomial_of m
 at-monomial ms i m d l e = get_or-map monomial_of ms i m d l ∙ ap monomial_of (sym e)

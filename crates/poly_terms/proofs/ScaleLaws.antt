@@ -96,7 +96,7 @@ times-right z p q e h k =
     ap (product_of p) e
     ∙ (ap (λ (ms : Polynomial). without_zeros (all_added [] ms)) (products-right z p) ∙ collected-times z p h (subst HasNoZero e k.nonzero).0)
 
--- the same for a product with a constant on the left
+-- a product with a constant on the left is each coefficient multiplied by it
 pub times-left : (z : ℤ) (p q : Polynomial) → p ≡ constant z ∷ [] → IsOrdered p → IsOrdered q → product_of p q ≡ map (times z) q
 times-left z p q e h k =
     ap (λ (r : Polynomial). product_of r q) e

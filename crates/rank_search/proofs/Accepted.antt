@@ -108,7 +108,7 @@ module _ (p : Program) (set : List ℕ) (strict : ℕ) (shut : List SymbolPlace)
       go (inr l) = subst (λ (z : ℤ). pos 0 ≤ℤ z) (sym (get_or_past n.numbers j (pos 0) l))
           (let k : pos 0 ≤ℤ pos 0 = omega (arith, ints) in k)
 
-  -- the same for the parameters within it
+  -- the parameters among the numbers are within the limit
   parameter-small : (k : ℕ) → nat_abs (parameters_of column k) ≤ certificate_limit
   parameter-small k =
       apart (column (double k)) (column (suc (double k))) certificate_limit (column-nonneg (double k))

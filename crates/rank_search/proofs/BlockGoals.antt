@@ -44,7 +44,7 @@ module _ (part : Part) (r : RuleForms) (cs : List Coefficient) where
         writable = h.writable;
       }
 
-  -- and several
+  -- several coefficients without goals are skipped
   several-skipped : (n i : ℕ) (gs : List Goal) → i + n ≤ length cs
       → ((k : ℕ) (d : Coefficient) → i ≤ k → k < i + n → concerned r.source r.target (get_or cs k d) ≡ false)
       → AreGoalsUpTo part r cs i gs → AreGoalsUpTo part r cs (i + n) gs
@@ -89,7 +89,7 @@ module _ (part : Part) (r : RuleForms) (cs : List Coefficient) where
         (λ k d a n. outside k d (omega (arith, n, l, m)) (λ x. let y = x.0 in omega (arith, n, y))
         (λ x. let y = x.0 in omega (arith, n, o, y))) goals-begun
 
-    -- nor between the two
+    -- between the blocks there are no goals
     pub second-begun : (n : ℕ) (gs : List Goal) → n ≡ max b.upto c.first → AreGoalsUpTo part r cs b.upto gs
         → AreGoalsUpTo part r cs n gs
     second-begun n gs is done =
@@ -100,7 +100,7 @@ module _ (part : Part) (r : RuleForms) (cs : List Coefficient) where
         (λ k d a e. outside k d (omega (arith, e, is, l, m, o)) (λ x. let y = x.1 in omega (arith, a, y))
         (λ x. let y = x.0 in omega (arith, a, e, is, y))) done
 
-    -- nor behind them
+    -- after the blocks there are no goals
     pub second-ended : (n k : ℕ) (gs : List Goal) → n ≡ max b.upto c.first → k ≡ max c.upto n
         → AreGoalsUpTo part r cs k gs → AreGoalsUpTo part r cs (length cs) gs
     second-ended n k gs is ends done =

@@ -49,7 +49,7 @@ rule-inside p zero i = absurd (none i.numbered)
     none f = cc
 rule-inside p (suc t) i = (omega arith, let l = read-inside p.rules t i.rule i.numbered in omega (arith, l))
 
--- so a set has at most 1,000 rules
+-- a set has at most 1,000 rules
 pub few-rules : (p : Program) (set : List ℕ) (strict : ℕ) → IsValid p → IsRuleSet p set strict → length set ≤ rule_limit
 few-rules p [] strict v s = omega arith
 few-rules p (t ∷ set) strict v s =
@@ -58,7 +58,7 @@ few-rules p (t ∷ set) strict v s =
     let k = v.few_rules in
     let n = (rule-inside p t (All-head (IsRule p) t set s.rules)).0 in omega (arith, l, k, n)
 
--- what passes one of two tests
+-- the numbers that pass one of two tests are at most those that pass each
 either-many : (f g : ℕ → Bool) (xs : List ℕ) → length (filter (λ x. f x || g x) xs) ≤ length (filter f xs) + length
     (filter g xs)
 either-many f g [] = omega arith
@@ -158,13 +158,13 @@ few-in-all p set strict shut v s =
     let k = few-marked (λ t. (b.rule t).source) (λ t. (b.rule t).target) set (length p.symbols) in
     let m = few-rules p set strict v s in omega (arith, l, k, m)
 
--- what holds of each number of a range
+-- a property of all numbers below a limit is one of each number of a range
 ranged : (P : ℕ → Type 0) (a n m : ℕ) → a + n ≤ m → ((s : ℕ) → s < m → P s) → All P (range_with_len a n)
 ranged P a zero m l h = All-nil P
 ranged P a (suc n) m l h = All-cons P a (range_with_len (a + 1) n) (h a (omega (arith, l)))
     (ranged P (a + 1) n m (omega (arith, l)) h)
 
--- what holds of each symbol holds of the symbol of each coefficient
+-- a property of each symbol is one of the symbol of each coefficient
 symbols-held : (P : ℕ → Type 0) (b : RankedSet) (ss : List ℕ) → All P ss → All (λ c. P c.symbol) (coefficients b ss)
 symbols-held P b [] h = All-nil (λ c. P c.symbol)
 symbols-held P b (s ∷ ss) h =
@@ -174,7 +174,7 @@ symbols-held P b (s ∷ ss) h =
     (λ k d l. All-head P s ss h))
     (symbols-held P b ss (All-tail P s ss h))
 
--- what holds of all symbols of a program holds of the symbol of each coefficient of a set
+-- a property of all symbols of a program is one of the symbol of each coefficient of a set
 pub coefficients-held : (P : ℕ → Type 0) (b : RankedSet) → ((s : ℕ) → s < b.symbols → P s)
     → All (λ c. P c.symbol) (coefficients b (symbols_of_set b))
 coefficients-held P b h =
@@ -214,7 +214,7 @@ few-symbols p set strict shut v s =
     (λ t. ((ranked_set p set strict shut).rule t).target) set (length p.symbols) in
     let m = few-rules p set strict v s in omega (arith, k, m)
 
--- nor has a set many coefficients
+-- a set has few coefficients
 pub few-sought : (p : Program) (set : List ℕ) (strict : ℕ) (shut : List SymbolPlace) → IsValid p
     → IsRuleSet p set strict
     → (coefs : List Sought) → AreCoefficients (ranked_set p set strict shut) coefs → length coefs ≤ 66000

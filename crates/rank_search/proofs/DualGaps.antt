@@ -119,7 +119,7 @@ module _ (b : RankedSet) (cs : List Coefficient) (floor : ScaledPoint) where
     den_limit = near (b.rule t).unknowns;
   }
 
-  -- and so have all that are read, rule by rule, and the floor
+  -- all points that are read are near, those of the rules and the floor
   read-each : (y : ℕ → ℤ) → AreNear y → (set : List ℕ) (moves : List ScaledPoint)
       → moves ++ (floor ∷ []) ≡ points_of y (groups_with b cs floor set)
       → AreEach (λ t z. IsGapPoint (b.rule t) z) set moves × IsGapPoint (b.rule b.strict) floor
@@ -246,7 +246,7 @@ module _ (p : Program) (set : List ℕ) (strict : ℕ) (shut : List SymbolPlace)
               (seen-fixed (length cs) (at r.numbers) (rank_question b).groups shaped told.elements) told.below;
         })
 
-    -- it holds
+    -- the gap of the dual holds
     own-holds : GapHolds p (forms_at p) own
     own-holds =
         refuted-holds p b own

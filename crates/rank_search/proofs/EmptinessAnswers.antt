@@ -1,4 +1,4 @@
--- What is made of an answer of the solver to an emptiness question.
+-- The answer that is built from the solver's answer to a feasibility question.
 use Rattle.std.proofs.Common.{◌≡◌, ℕ, ◌+◌, ◌<◌, ◌≤◌, ap, arith, refl, sym, ◌∙◌, subst, List, length}
 use Rattle.std.specs.Prelude.{ℤ, pos, negsuc, nat_abs, ◌≤ℤ◌}
 use Rattle.std.proofs.lemmas.Int.{ints}
@@ -131,7 +131,7 @@ module _ (m : RuleRows) (is : IsPrepared m) (pivots : ℕ) (problem : Problem)
       whole (pos n) l = refl
       whole (negsuc n) l = absurd (omega (arith, ints, l))
 
-  -- a trip
+  -- a limit hit
   pub limit_hit-answer : (c : LimitCause) (rule : ℕ) (t : LimitHit) → IsWholeAnswer (program_of problem) pivots (OutOfLimits c)
       → t.question ≡ asked.Empty rule → cause_of t.cause ≡ cause_of c
       → IsEmptyAnswer (prepared_of m) rule pivots (answers.OutOfLimits t)

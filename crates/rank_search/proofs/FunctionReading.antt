@@ -1,4 +1,4 @@
--- What is read off the parameters in order is the function that they stand for.
+-- The function that is read off the parameters in order is the one with these parameters.
 use Rattle.std.proofs.Common.{◌≡◌, ℕ, zero, suc, ◌+◌, ◌-◌, ◌<◌, ◌≤◌, ap, arith, refl, sym, ◌∙◌, Bool, true, false, not}
 use Rattle.std.proofs.Common.{cond, if◌then◌else◌, List, [], ◌∷◌, ◌++◌, length, map, filter, get_or, drop, append_assoc}
 use Rattle.std.proofs.Common.{length-append}
@@ -23,7 +23,7 @@ use Rattle.rank_search.specs.Reading.{open_count, read_coefs, read_form, read_fo
 use Rattle.rule_questions.proofs.Lists.{listed-agree}
 use Rattle.rank_search.proofs.Numbers.{block, coefficient-append, block-elsewhere, block-before, symbols-before}
 
--- the same parameters give the same coefficient
+-- equal parameters give equal coefficients
 pub coefficient-same : (cs : List Coefficient) (v w : ℕ → ℤ) (s i : ℕ) → ((k : ℕ) → v k ≡ w k) → coefficient cs v s i
     ≡ coefficient cs w s i
 coefficient-same [] v w s i h = refl
@@ -225,7 +225,7 @@ module _ (p : Program) (set : List ℕ) (strict : ℕ) (shut : List SymbolPlace)
             (own ++ coefficients b (filter test (range_with_len (a + 1) n))) k a ∷ xs)
             (ih next ∙ others (filter test (range_with_len (a + 1) n)) (above (a + 1) n (a + 1) (omega arith)))
 
-  -- the function that the parameters stand for
+  -- the function with these parameters
   pub function-read : read_forms p shut v 0 (symbols_of_set b) ≡ map (part_at (function_of b v)) (symbols_of_set b)
   function-read = forms-read (has_symbol b) 0 (length p.symbols) 0 ∙ all (symbols_of_set b)
     where
@@ -306,7 +306,7 @@ module _ (shut : ℕ → Bool) (v : ℕ → ℤ) where
 
 -- the parts so far, and those of the symbols that are left
 module _ (p : Program) (shut : List SymbolPlace) (v : ℕ → ℤ) (symbols : List ℕ) where
-  -- with the part at the next symbol pushed, those of the symbols that are left still make the function
+  -- with the form at the next symbol pushed, the forms so far and those of the remaining symbols are the function
   pub form-more : (i s k onward : ℕ) (old new all : List SymbolForm) (f : SymbolForm) → i < length symbols → s
       ≡ get_or symbols i s
       → old ++ read_forms p shut v k (drop i symbols) ≡ all → f ≡ read_form p shut v k s → new ≡ old ++ f ∷ []

@@ -70,7 +70,7 @@ parts-many x g z e =
 
 -- the groups that are left, and one of them
 module _ (x : ℕ → ℤ) (prepared_rules : List RuleRows) (set : List ℕ) where
-  -- with the multipliers of the next group pushed, those of the groups that are left still make all
+  -- with the multipliers of the next group pushed, those so far and those of the remaining groups are all
   pub multipliers-more : (i t next then : ℕ) (old new all : List (List ℕ)) (ms : List ℕ) → i < length set → t
       ≡ get_or set i t
       → old ++ multipliers_by_group (after next x) (map (shape_at prepared_rules) (drop i set)) ≡ all
@@ -88,7 +88,7 @@ module _ (x : ℕ → ℤ) (prepared_rules : List RuleRows) (set : List ℕ) whe
       ∙ (sym (ap (λ (ts : List ℕ). old ++ multipliers_by_group (after next x) (map (shape_at prepared_rules) ts))
       (drop_more set i t l ∙ ap (λ (u : ℕ). u ∷ drop (i + 1) set) (sym is))) ∙ kept))))
 
-  -- behind the columns of the next group, those of the groups that are left still make all
+  -- after the columns of the next group, those so far and those of the remaining groups are all
   pub columns-more : (i t next then all : ℕ) → i < length set → t ≡ get_or set i t
       → next + group_columns (map (shape_at prepared_rules) (drop i set)) ≡ all
       → then ≡ next + suc (length (shape_at prepared_rules t).rows)
@@ -125,7 +125,7 @@ module _ (x : ℕ → ℤ) (prepared_rules : List RuleRows) (set : List ℕ) whe
   columns-end i next all l kept =
       let e = ap (λ (ts : List ℕ). group_columns (map (shape_at prepared_rules) ts)) (drop_all i set l) in omega (arith, kept, e)
 
-  -- the same of points
+  -- with the point of the next group pushed, those so far and those of the remaining groups are all
   pub points-more : (i t next then : ℕ) (old new all : List ScaledPoint) (z : ScaledPoint) → i < length set → t
       ≡ get_or set i t
       → old ++ points_of (after next x) (map (shape_at prepared_rules) (drop i set)) ≡ all
@@ -143,7 +143,7 @@ module _ (x : ℕ → ℤ) (prepared_rules : List RuleRows) (set : List ℕ) whe
       ∙ (sym (ap (λ (ts : List ℕ). old ++ points_of (after next x) (map (shape_at prepared_rules) ts))
       (drop_more set i t l ∙ ap (λ (u : ℕ). u ∷ drop (i + 1) set) (sym is))) ∙ kept))))
 
-  -- behind the lines of the next group, those of the groups that are left still make all
+  -- after the lines of the next group, those so far and those of the remaining groups are all
   pub lines-more : (i t next then all : ℕ) → i < length set → t ≡ get_or set i t
       → next + group_lines (map (shape_at prepared_rules) (drop i set)) ≡ all
       → then ≡ next + suc (shape_at prepared_rules t).unknowns
@@ -189,7 +189,7 @@ multipliers-append x (g ∷ gs) hs =
     ∙ ap (λ (y : ℕ → ℤ). multipliers_by_group (after (suc (length g.rows)) x) gs ++ multipliers_by_group y hs)
     (after-more (suc (length g.rows)) (group_columns gs) (suc (length g.rows) + group_columns gs) x refl))
 
--- the points of two lists of groups are those of the first, and behind its lines those of the second
+-- the points of two lists of groups are those of the first, and after its lines those of the second
 pub points-append : (x : ℕ → ℤ) (gs hs : List Group)
     → points_of x (gs ++ hs) ≡ points_of x gs ++ points_of (after (group_lines gs) x) hs
 points-append x [] hs = refl
@@ -305,7 +305,7 @@ module _ (p : Program) (prepared_rules : List RuleRows) (rows : AreRowsOf prepar
       go [] h = (shape-alike strict _ _ i, tt)
       go (t ∷ ts) h = (shape-alike t _ _ (All-head (IsRule p) t ts h), go ts (All-tail (IsRule p) t ts h))
 
--- what is read of groups, and of one more
+-- the multipliers read of groups, and of one more
 pub multipliers-together : (x : ℕ → ℤ) (start next : ℕ) (gs : List Group) (h : Group) (ms : List (List ℕ)) (m : List ℕ)
     → ms ≡ multipliers_by_group (after start x) gs → next ≡ start + group_columns gs
     → m ∷ [] ≡ multipliers_by_group (after next x) (h ∷ []) → ms ++ m ∷ [] ≡ multipliers_by_group (after start x)
@@ -317,7 +317,7 @@ multipliers-together x start next gs h ms m e f g =
     (sym (after-more start (group_columns gs) next x f))
     ∙ sym (multipliers-append (after start x) gs (h ∷ []))))
 
--- the points of groups and the point that is read behind them are the points of one group more
+-- the points of groups and the point that is read after them are the points of one group more
 pub points-together : (x : ℕ → ℤ) (start next : ℕ) (gs : List Group) (h : Group) (ms : List ScaledPoint)
     (m : ScaledPoint)
     → ms ≡ points_of (after start x) gs → next ≡ start + group_lines gs

@@ -15,7 +15,7 @@ use Rattle.rule_questions.proofs.Filters.{filter-pushed, filter-passed}
 use Rattle.rank_search.specs.Marks.{mark, AreMarks}
 use Rattle.cert_types.proofs.Numbers.{numbers-more}
 
--- what a mark says of the test
+-- a number with a mark passes the test
 pub mark-some : (b : Bool) (n m : ℕ) → Some m ≡ mark b n → (b ≡ true) × (m ≡ n)
 mark-some true n m e = (refl, cc)
 mark-some false n m e = absurd (differ e)
@@ -23,7 +23,7 @@ mark-some false n m e = absurd (differ e)
     differ : Some m ≡ None → ⊥
     differ h = cc
 
--- what has no mark doesn't pass the test
+-- a number without a mark doesn't pass the test
 pub mark-none : (b : Bool) (n : ℕ) → None ≡ mark b n → b ≡ false
 mark-none false n e = refl
 mark-none true n e = absurd (differ e)

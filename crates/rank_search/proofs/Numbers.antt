@@ -54,7 +54,7 @@ block-elsewhere t (j ∷ places) v s i d =
     both : (a b : ℤ) → a ≡ pos 0 → b ≡ pos 0 → a +ℤ b ≡ pos 0
     both a b e f = omega (arith, ints, e, f)
 
--- nor has it one at a place before its own, except for that of the constant
+-- a block has no coefficient at a place before its own, except that of the constant
 pub block-before : (t : ℕ) (test : ℕ → Bool) (a n : ℕ) (v : ℕ → ℤ) (i : ℕ) → 1 ≤ i → i < a
     → coefficient (block t (filter test (range_with_len a n) ++ 0 ∷ [])) v t i ≡ pos 0
 block-before t test a zero v i l m =

@@ -1,4 +1,4 @@
--- What is made of an answer of the solver to a rank question.
+-- The answer that is built from the solver's answer to a ranking question.
 use Rattle.std.proofs.Common.{◌≡◌, ℕ, zero, suc, ◌+◌, ◌*◌, ◌<◌, ◌≤◌, ap, arith, refl, sym, ◌∙◌, subst, inl, inr, List}
 use Rattle.std.proofs.Common.{[], ◌∷◌, length, map, Option, Some, None}
 use Rattle.std.specs.Prelude.{slice_get}
@@ -61,7 +61,7 @@ module _ (p : Program) (prepared_rules : List RuleRows) (set : List ℕ) (strict
   abbrev b : RankedSet
   b = ranked_set p set strict shut
 
-  -- as many rows as lines
+  -- there are as many rows as lines
   rows-are : (rank_program b).rows ≡ group_lines (rank_question b).groups
   unfolding program_of_question
   rows-are = equations-many 0 (rank_question b).groups
@@ -173,7 +173,7 @@ module _ (p : Program) (prepared_rules : List RuleRows) (set : List ℕ) (strict
         sym none,
       )
 
-      -- the trip of an emptiness question
+      -- the limit hit of a feasibility question
       pub empty-limit_hit : (empties : List GuardFeasibility) (s : Numerators) (t : LimitHit) → IsWholeAnswer (program_of problem) pivots
           (Dual s)
           → Some t ≡ first_limit_hit empties set → IsRankAnswer b shut pivots empties (ranked.OutOfLimits t)
@@ -184,7 +184,7 @@ module _ (p : Program) (prepared_rules : List RuleRows) (set : List ℕ) (strict
         first = sym e;
       })
 
-      -- a trip of its own
+      -- the limit hit of the ranking question itself
       pub own-limit_hit : (empties : List GuardFeasibility) (c : LimitCause) (t : LimitHit) → IsWholeAnswer (program_of problem) pivots
           (OutOfLimits c)
           → t.question ≡ asked.Rank strict → cause_of t.cause ≡ cause_of c → IsRankAnswer b shut pivots empties
@@ -194,7 +194,7 @@ module _ (p : Program) (prepared_rules : List RuleRows) (set : List ℕ) (strict
         trips = subst (λ (k : Cause). Trips (rank_program b) pivots k) (sym f) (moved (OutOfLimits c) h);
       })
 
-  -- where no rule of the set tripped, and none is known to be empty, each has a point
+  -- if no rule of the set hit a limit, and none is known to be infeasible, each has a point
   module _ (pivots : ℕ) (empties : List GuardFeasibility) (known : AreEmptyAnswers p pivots empties) where
     read-inside : (xs : List GuardFeasibility) (k : ℕ) → k < length xs → (a : GuardFeasibility) × (slice_get xs k ≡ Some a)
     read-inside [] k l = absurd (omega (arith, l))

@@ -52,7 +52,7 @@ module _ (p : Program) (set : List ℕ) (strict : ℕ) (shut : List SymbolPlace)
       (at-least-one node.den n.solution.solution.denominator)
       (rank-shown b (at n.numbers) (pos node.den) (set-of p set strict shut valid rules) n.solution.solution)
 
-  -- and weighs least
+  -- the function found weighs least
   pub node-least : (pivots : ℕ) (node : RankNode) (n : IsRankNode b pivots node) → HavePointsOf b
       → IsLeastRank b (function_of_node b pivots node n) node.den
   node-least pivots node n points =
@@ -127,7 +127,7 @@ module _ (p : Program) (set : List ℕ) (strict : ℕ) (shut : List SymbolPlace)
         differ : {y : LimitHit} → None ≡ Some y → ⊥
         differ h = cc
 
--- `Ranked` comes exactly where the linear program has a solution and nothing trips
+-- `Ranked` comes exactly if the linear program has a solution and hits no limit
 ranked-if : (b : RankedSet) (shut : List SymbolPlace) (pivots : ℕ) (empties : List GuardFeasibility) (a : RankAnswer)
     → IsRankAnswer b shut pivots empties a → SaysRanked a ↔
     (HasSolution (rank_program b) × NothingTrips (rank_program b) pivots)
@@ -140,7 +140,8 @@ ranked-if b shut pivots empties (NoRank gap) h =
 ranked-if b shut pivots empties (OutOfLimits t) (inl own) = (λ s. absurd s, λ g. g.1.each (cause_of t.cause) own.trips)
 ranked-if b shut pivots empties (OutOfLimits t) (inr other) = (λ s. absurd s, λ g. other.unsolved g.0)
 
--- and `OutOfLimits` exactly where it trips, or has no solution and the emptiness question of a rule of the set tripped
+-- `OutOfLimits` comes exactly if the linear program hits a limit, or has no solution and the feasibility question of a
+-- rule of the set hit one
 tripped-if : (b : RankedSet) (shut : List SymbolPlace) (pivots : ℕ) (empties : List GuardFeasibility) (a : RankAnswer)
     → IsRankAnswer b shut pivots empties a
     → SaysTripped a

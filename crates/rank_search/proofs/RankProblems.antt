@@ -86,7 +86,7 @@ module _ (p : Program) (prepared_rules : List RuleRows) (valid : IsValid (progra
     same : prepared_of m ≡ prepared (rule_of r)
     same = rows-read p prepared_rules (t - 1) r m rows (let h = rule-room t i in omega (arith, h.0, h.1)) is has
 
-    -- what a question sees of it
+    -- the forms of a rule that questions use
     pub forms-are : forms_in (rule_at (program_of p) t) ≡ forms_of r.source r.target (prepared_of m)
     forms-are = ap forms_in numbered ∙ ap (λ (q : Prepared). forms_of r.source r.target q) (sym same)
 
@@ -102,7 +102,7 @@ map-map : {A B C : Type 0} (f : A → B) (g : B → C) (xs : List A) → map (λ
 map-map f g [] = refl
 map-map {A} {B} {C} f g (x ∷ xs) = ap (λ (ys : List C). g (f x) ∷ ys) (map-map f g xs)
 
--- what is added is the group of the part
+-- the group that is added is that of the part
 pub group-is : (part : Part) (source target : ℕ) (m : RuleRows) (coefs : List Sought) (rows : List Row)
     (goals : List Goal) (fixed : Row) (n : ℕ)
     → n ≡ length coefs → rows ≡ m.rows.items
@@ -215,7 +215,7 @@ module _ (p : plain.Program) (set : List ℕ) (strict : ℕ) (shut : List Symbol
               (floor_group b (coefficients b (symbols_of_set b)) ∷ []) all-shaped)).goals_fit;
         })
 
-  -- what is marked as entered is entered
+  -- two functions that agree on the coefficients map them alike
   map-agree : {A : Type 0} (f g : Coefficient → A) (cs : List Coefficient) → All (λ c. f c ≡ g c) cs → map f cs
       ≡ map g cs
   map-agree f g [] h = refl
@@ -231,7 +231,7 @@ module _ (p : plain.Program) (set : List ℕ) (strict : ℕ) (shut : List Symbol
       ∙ (value-at (is_entered p set) 0 (length p.symbols) s false l ∙ ap (is_entered p set)
       (let z : 0 + s ≡ s = omega arith in z)))
 
-  -- so the costs are the question's
+  -- the costs are those of the question
   pub costs-are : (marks : List Bool) (coefs : List Sought) (costs : List ℕ) (on other : ℕ)
       → marks ≡ map (is_entered p set) (range_with_len 0 (length p.symbols)) → map coefficient_of coefs ≡ coefficients b
       (symbols_of_set b)
@@ -300,7 +300,7 @@ module _ (p : plain.Program) (set : List ℕ) (strict : ℕ) (shut : List Symbol
           ∙ (ap (λ (hs : List ℕ). made (length cs) (map (size_at b) cs) hs built-groups) heights
           ∙ ap (λ (gs : List Group). made (length cs) (map (size_at b) cs) (map (height_at b) cs) gs) groups))
 
--- what is written of a rule can be written
+-- the forms of a rule can be written
 fixed-writable : (part : Part) (n : ℕ) → IsWritable n (fixed_form part)
 fixed-writable Move n = record {
   fits = omega arith;

@@ -9,7 +9,7 @@ use Rattle.rank_search.specs.RankAnswers.{IsRuleSet}
 use Rattle.cert_types.proofs.cert_program.RankedSets.{set-is}
 pub use Rattle.cert_types.proofs.cert_program.RankedSets.{standing, in-all, rule-of, rule-in, symbols-same}
 
--- it is one
+-- the ranked set of a rule set has a set's properties
 pub set-of : (p : Program) (set : List ℕ) (strict : ℕ) (shut : List SymbolPlace) → IsValid p → IsRuleSet p set strict
     → IsSetOf (ranked_set p set strict shut)
 set-of p set strict shut v s = set-is p set strict shut v s.rules s.inside

@@ -99,7 +99,7 @@ limits-by_group (g ∷ gs) x h =
     (λ j. subst (λ (z : ℤ). nat_abs z ≤ certificate_limit) (sym (after-is (suc (length g.rows)) x j))
     (h (suc (length g.rows) + j))))
 
--- those of a rule are some of them
+-- the multipliers of a rule are some of these
 pub moves-limit : (set : List ℕ) (moves : List (List ℕ)) (t : ℕ) → All AreInLimit moves → AreInLimit (moves_of set moves t)
 moves-limit [] moves t h = All-nil IsInLimit
 moves-limit (u ∷ set) [] t h = All-nil IsInLimit
@@ -110,14 +110,14 @@ moves-limit (u ∷ set) (m ∷ moves) t h =
     go true k l = k
     go false k l = l
 
--- what is shown of a rule, and of the floor
+-- the claim that multipliers show of a rule, and that of the floor
 abbrev IsShownAt : RankedSet → Function → ℤ → ℕ → List ℕ → Type 0
 IsShownAt b f d t m = Implies (b.rule t).rows m (lost_by f (b.rule t) (if nat_eq t b.strict then d else pos 0))
 
 abbrev IsShownFloor : RankedSet → Function → ℤ → List ℕ → Type 0
 IsShownFloor b f d m = Implies (b.rule b.strict).rows m (less (f (b.rule b.strict).source) (constant_form d))
 
--- what is shown, rule by rule
+-- the claims shown, rule by rule
 pub record Split (b : RankedSet) (f : Function) (d : ℤ) (set : List ℕ) (moves : List (List ℕ))
     (floor : List ℕ) : Type 0 where
   pub long : length moves ≡ length set
@@ -125,7 +125,7 @@ pub record Split (b : RankedSet) (f : Function) (d : ℤ) (set : List ℕ) (move
   pub last : IsShownFloor b f d floor
 
 module _ (b : RankedSet) (f : Function) (d : ℤ) where
-  -- what is shown of moves and the floor together is shown of each move and of the floor
+  -- claims shown of moves and the floor together are shown of each move and of the floor
   pub split : (set : List ℕ) (moves : List (List ℕ)) (floor : List ℕ) → AreImplied b f d set (moves ++ floor ∷ [])
       → Split b f d set moves floor
   split [] [] floor h = record { long = refl; each = λ t e. absurd (true≢false (sym e)); last = h }

@@ -56,6 +56,6 @@ place-more old new ps i d l h u a j =
     ∙ (sym (shut-more (take i ps) (get_or ps i d) a j)
     ∙ sym (ap (λ (xs : List (ℕ × ℕ)). is_shut (places_of xs) a j) (take_more ps i d l)))))
 
--- a place is in the set exactly where it is shut
+-- a place is in the set exactly if it is shut
 pub same-test : (set : BTreeSet (ℕ × ℕ)) (shut : List SymbolPlace) → HasShut set shut → is_listed set ≡ is_shut shut
 same-test set shut h = λ j a i. h a i j

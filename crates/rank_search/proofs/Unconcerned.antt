@@ -9,7 +9,7 @@ use Rattle.rank_search.specs.declared.goals.Part.{Part}
 use Rattle.rank_search.specs.declared.goals.Part.TheVariants.{Move, Fall, Floor}
 use Rattle.rank_search.specs.Goals.{goal_form}
 
--- a coefficient neither of the source nor of the target has no goal
+-- a coefficient neither of the source nor of the target changes nothing by the rule
 unmoved : (r : RuleForms) (c : Coefficient) → (nat_eq c.symbol r.source || nat_eq c.symbol r.target) ≡ false
     → zero_form ≡ form_sum (at_source r c) (opposite (at_target r c))
 unmoved r c e = go (nat_eq c.symbol r.source) (nat_eq c.symbol r.target) e

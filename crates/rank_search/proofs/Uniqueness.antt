@@ -22,7 +22,7 @@ use Rattle.rank_search.specs.OneAnswer.{RankAnswersAreOne}
 use Rattle.rank_search.specs.RankAnswers.{rank_program, part_at, points_of, IsRankAnswer}
 use Rattle.poly_terms.proofs.model.Cases.{some_same as some-limit_hit, none_some as no-limit_hit}
 
--- lists with one more element behind
+-- a list with one more element at its end isn't empty
 never : {A : Type 0} (ys : List A) (y : A) → [] ≡ ys ++ y ∷ [] → ⊥
 never [] y e = cc
 never (z ∷ ys) y e = cc
@@ -60,7 +60,7 @@ node-same a c e f g h i =
     ∙ (ap (λ (x : List (List ℕ)). node_with c.rule c.set c.den c.forms x a.floor) r.0
     ∙ ap (λ (x : List ℕ). node_with c.rule c.set c.den c.forms c.moves x) r.1))))
 
--- the same for gaps
+-- a gap by its parts
 gap_with : ℕ → List ℕ → List SymbolPlace → List ScaledPoint → ScaledPoint → List ScaledPoint → Gap
 gap_with rule set shut moves floor kept = record {
   rule = rule;
@@ -93,7 +93,7 @@ gap-same a c e f g h i =
     ∙ (ap (λ (x : ScaledPoint). gap_with c.rule c.set c.shut c.moves x a.kept) r.1
     ∙ ap (λ (x : List ScaledPoint). gap_with c.rule c.set c.shut c.moves c.floor x) (some-same a.kept c.kept i)))))
 
--- which function ranks
+-- the ranking function is unique
 module _ (b : RankedSet) (shut : List SymbolPlace) (pivots : ℕ) (xs ys : List GuardFeasibility)
     (same : SeeTheSame xs ys b.set) where
   ranks-once : (a c : RankAnswer) → IsRankAnswer b shut pivots xs a → IsRankAnswer b shut pivots ys c

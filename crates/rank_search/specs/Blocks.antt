@@ -27,7 +27,7 @@ pub record AreBlocks (n : ℕ) (blocks : List Block) (cs : List Coefficient) : T
   pub below : (s : ℕ) → (block_at blocks s).upto ≤ n
   pub each : (i : ℕ) (d : Coefficient) → i < n → i < length cs → IsInside (block_at blocks (get_or cs i d).symbol) i
 
--- the first block doesn't begin behind the second, and they contain the coefficients of the source and of the target
+-- the first block begins no later than the second, and they contain the coefficients of the source and of the target
 pub record HoldGoals (source target : ℕ) (cs : List Coefficient) (first second : Block) : Type 0 where
   pub order : first.first ≤ second.first
   pub first_ordered : first.first ≤ first.upto

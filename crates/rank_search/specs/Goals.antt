@@ -15,7 +15,7 @@ use Rattle.rank_search.specs.declared.goals.Part.{Part}
 use Rattle.rank_search.specs.declared.goals.Part.TheVariants.{Move, Fall, Floor}
 use Rattle.rank_search.specs.Coefficients.{coefficient_of}
 
--- what a rule loses by a coefficient, and for the floor what it has of it before
+-- the form of a coefficient in what a rule's move loses, and in the floor before the rule
 abbrev pub goal_form : Part → RuleForms → Coefficient → Form
 goal_form Move r c = form_sum (at_source r c) (opposite (at_target r c))
 goal_form Fall r c = form_sum (at_source r c) (opposite (at_target r c))

@@ -57,7 +57,7 @@ pub record IsRankNode (b : RankedSet) (pivots : ℕ) (node : RankNode) : Type 0 
   pub multipliers : node.moves ++ (node.floor ∷ []) ≡ rank_multipliers b (at numbers)
   pub untripped : NothingTrips (rank_program b) pivots
 
--- what numbers give groups, one by one: a part for each unknown, and then the denominator
+-- the points that numbers give for groups: a part for each unknown, and then the denominator
 abbrev pub points_of : (ℕ → ℤ) → List Group → List ScaledPoint
 points_of y [] = []
 points_of y (g ∷ gs) =
@@ -87,31 +87,32 @@ abbrev pub first_of : Option LimitHit → Option LimitHit → Option LimitHit
 first_of None other = other
 first_of (Some t) other = Some t
 
--- the trip of the first rule of the set whose emptiness question tripped
+-- the limit hit of the first rule of the set whose feasibility question hit one
 abbrev pub first_limit_hit : List GuardFeasibility → List ℕ → Option LimitHit
 first_limit_hit empties [] = None
 first_limit_hit empties (t ∷ ts) = first_of (limit_hit_in (answer_for empties t)) (first_limit_hit empties ts)
 
--- the linear program trips, with the reported cause
+-- the linear program hits a limit, with the reported cause
 pub record IsOwnLimitHit (b : RankedSet) (pivots : ℕ) (t : LimitHit) : Type 0 where
   pub question : t.question ≡ asked.Rank b.strict
   pub trips : Trips (rank_program b) pivots (cause_of t.cause)
 
--- nothing trips it, it has no solution, and the emptiness question of a rule of the set tripped: the first such trip
+-- the linear program hits no limit and has no solution, and the feasibility question of a rule of the set hit a limit:
+-- the first such limit hit
 pub record IsFeasibilityLimitHit (b : RankedSet) (pivots : ℕ) (empties : List GuardFeasibility) (t : LimitHit) : Type 0 where
   pub untripped : NothingTrips (rank_program b) pivots
   pub unsolved : ¬ HasSolution (rank_program b)
   pub first : first_limit_hit empties b.set ≡ Some t
 
--- the meaning of the answer, within a number of pivots: a function that ranks the rule, as a node without its premises
--- yet; that there is none, with a gap; or which linear program trips
+-- the meaning of the answer, within a number of pivots: a function that ranks the rule, as a node still without its
+-- premises; that there is none, with a gap; or which linear program hits a limit
 abbrev pub IsRankAnswer : RankedSet → List SymbolPlace → ℕ → List GuardFeasibility → RankAnswer → Type 0
 IsRankAnswer b shut pivots empties (Ranked node) = IsRankNode b pivots (rank_of node) × (node.uses.items ≡ [])
 IsRankAnswer b shut pivots empties (NoRank gap) =
     IsReadOff b shut pivots empties (gap_of gap) × (first_limit_hit empties b.set ≡ None)
 IsRankAnswer b shut pivots empties (OutOfLimits t) = IsOwnLimitHit b pivots t ⊎ IsFeasibilityLimitHit b pivots empties t
 
--- which answer it is
+-- which case an answer is
 abbrev pub SaysRanked : RankAnswer → Type 0
 SaysRanked (Ranked node) = Unit {0}
 SaysRanked (NoRank gap) = ⊥

@@ -1,4 +1,4 @@
--- What the answers on ranking functions prove.
+-- The laws of the answers on ranking functions.
 use Rattle.std.specs.Prelude.{◌≡◌, ◌↔◌, ◌≢◌, ◌⊎◌, ℕ, suc, List, length, true, pos, ◌<◌, Some, None}
 use Rattle.simplex_core.specs.linear_forms.Forms.{at}
 use Rattle.simplex_core.specs.linear_forms.LinearProgram.{HasSolution}
@@ -58,7 +58,8 @@ pub record RankedNodesRank : Type 0 where
       → IsLeastRank (ranked_set p set strict shut) (function_of_node (ranked_set p set strict shut) pivots node n)
       node.den
 
--- what acceptance asks of a node apart from facts: its shape, and that its multipliers show what it loses and its floor
+-- the conditions of acceptance that don't concern facts: the node's shape, and that its multipliers show its moves and
+-- its floor
 pub record HasCertificates (s : Setting) (node : RankNode) : Type 0 where
   pub shape : HasRankShape s node
   pub moves : (t : ℕ) → is_in t node.set ≡ true → Loses s node t
@@ -78,10 +79,10 @@ pub record RankedNodesAreAccepted : Type 0 where
       → IsValid p → IsRuleSet p set strict → IsRankNode (ranked_set p set strict shut) pivots node
       → (table : Table) → HoldsFacts (setting_of p) table node → AcceptsRank (setting_of p) table node
 
--- each answer comes exactly in its case: `Ranked` where the linear program has a solution and nothing trips it;
--- `NoRank` where no function ranks the rule, nothing trips the linear program, and the emptiness question of no rule of
--- the set tripped; and `Tripped` where the linear program trips, or has no solution and the emptiness question of a
--- rule of the set tripped
+-- each answer comes exactly in its case: `Ranked` if the linear program has a solution and hits no limit; `NoRank` if
+-- no function ranks the rule, the linear program hits no limit, and no feasibility question of the set hit one; and
+-- `OutOfLimits` if the linear program hits a limit, or has no solution and the feasibility question of a rule of the
+-- set hit one
 pub record RankAnswersAreExact : Type 0 where
   pub ranked : (b : RankedSet) (shut : List SymbolPlace) (pivots : ℕ) (empties : List GuardFeasibility) (a : RankAnswer)
       → IsRankAnswer b shut pivots empties a

@@ -40,7 +40,7 @@ form_by closed p v k s = record {
   };
 }
 
--- and by the list of these places
+-- the form that is read off, by the list of the shut places
 abbrev pub read_form : Program → List SymbolPlace → (ℕ → ℤ) → ℕ → ℕ → SymbolForm
 read_form p shut v k s = form_by (is_shut shut) p v k s
 

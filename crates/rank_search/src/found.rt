@@ -124,7 +124,8 @@ fn form_from(
     })
 }
 
-// The multipliers of the rows of each rule of the set, from the next column on, which is then the one behind.
+// The multipliers of the rows of each rule of the set, from the next column on; that column then is the one after
+// them.
 fn moves_from(
     alloc: Global,
     prepared_rules: &[RuleRows],

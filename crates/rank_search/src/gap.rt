@@ -18,7 +18,7 @@ use poly_terms::Memory;
 use rule_questions::element_from;
 use std::alloc::Global;
 
-/// The trip of the first rule of the set whose emptiness question tripped.
+/// The limit hit of the first rule of the set whose feasibility question hit one.
 pub(crate) fn first_tripped(set: &[u32], empties: &[GuardFeasibility]) -> Option<LimitHit>
     ensures { result ≡ first_limit_hit empties.now set.now }
 {
@@ -69,7 +69,7 @@ pub(crate) fn gap_of_dual(
     })
 }
 
-// The part of each rule of the set, from the next line on, which is then the one behind.
+// The part of each rule of the set, from the next line on; that line then is the one after them.
 fn moves_of_dual(
     alloc: Global,
     prepared_rules: &[RuleRows],

@@ -130,7 +130,7 @@ fn goals_in(
     Ok(goals)
 }
 
-// The part of the second block behind the first.
+// The part of the second block after the first.
 fn block_behind(first: Block, second: Block) -> Block
     ensures first { result.first ≡ max first.upto second.first }
     ensures upto { result.upto ≡ max second.upto result.first }
@@ -248,7 +248,7 @@ fn less_after(
     difference(alloc, &before, after)
 }
 
-/// How much is to be subtracted of what follows in a group.
+/// The constant that is subtracted in a group of this part.
 pub(crate) fn fixed_row(alloc: Global, part: Part) -> Row
     ensures { form_of result ≡ fixed_form part }
 {

@@ -1,4 +1,4 @@
-//! What the answers on ranking functions prove.
+//! The laws of the answers on ranking functions.
 
 ghost use Rattle.rank_search.specs.OneAnswer.{RankAnswersAreOne};
 ghost use Rattle.rank_search.specs.RankLaws.{RankedNodesRank, RankedNodesAreAccepted, RankAnswersAreExact};
@@ -17,15 +17,15 @@ pub fn ranked_nodes_are_accepted()
     ensures { RankedNodesAreAccepted }
 {}
 
-/// There is one answer on which function ranks a rule of a set, within a number of pivots: the answer's kind, its node,
-/// its gap and its trip are determined.
+/// The set, the rule and the number of pivots determine the answer: its kind, its node, its gap or its limit hit.
 pub fn rank_answers_are_one()
     ensures { RankAnswersAreOne }
 {}
 
-/// Of the answers on ranking functions, `Ranked` comes exactly where the linear program has a solution and nothing
-/// trips it, `NoRank` exactly where no function ranks the rule and neither it nor an emptiness question of the set
-/// trips, and `Tripped` exactly where it trips, or has no solution and an emptiness question of the set tripped.
+/// `Ranked` is the answer exactly if the linear program has a solution and hits no limit; `NoRank` exactly if no
+/// function ranks the rule and neither the linear program nor a feasibility question of the set hits a limit; and
+/// `OutOfLimits` exactly if the linear program hits a limit, or has no solution and a feasibility question of the set
+/// hit one.
 pub fn rank_answers_are_exact()
     ensures { RankAnswersAreExact }
 {}

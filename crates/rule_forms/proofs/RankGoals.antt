@@ -47,7 +47,7 @@ unknown-linear u = record {
     none : (k : ℤ) → pos 0 ≡ pos 0 *ℤ k
     none k = omega (arith, ints)
 
--- the same for the constant
+-- the constant is such a reading
 pub constant-linear : IsLinear (λ f. f.constant)
 constant-linear = record {
   zero = refl;

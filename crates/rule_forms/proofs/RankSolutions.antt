@@ -85,7 +85,7 @@ move-shaped b t is = record {
     fixed true = omega arith
     fixed false = omega arith
 
--- the same for that of the floor
+-- the group of the floor has its shape
 floor-shaped : (b : RankedSet) → IsRuleOf b (b.rule b.strict)
     → IsGroupShaped (length (coefficients_of b)) (floor_group b (coefficients_of b))
 floor-shaped b is = record {

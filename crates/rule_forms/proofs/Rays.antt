@@ -36,7 +36,7 @@ unknown-value (suc i) z = behind (z 0) _ _ (unknown-value i (λ j. z (suc j)))
     behind : (x r w : ℤ) → r ≡ w → pos 0 *ℤ x +ℤ r ≡ w
     behind x r w e = omega (arith, ints, e)
 
--- the same for the constant, which is 0
+-- the value of the form of an unknown, whose constant is 0
 pub unknown_form-value : (i : ℕ) (z : ℕ → ℤ) (d : ℤ) → form_value (unknown_form i) z d ≡ z i
 unknown_form-value i z d = plus _ _ (unknown-value i z)
   where

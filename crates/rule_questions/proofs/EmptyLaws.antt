@@ -1,4 +1,4 @@
--- What the answers of the linear program that asks whether rows have a point say of them.
+-- The properties of the rows that a solution or a dual of their feasibility problem shows.
 use Rattle.std.proofs.Common.{◌≡◌, ℕ, zero, suc, ◌+◌, ◌<◌, ◌≤◌, ap, arith, refl, sym, ◌∙◌, subst, List, [], ◌∷◌, length}
 use Rattle.std.specs.Prelude.{ℤ, pos, negsuc, nat_abs, ◌+ℤ◌, ◌*ℤ◌, ◌≤ℤ◌, ◌<ℤ◌}
 use Rattle.std.specs.List.{All, AllByRecursion}
@@ -89,7 +89,7 @@ module _ (m : Prepared) (shaped : IsRuleShaped (forms_of 0 0 m)) where
                 ap (λ (y : ℕ). y ∷ listed n (λ i. f (suc i))) (h 0)
                 ∙ ap (λ (ys : List ℕ). g 0 ∷ ys) (go n (λ i. f (suc i)) (λ i. g (suc i)) (λ j. h (suc j)))
 
-    -- and are within the limit
+    -- the multipliers are within the limit
     pub solution-limit : All (λ k. k ≤ certificate_limit) (listed (length m.rows) (λ j. nat_abs (at numbers (0 + j))))
     solution-limit =
         All-listed (λ k. k ≤ certificate_limit) (length m.rows) (λ j. nat_abs (at numbers (0 + j)))

@@ -30,7 +30,7 @@ use Rattle.rule_questions.specs.EmptyAnswers.{IsPrepared}
 use Rattle.rule_questions.specs.ProgramQuestions.{forms_of}
 use Rattle.rule_questions.specs.Programs.{IsProblemOf}
 
--- what holds of each form of rows holds of each row
+-- a property of each form of rows is one of each row
 pub rows-all : (P : Form → Type 0) (rows : List Row) → All P (map form_of rows) → All (λ r. P (form_of r)) rows
 rows-all P rows h k d l =
     subst P (get_or-map form_of rows k (form_of d) d l)
@@ -88,7 +88,7 @@ module _ (m : RuleRows) (is : IsPrepared m) where
       (All-from_recursion (IsSmallForm (unknowns_of is.rule)) (rows_of is.rule)
       (rows-are-small.rows is.rule is.preparable))))
 
-  -- so can the group, which has no goals
+  -- the group, which has no goals, can be written
   pub group-writable : (n : ℕ) (rows : List Row) (fixed : Row) → rows ≡ m.rows.items → fixed.coefs.items ≡ []
       → fixed.constant ≡ negsuc 0
       → AreWritable n m.unknowns rows [] fixed

@@ -22,7 +22,7 @@ use Rattle.rule_questions.specs.Programs.{NothingTrips}
 node-empty : (m : Prepared) (rule : ℕ) (n : EmptyNode) → IsEmptyNode m rule n → ¬ HasPoint m.rows
 node-empty m rule n h p = no_point m.rows n.multipliers.items h.shows p.z p.d p.point
 
--- each answer whether rows have a point comes exactly where its cause stands
+-- each answer comes exactly in its case
 pub answers-exact : EmptyAnswersAreExact
 answers-exact = record {
   empty = λ m rule pivots a h. empty-if m rule pivots a h;

@@ -1,4 +1,4 @@
--- What passes a test, one number more.
+-- The numbers that pass a test, with one number more.
 use Rattle.std.proofs.Common.{◌≡◌, ℕ, ◌+◌, Bool, true, false, cond}
 use Rattle.std.proofs.Common.{List, [], ◌∷◌, ◌++◌, filter}
 use Rattle.std.proofs.Common.{refl, sym, ap, ◌∙◌}
@@ -10,7 +10,7 @@ append-nothing : {A : Type 0} (xs : List A) → xs ++ [] ≡ xs
 append-nothing [] = refl
 append-nothing {A} (x ∷ xs) = ap (λ (ys : List A). x ∷ ys) (append-nothing xs)
 
--- what passes a test so far, and one number more
+-- the numbers that pass a test so far, and one number more
 module _ (test : ℕ → Bool) (a : ℕ) where
   filter-more : (n : ℕ) → filter test (range_with_len a (n + 1))
       ≡ filter test (range_with_len a n) ++ cond (test (a + n)) ((a + n) ∷ []) []

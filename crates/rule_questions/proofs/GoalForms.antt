@@ -1,4 +1,4 @@
--- Goals that are listed by ascending parameters, one after the other.
+-- The goal forms of a list of goals with ascending parameters, as goals are pushed.
 use Rattle.std.proofs.Common.{◌≡◌, ℕ, zero, suc, ◌+◌, ◌-◌, ◌<◌, ◌≤◌, refl, sym, ap, ◌∙◌, subst, arith, List, [], ◌∷◌}
 use Rattle.std.proofs.Common.{◌++◌, length, map, take, get_or, replicate, append_assoc, Some, None, Bool}
 use Rattle.std.proofs.Common.{if◌then◌else◌}
@@ -24,7 +24,7 @@ ascend-room : (k n : ℕ) (gs : List Goal) → Ascend k n gs → k ≤ n
 ascend-room k n [] h = h
 ascend-room k n (g ∷ gs) h = let l = ascend-room (g.parameter + 1) n gs h.1 in let m = h.0 in omega (arith, l, m)
 
--- nor does it matter that there is room for one more
+-- a list that ascends below n ascends below n + 1
 pub ascend-wider : (k n : ℕ) (gs : List Goal) → Ascend k n gs → Ascend k (n + 1) gs
 ascend-wider k n [] h = omega (arith, h)
 ascend-wider k n (g ∷ gs) h = (h.0, ascend-wider (g.parameter + 1) n gs h.1)
@@ -42,7 +42,7 @@ zeros-more a b e = ap (λ (m : ℕ). replicate m zero_form) e ∙ go a
     go zero = refl
     go (suc a) = ap (λ (xs : List Form). zero_form ∷ xs) (go a)
 
--- the forms of the parameters, of which the next one isn't listed
+-- if parameter n has no goal, the forms get one more zero form
 pub forms-passed : (k n : ℕ) (gs : List Goal) → Ascend k n gs → goal_forms k (n + 1) gs ≡ goal_forms k n gs
     ++ zero_form ∷ []
 forms-passed k n [] h = zeros-more (n - k) ((n + 1) - k) (omega (arith, h))
@@ -52,7 +52,7 @@ forms-passed k n (g ∷ gs) h =
     ∙ sym (append_assoc (replicate (g.parameter - k) zero_form) (form_of g.form ∷ goal_forms (g.parameter + 1) n gs)
     (zero_form ∷ []))
 
--- or is
+-- if parameter n has a goal, the forms get its form
 pub forms-pushed : (k n : ℕ) (gs : List Goal) (x : Goal) → x.parameter ≡ n → Ascend k n gs
     → goal_forms k (n + 1) (gs ++ x ∷ []) ≡ goal_forms k n gs ++ form_of x.form ∷ []
 forms-pushed k n [] x e h =
@@ -92,7 +92,7 @@ apart k n (y ∷ gs) h zero (suc j) g x l e f =
     (let r = (inside (y.parameter + 1) n gs h.1 j x f).0 in omega (arith, r))
 apart k n (y ∷ gs) h (suc i) (suc j) g x l e f = apart (y.parameter + 1) n gs h.1 i j g x (omega (arith, l)) e f
 
--- goals that ascend below a number are goals of this many parameters
+-- a list that ascends from 0 below n is a valid list of goals for n parameters
 pub are-parameters : (n : ℕ) (gs : List Goal) → Ascend 0 n gs → AreParameters n gs
 are-parameters n gs h = record {
   below = λ i g e. (inside 0 n gs h i g e).1;
@@ -122,7 +122,7 @@ module _ {A : Type 0} (goal : A → Form) (xs : List A) (i : ℕ) (d : A) (l : i
       ∙ (ap (λ (fs : List Form). fs ++ zero_form ∷ []) kept
       ∙ (ap (λ (z : Form). map goal (take i xs) ++ z ∷ []) g ∙ sym more))
 
--- what a coefficient of the target is multiplied by after the rule, where its place has a new value, and where it has none
+-- the form by which a coefficient at the target symbol is multiplied: the place's new value, or 0 past the last one
 module _ (target : ℕ) (q : Prepared) (new_values : List Row) (same : q.new_values ≡ map form_of new_values) where
   target-after : (c : Coefficient) → c.symbol ≡ target → at_target (forms_of 0 target q) c ≡ after_rule
       (forms_of 0 target q) c.place

@@ -36,19 +36,19 @@ dot-seen (a ∷ xs) z w h =
     ∙ ap (λ (y : ℤ). a *ℤ w 0 +ℤ y)
     (dot-seen xs (λ i. z (suc i)) (λ i. w (suc i)) (λ j l. h (suc j) (omega (arith, l))))
 
--- the same for the value of a form
+-- the value of a form depends only on the first n values
 pub value-seen : (f : Form) (n : ℕ) (z w : ℕ → ℤ) (d : ℤ) → length f.coefs ≤ n → ((j : ℕ) → j < n → z j ≡ w j)
     → form_value f z d ≡ form_value f w d
 value-seen f n z w d l h =
     ap (λ (x : ℤ). x +ℤ f.constant *ℤ d) (dot-seen f.coefs z w (λ j k. h j (omega (arith, k, l))))
 
--- a number of a list, whatever stands for one past its end
+-- a number of a list, whatever the default for positions past its end
 pub read-again : (xs : List ℕ) (i d e : ℕ) → i < length xs → get_or xs i d ≡ get_or xs i e
 read-again [] i d e l = absurd (omega (arith, l))
 read-again (x ∷ xs) zero d e l = refl
 read-again (x ∷ xs) (suc i) d e l = read-again xs i d e (omega (arith, l))
 
--- the same values, listed
+-- equal values are listed alike
 pub listed-agree : {A : Type 0} (n : ℕ) (f g : ℕ → A) → ((j : ℕ) → f j ≡ g j) → listed n f ≡ listed n g
 listed-agree zero f g h = refl
 listed-agree {A} (suc n) f g h =

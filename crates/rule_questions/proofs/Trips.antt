@@ -1,4 +1,4 @@
--- Where a linear program has an answer in integers, nothing trips it.
+-- A linear program with an answer in integers hits no limit.
 use Rattle.std.proofs.Common.{ℕ, sym, subst}
 use Rattle.poly_terms.proofs.linear_forms.CauseLaws.{named, named-is}
 use Rattle.poly_terms.specs.linear_forms.LinearProgram.{LinearProgram}
@@ -8,14 +8,14 @@ use Rattle.lp_builder.specs.simplex_core.Trips.{Trips, IsWholeAnswer}
 use Rattle.lp_builder.proofs.simplex_core.OneWholeAnswer.{whole-same}
 use Rattle.rule_questions.specs.Programs.{NothingTrips}
 
--- a linear program that is answered by a solution isn't tripped
+-- a linear program that is answered by a solution hits no limit
 pub solution-untripped : (p : LinearProgram) (pivots : ℕ) (s : Numerators) → IsWholeAnswer p pivots (Solution s)
     → NothingTrips p pivots
 solution-untripped p pivots s h = record {
   each = λ c t. whole-same p pivots (Solution s) (OutOfLimits (named c)) h (subst (Trips p pivots) (sym (named-is c)) t);
 }
 
--- a linear program that is answered by a dual isn't tripped
+-- a linear program that is answered by a dual hits no limit
 pub dual-untripped : (p : LinearProgram) (pivots : ℕ) (s : Numerators) → IsWholeAnswer p pivots (Dual s)
     → NothingTrips p pivots
 dual-untripped p pivots s h = record {

@@ -65,9 +65,9 @@ pub record IsDualPoint (m : Prepared) (pivots : ℕ) (z : ScaledPoint) : Type 0 
   pub parts : z.parts ≡ listed m.unknowns (at numbers)
   pub over : z.den ≡ nat_abs (at numbers m.unknowns)
 
--- what the answer for a rule says, within a number of pivots: that the rows have no point, as a node shows, or that
--- they have one, and which, and that nothing trips the linear program; or that it trips, and by which cause. The node
--- and the point are those at which the sequence of tableaux ends
+-- the meaning of the answer for a rule, within a number of pivots: the rows have no point, as a node shows, or they
+-- have this point, and no limit is hit; or a limit is hit, with this cause. The node and the point are those at which
+-- the sequence of tableaux ends
 abbrev pub IsEmptyAnswer : Prepared → ℕ → ℕ → GuardFeasibility → Type 0
 IsEmptyAnswer m rule pivots (Empty n) =
     IsEmptyNode m rule n × NothingTrips (empty_program m) pivots × AreSolved m pivots n.multipliers.items
@@ -76,7 +76,7 @@ IsEmptyAnswer m rule pivots (Point z) =
 IsEmptyAnswer m rule pivots (OutOfLimits t) =
     (t.question ≡ asked.Empty rule) × Trips (empty_program m) pivots (cause_of t.cause)
 
--- which answer it is
+-- which case an answer is
 abbrev pub SaysEmpty : GuardFeasibility → Type 0
 SaysEmpty (Empty n) = Unit {0}
 SaysEmpty (Point z) = ⊥

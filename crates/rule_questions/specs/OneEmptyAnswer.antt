@@ -8,7 +8,7 @@ use Rattle.cert_types.specs.declared.answer.LimitHit.{LimitHit}
 use Rattle.cert_types.specs.AnswerViews.{scaled_of}
 use Rattle.rule_questions.specs.EmptyAnswers.{IsEmptyAnswer}
 
--- the trips are the same
+-- the limit hits are the same
 abbrev pub IsSameLimitHit : LimitHit → LimitHit → Type 0
 IsSameLimitHit t u = (t.question ≡ u.question) × (cause_of t.cause ≡ cause_of u.cause)
 

@@ -13,6 +13,6 @@ pub record IsProblemOf (q : Question) (p : Problem) : Type 0 where
   pub proper : IsProper p
   pub agrees : Agree (program_of p) (program_of_question q)
 
--- nothing trips a linear program within a number of pivots
+-- a linear program hits no limit within a number of pivots
 pub record NothingTrips (p : LinearProgram) (pivots : ℕ) : Type 0 where
   pub each : (c : Cause) → ¬ (Trips p pivots c)

@@ -1,4 +1,4 @@
--- The answers for the rules of a program, and the point or the trip of one.
+-- The answers for the rules of a program, and the point or the limit hit of one.
 use Rattle.std.specs.Prelude.{◌≡◌, ℕ, zero, suc, List, length}
 use Rattle.std.specs.Prelude.{Option, Some, None, slice_get}
 use Rattle.poly_terms.specs.model.Programs.{Program, Rule, rule_at}
@@ -28,7 +28,7 @@ point_in (Some (answers.Empty n)) = None
 point_in (Some (answers.Point z)) = Some (scaled_of z)
 point_in (Some (answers.OutOfLimits t)) = None
 
--- the trip of an answer, where it is one
+-- the limit hit of an answer, if it is one
 abbrev pub limit_hit_in : Option GuardFeasibility → Option LimitHit
 limit_hit_in None = None
 limit_hit_in (Some (answers.Empty n)) = None

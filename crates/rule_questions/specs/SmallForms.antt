@@ -9,7 +9,7 @@ pub record IsSmall (f : Form) : Type 0 where
   pub coefs : All (λ a. nat_abs a ≤ coefficient_limit) f.coefs
   pub constant : nat_abs f.constant ≤ coefficient_limit
 
--- or differences of two of these
+-- the numbers of a form are within the limits of a difference of two small forms
 pub record IsDifferenceSmall (f : Form) : Type 0 where
   pub coefs : All (λ a. nat_abs a ≤ coefficient_limit + coefficient_limit) f.coefs
   pub constant : nat_abs f.constant ≤ coefficient_limit + coefficient_limit

@@ -1,17 +1,16 @@
-//! What the answers on whether rows have a point prove.
+//! The laws of the answers of `guard_feasibility`.
 
 ghost use Rattle.rule_questions.specs.EmptyAnswers.{EmptyAnswersAreExact, EmptyNodesAreAccepted};
 ghost use Rattle.rule_questions.specs.OneEmptyAnswer.{EmptyAnswersAreOne};
 
-/// The answers on whether the rows of a rule have a point: `Empty` comes exactly where they have none and nothing trips
-/// the linear program, `Point` exactly where they have one and nothing trips it, and `Tripped` exactly where it trips.
-/// The function has no code, as all functions here: its contract is the law.
+/// `Empty` is the answer exactly if the rows of the rule are infeasible, and `Point` exactly if they are feasible, if
+/// in each case the linear program hits no limit; `OutOfLimits` exactly if it hits one. The function has no code, as
+/// all functions here: its contract is the law.
 pub fn empty_answers_are_exact()
     ensures { EmptyAnswersAreExact }
 {}
 
-/// There is one answer on whether the rows of a rule have a point, within a number of pivots: the answer's kind, its
-/// multipliers, its point and its trip are determined.
+/// The rule and the number of pivots determine the answer: its kind, its multipliers, its point or its limit hit.
 pub fn empty_answers_are_one()
     ensures { EmptyAnswersAreOne }
 {}

@@ -37,7 +37,7 @@ pub record AccountsPay : Type 0 where
   pub twice : IsPaidFor IsAccount Balance 1 2 (weighs 2) (1 ∷ 1 ∷ [])
   pub one_more : IsPaidFor IsAccount (λ c l. l ≡ suc c) 1 2 (weighs 3) (0 ∷ 1 ∷ [])
   pub from_balance : IsPaidFor IsAccount (λ c l. c ≤ l) 1 2 (weighs 3) (1 ∷ [])
-  -- they don't where rule 1 weighs 2, or is no entry, or rule 2 has to take 2; where there is one coin more that
+  -- the levels don't pay where rule 1 weighs 2, is no entry, or rule 2 has to take 2; where there is one coin more that
   -- nothing brings in; where there is no level; where any number is one, so that a step has to take from 0; and where
   -- the virtual entry isn't paid for
   pub light : ¬ (IsPaidFor IsAccount Balance 1 2 (weighs 2) (1 ∷ []))

@@ -31,7 +31,7 @@ pub record RunsInRange (p : Program) (start : List ℤ) (steps : List Step) (c :
   pub run : IsRun p start steps c
   pub fit : StepsFit p start steps
 
--- so they are to some configuration
+-- the steps are a run from these start values to some configuration, and no value passes 128 bits on the way
 abbrev pub IsRunInRange : Program → List ℤ → List Step → Type 0
 IsRunInRange p start steps = (c : Config) × RunsInRange p start steps c
 

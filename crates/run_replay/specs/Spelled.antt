@@ -46,7 +46,7 @@ abbrev pub AreShortSteps : List Step → Type 0
 AreShortSteps [] = ⊤
 AreShortSteps (s ∷ ss) = (s.rule < 10 ^ 64) × AreShort s.free × AreShortSteps ss
 
--- so it is with all numbers of a run
+-- all numbers of a run have at most 64 digits
 pub record IsShort (r : Run) : Type 0 where
   pub start : AreShort r.start
   pub steps : AreShortSteps r.steps

@@ -1,4 +1,4 @@
--- What the lists of edges hold.
+-- The members of the lists of edges.
 use Rattle.std.proofs.Common.{◌≡◌, ◌⊎◌, inl, inr, ℕ, zero, suc, ◌+◌, ◌<◌, ◌≤◌, Bool, true, false, cond, List, [], ◌∷◌}
 use Rattle.std.proofs.Common.{get_or, Contains, Some, refl, sym, ◌∙◌, ap, subst, arith}
 use Rattle.std.specs.Prelude.{slice_get}
@@ -46,7 +46,7 @@ from-sound j to (x ∷ before) a b h = go (pair-cases (x + j, to) (edges_from j 
     }
     go (inr l) ih = later (ih l)
 
--- hence it is listed
+-- the edge from a read place is listed
 from-listed : (j to : ℕ) (before : List ℕ) (x : ℕ) → Contains before x → Contains (edges_from j to before) (x + j, to)
 from-listed j to [] x h = absurd (none_in_empty x h)
 from-listed j to (y ∷ before) x h = go (Contains-cons_cases y before x h) (λ l. from-listed j to before x l)
@@ -78,7 +78,7 @@ to-sound to before (j ∷ places) a b h = go (Contains-append_cases (edges_from 
     go (inl l) ih = first (from-sound j to before a b l)
     go (inr l) ih = later (ih l)
 
--- and each such edge is listed
+-- the edge into each place that reads is listed
 pub to-listed : (to : ℕ) (before places : List ℕ) (x j : ℕ) → Contains before x → Contains places j → Contains (edges_to to before places) (x + j, to)
 to-listed to before [] x j h r = absurd (none_in_empty j r)
 to-listed to before (i ∷ places) x j h r = go (Contains-cons_cases i places j r) (λ l. to-listed to before places x j h l)
@@ -88,7 +88,7 @@ to-listed to before (i ∷ places) x j h r = go (Contains-cons_cases i places j 
         (subst (λ (n : ℕ). Contains (edges_from n to before) (x + j, to)) e (from-listed j to before x h))
     go (inr l) ih = Contains-append_right (edges_from i to before) (edges_to to before places) (x + j, to) (ih l)
 
--- what the answer at a place reads
+-- the places that the answer at a place reads
 abbrev pub read_at : Prepared → ℕ → LocalAnswer → List ℕ
 read_at m i answer = answer_reads (nonlinear_at m.polys i) (local_answer_of answer) m.left
 
@@ -131,7 +131,7 @@ into-sound m before first i (x ∷ answers) a b h =
     }
     go (inr l) ih = later (ih l)
 
--- and each such edge is listed
+-- the edge into each place of a rule is listed
 pub into-listed : (m : Prepared) (before : List ℕ) (first i : ℕ) (answers : List LocalAnswer) (n : ℕ) (answer : LocalAnswer) (x j : ℕ) → slice_get answers n ≡ Some answer
     → Contains before x → Contains (read_at m (i + n) answer) j → Contains (edges_into m before first i answers) (x + j, first + (i + n))
 into-listed m before first i [] n answer x j e h r = absurd (none-some answer e)
@@ -176,7 +176,7 @@ firsts-sound live firsts (e ∷ es) x h =
     go (inl l) ih = here (is_flagged live e) refl l
     go (inr l) ih = later (ih l)
 
--- and each such number is listed
+-- the first place of each live rule is listed
 pub firsts-listed : (live : List Bool) (firsts es : List ℕ) (e : ℕ) → Contains es e → is_flagged live e ≡ true → Contains (firsts_of live firsts es) (first_of firsts e)
 firsts-listed live firsts [] e h f = absurd (none_in_empty e h)
 firsts-listed live firsts (d ∷ es) e h f = go (Contains-cons_cases d es e h) (λ l. firsts-listed live firsts es e l f)
@@ -211,7 +211,7 @@ below-sound p known (suc k) e h = go (Contains-append_cases (edges_below p known
     go (inl l) ih = later (ih l)
     go (inr l) ih = here (get_or known.live k false) refl l
 
--- and each such edge is listed
+-- the edges of each live rule below a position are listed
 pub below-listed : (p : Program) (known : FlowInputs) (n k : ℕ) (e : Pair) → k < n → get_or known.live k false ≡ true → Contains (edges_at p known k) e → Contains (edges_below p known n) e
 below-listed p known zero k e low is h = absurd (omega (arith, low))
 below-listed p known (suc n) k e low is h = go (cases_lt k n) (λ l. below-listed p known n k e l is h)

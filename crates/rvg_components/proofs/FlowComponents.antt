@@ -22,7 +22,7 @@ module _ (s : Setting) (is_live : ℕ → Bool) (local : Locals) (result_variabl
   flow-listing : IsListing (HasFlow s local result_variables) (length result_variables) positions
   flow-listing = listing-same (IsPair edges) (HasFlow s local result_variables) (λ a b. (graph.flowing a b).0) (λ a b. (graph.flowing a b).1) (length result_variables) positions listing
 
-  -- what the component at a position is
+  -- the component at a position comes next after those before it
   next-here : (k : ℕ) → k < length positions → IsNext (HasFlow s local result_variables) (length result_variables) (take k positions) (get_or positions k [])
   next-here k low = next-at (HasFlow s local result_variables) (length result_variables) positions flow-listing k (get_or positions k []) low
       (get_or_default positions k (get_or positions k []) [] low)
@@ -31,13 +31,13 @@ module _ (s : Setting) (is_live : ℕ → Bool) (local : Locals) (result_variabl
   within-here : (k : ℕ) → k < length positions → (a : ℕ) → Contains (get_or positions k []) a → a < length result_variables
   within-here k low a among = nodes-within (HasFlow s local result_variables) (length result_variables) (λ x y f. f.to) (take k positions) (get_or positions k []) (next-here k low) a among
 
-  -- the same for all components
+  -- the positions of all components are within the list
   pub all-within : All (λ c. All (λ a. a < length result_variables) c) positions
   all-within = All-from_get_or (λ (c : List ℕ). All (λ a. a < length result_variables) c) positions []
       (λ k low. All-from_get_or (λ a. a < length result_variables) (get_or positions k []) 0
       (λ i inside. within-here k low (get_or (get_or positions k []) i 0) (Contains-get_or (get_or positions k []) i 0 inside)))
 
-  -- they are the components
+  -- the lists found are the components
   pub found-components : (found : List (List ResultVariable)) → found ≡ map (map (result_variable_at result_variables)) positions → AreComponents s is_live local found
   found-components found e = record {
     positions = positions;
@@ -45,7 +45,7 @@ module _ (s : Setting) (is_live : ℕ → Bool) (local : Locals) (result_variabl
     result_variables = e ∙ ap (λ (xs : List ResultVariable). map (map (result_variable_at xs)) positions) graph.places;
   }
 
-  -- and each flag says whether its component loops
+  -- each flag is true exactly if its component loops
   pub found-looping : (found : List Component) (own : List Bool) → own ≡ marked edges (replicate (length result_variables) false)
       → map members_of found ≡ map (map (result_variable_at result_variables)) positions → map (λ c. c.looping) found ≡ map (has_inside own) positions → All (SaysWhetherItLoops s local) found
   found-looping found own made members looping k d low =

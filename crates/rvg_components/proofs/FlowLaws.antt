@@ -63,7 +63,7 @@ module _ (p : Program) (g : Graph) (prepared_rules : List RuleRows) (locals : Li
   abbrev result_variables : List ResultVariable
   result_variables = result_variables_by_width 1 (widths (answer_lists locals) live)
 
-  -- what is answered of each place
+  -- the answer for each place
   abbrev local : Locals
   local = local_from (answer_lists locals)
 
@@ -108,11 +108,11 @@ module _ (p : Program) (g : Graph) (prepared_rules : List RuleRows) (locals : Li
   poly-here k n r here = ap (λ (m : Prepared). nonlinear_at m.polys n) (rows-here p g prepared_rules locals live given k r here)
       ∙ sym (ap (λ (o : Option Rule). nonlinear_at (polys_in o) n) here)
 
-  -- and the number of left variables too
+  -- the number of left variables is the rule's
   left-here : (k : ℕ) (r : Rule) → rule_at p (suc k) ≡ Some r → (rows_at k).left ≡ r.left
   left-here k r here = ap (λ (m : Prepared). m.left) (rows-here p g prepared_rules locals live given k r here)
 
-  -- so what is listed as read is what is read there
+  -- the places listed as read are those that are read
   reads-here : (k n : ℕ) (r : Rule) (answer : LocalAnswer) → rule_at p (suc k) ≡ Some r
       → read_at (rows_at k) n answer ≡ answer_reads (poly_at (setting_of p) (result_variable_in (suc k) n)) (local_answer_of answer) r.left
   reads-here k n r answer here = ap (λ (q : Option Polynomial). answer_reads q (local_answer_of answer) (rows_at k).left) (poly-here k n r here)
@@ -133,7 +133,7 @@ module _ (p : Program) (g : Graph) (prepared_rules : List RuleRows) (locals : Li
           answers-here p g prepared_rules locals live given e q.rule numbered is
           ∙ (ap (arity_of p) q.meets ∙ sym (rule-valid p (suc k) r given.valid here).left)
 
-  -- what it is that a value flows, by places numbered from 0
+  -- the definition of a flow, by places numbered from 0
   into-plain : (k n e j : ℕ) → value_flows (setting_of p) local (result_variable_in (suc e) j) (result_variable_in (suc k) n)
       ≡ (is_in (suc e) (pre p (suc k)) && local_reads (setting_of p) (result_variable_in (suc k) n) (local (suc k) (suc n)) j)
   into-plain k n e j = ap (λ (i : ℕ). is_in (suc e) (pre p (suc k)) && local_reads (setting_of p) (result_variable_in (suc k) n) (local (suc k) (suc n)) i) back
@@ -239,7 +239,7 @@ module _ (p : Program) (g : Graph) (prepared_rules : List RuleRows) (locals : Li
       go q s = by q s (live-at a q) (live-at b s) (rule-here p g prepared_rules locals live given s.rule (flag-within live s.rule (live-at b s).0))
           (slice_get_cases (answers_at s.rule) s.place).1
 
-  -- so they make the graph of places
+  -- the listed edges are the graph of places
   pub flow-graph : (found : List ResultVariable) (edges : List Pair) → found ≡ result_variables → edges ≡ edges_below p (flow_inputs_of prepared_rules locals live firsts) (length live)
       → IsFlowGraph (setting_of p) (is_flagged live) local found edges
   flow-graph found edges places made = record {

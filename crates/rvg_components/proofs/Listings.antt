@@ -1,4 +1,4 @@
--- What listings of components say: relations that agree have the same, and a component of two nodes has an edge inside.
+-- Lists of components: relations that agree have the same, and a component of two nodes has an edge inside.
 use Rattle.std.proofs.Common.{◌≡◌, ◌⊎◌, inl, inr, ℕ, ◌+◌, ◌<◌, List, [], ◌∷◌, ◌++◌, take, drop, length, get_or}
 use Rattle.std.proofs.Common.{Contains, sym, ◌∙◌, ap, arith}
 use Rattle.std.proofs.lemmas.List.{take-append-drop, drop_more}
@@ -18,7 +18,7 @@ mutual-same Edge Other on a b m = record {
   back = path-map Edge Other on b a m.back;
 }
 
--- what may come next in one may come next in the other
+-- a node that may come next by one relation may by the other
 ready-same : (Edge Other : ℕ → ℕ → Type 0) → Within Edge Other → Within Other Edge → (n : ℕ) (before : List (List ℕ)) (a : ℕ) → MayComeNext Edge n before a → MayComeNext Other n before a
 ready-same Edge Other on back n before a h = record {
   node = h.node;
@@ -30,7 +30,7 @@ ready-same Edge Other on back n before a h = record {
     go b (inl l) = inl l
     go b (inr m) = inr (mutual-same Edge Other on a b m)
 
--- so a list of the components of one is that of the other
+-- a list of the components of one relation is that of the other
 pub listing-same : (Edge Other : ℕ → ℕ → Type 0) → Within Edge Other → Within Other Edge → (n : ℕ) (cs : List (List ℕ)) → IsListing Edge n cs → IsListing Other n cs
 listing-same Edge Other on back n cs l = record { each = λ before after c e. next before c (l.each before after c e); all = l.all }
   where
@@ -52,7 +52,7 @@ pub record InnerEdge (Edge : ℕ → ℕ → Type 0) (nodes : List ℕ) : Type 0
   pub edge : Edge from to
 
 module _ (Edge : ℕ → ℕ → Type 0) (n : ℕ) where
-  -- a listed component is what comes next behind those before it
+  -- a listed component comes next after those before it
   pub next-at : (cs : List (List ℕ)) → IsListing Edge n cs → (k : ℕ) (c : List ℕ) → k < length cs → get_or cs k c ≡ c → IsNext Edge n (take k cs) c
   next-at cs l k c low e = l.each (take k cs) (drop (k + 1) cs) c (sym (take-append-drop k cs)
       ∙ ap (λ (xs : List (List ℕ)). take k cs ++ xs) (drop_more cs k c low ∙ ap (λ (d : List ℕ). d ∷ drop (k + 1) cs) e))

@@ -12,7 +12,7 @@ use Rattle.cert_types.specs.Views.{result_variable_of}
 use Rattle.local_size.specs.declared.answer.LocalAnswer.{LocalAnswer}
 use Rattle.rvg_components.specs.Numbering.{widths, firsts_from, places_of, result_variables_by_width}
 
--- the spot that is the place i, numbered from 0, of rule t
+-- the result variable with place i, numbered from 0, of rule t
 abbrev pub result_variable_in : ℕ → ℕ → ResultVariable
 result_variable_in t i = record { rule = t; place = suc i }
 
@@ -20,7 +20,7 @@ result_variable_in t i = record { rule = t; place = suc i }
 pub places-length : (t i n : ℕ) → length (places_of t i n) ≡ n
 places-length t i n = length-map-range_with_len (λ j. let s : ResultVariable = record { rule = t; place = j } in s) i n
 
--- and which they are
+-- the place at each position
 places-read : (t n i : ℕ) (d : ResultVariable) → i < n → get_or (places_of t 1 n) i d ≡ result_variable_in t i
 places-read t n i d low = get_or-map-range_with_len (λ j. let s : ResultVariable = record { rule = t; place = j } in s) 1 n i (suc i) d low (omega arith)
 

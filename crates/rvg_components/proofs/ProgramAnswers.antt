@@ -1,4 +1,4 @@
--- What is known of a valid program from what is handed in: its rules, their rows, and how many places there are.
+-- The properties of the input of a valid program: its rules, their rows, and the number of places.
 use Rattle.std.proofs.Common.{◌≡◌, ◌⊎◌, inl, inr, ℕ, zero, suc, ◌+◌, ◌*◌, ◌<◌, ◌≤◌, ◌^◌, ◌==◌, Bool, true, false, cond}
 use Rattle.std.proofs.Common.{List, [], ◌∷◌, length, get_or, map, All, Contains, Option, Some, None, option_map, Vec}
 use Rattle.std.proofs.Common.{refl, sym, ◌∙◌, ap, subst, arith}
@@ -68,7 +68,7 @@ firsts-few b (w ∷ ws) =
     All-cons (λ x. x ≤ b + sum (w ∷ ws)) b (firsts_from (b + w) ws) (omega arith)
     (All-weaker (λ x. x ≤ b + w + sum ws) (λ x. x ≤ b + sum (w ∷ ws)) (λ x h. omega (arith, h, sum-cons w ws)) (firsts_from (b + w) ws) (firsts-few (b + w) ws))
 
--- what can come before a rule is the virtual entry or a rule
+-- the virtual entry and rules are all that can come before a rule
 pub before-within : (p : Program) (t n : ℕ) → n ≡ length p.rules → All (λ e. e ≤ n) (pre p t)
 before-within p t n e =
     subst (λ (m : ℕ). All (λ d. d ≤ m) (pre p t)) (sym e)
@@ -147,7 +147,7 @@ module _ (p : Program) (g : Graph) (prepared_rules : List RuleRows) (locals : Li
   arity-few : (k : ℕ) (r : Rule) → rule_at p (suc k) ≡ Some r → arity_of p r.target ≤ 32
   arity-few k r e = omega (arith, (rule-valid p (suc k) r given.valid e).places, (preparable p (suc k) r given.valid e).few_updates)
 
-  -- so no width is above 32
+  -- no width is above 32
   width-few : (k : ℕ) → get_or (widths (answer_lists locals) live) k 0 ≤ 32
   width-few k = go (get_or live k false) refl
     where

@@ -34,18 +34,18 @@ either : (a b : Bool) → a || b ≡ true → (a ≡ true) ⊎ (b ≡ true)
 either true b h = inl refl
 either false b h = inr h
 
--- the places that an arm reads
+-- each listed place is read by the side bound
 side_bound-sound : (poly : Option Polynomial) (side_bound : SideBound) (left j : ℕ) → Contains (places_read poly side_bound left) j → (j < left) × (reads poly side_bound j ≡ true)
 side_bound-sound poly side_bound left j h =
     let k = filter-in (λ i. reads poly side_bound i) (range_with_len 0 left) j (is_in-contained (places_read poly side_bound left) j h) in
     (below left j k.0, k.1)
 
--- and each place that it reads is listed
+-- each place that the side bound reads is listed
 side_bound-listed : (poly : Option Polynomial) (side_bound : SideBound) (left j : ℕ) → j < left → reads poly side_bound j ≡ true → Contains (places_read poly side_bound left) j
 side_bound-listed poly side_bound left j low h =
     contains-is_in (places_read poly side_bound left) j (is_in-filter (λ i. reads poly side_bound i) (range_with_len 0 left) j (is_in-numbers left j low) h)
 
--- what is listed is read
+-- each listed place is read by the answer
 pub read-sound : (s : Setting) (result_variable : ResultVariable) (a : Local) (left j : ℕ) → Contains (answer_reads (poly_at s result_variable) a left) j → (j < left) × (local_reads s result_variable a j ≡ true)
 read-sound s result_variable (HasBound l) left j h =
     go (Contains-append_cases (places_read (poly_at s result_variable) l.up left) (places_read (poly_at s result_variable) l.low left) j h)
@@ -57,7 +57,7 @@ read-sound s result_variable (HasBound l) left j h =
 read-sound s result_variable (IsUnboundedOn side ray kept) left j h = absurd (none_in_empty j h)
 read-sound s result_variable (HasTripped t) left j h = absurd (none_in_empty j h)
 
--- and what is read is listed
+-- each place that the answer reads is listed
 pub read-listed : (s : Setting) (result_variable : ResultVariable) (a : Local) (left j : ℕ) → j < left → local_reads s result_variable a j ≡ true → Contains (answer_reads (poly_at s result_variable) a left) j
 read-listed s result_variable (HasBound l) left j low h = go (either (reads (poly_at s result_variable) l.up j) (reads (poly_at s result_variable) l.low j) h)
   where
@@ -75,7 +75,7 @@ read_more poly side_bound n =
     numbers-more : (a n j : ℕ) → a + n ≡ j → range_with_len a (n + 1) ≡ range_with_len a n ++ j ∷ []
     numbers-more a n j e = sym (map-id (range_with_len a (n + 1))) ∙ (map-range_with_len_more (λ i. i) a n j e ∙ ap (λ (xs : List ℕ). xs ++ j ∷ []) (map-id (range_with_len a n)))
 
--- one place more is looked at
+-- one place more is tested
 pub read_pushed : (poly : Option Polynomial) (side_bound : SideBound) (n : ℕ) (first old new : List ℕ) (v : Bool) → old ≡ first ++ places_read poly side_bound n → v ≡ reads poly side_bound n
     → new ≡ old ++ cond v (n ∷ []) [] → new ≡ first ++ places_read poly side_bound (n + 1)
 read_pushed poly side_bound n first old new v kept is pushed =

@@ -38,7 +38,7 @@ loop_flows a b (suc (suc zero), low, e) =
     ends_flow ring (2, 1) (a, b) e (record { from = omega arith; to = omega arith; flow = refl })
 loop_flows a b (suc (suc (suc k)), low, e) = absurd (omega (arith, low))
 
--- and each flow is an edge
+-- each flow is an edge
 flows_loop : (a b : ℕ) → Flow ring a b → Loop a b
 flows_loop a b h = go a b h.from h.to h.flow
   where
@@ -61,7 +61,7 @@ backward_flows a b (zero, low, e) =
     ends_flow last_first (2, 0) (a, b) e (record { from = omega arith; to = omega arith; flow = refl })
 backward_flows a b (suc k, low, e) = absurd (omega (arith, low))
 
--- and the only one
+-- it is the only flow
 flows_backward : (a b : ℕ) → Flow last_first a b → Backward a b
 flows_backward a b h = go a b h.from h.to h.flow
   where

@@ -13,7 +13,7 @@ use Rattle.rvg_components.specs.Reading.{answer_reads}
 abbrev pub edges_from : ℕ → ℕ → List ℕ → List (ℕ × ℕ)
 edges_from j to before = map (λ first. (first + j, to)) before
 
--- the same from each of the places that are read
+-- the edges into a place from each of the places that are read
 abbrev pub edges_to : ℕ → List ℕ → List ℕ → List (ℕ × ℕ)
 edges_to to before [] = []
 edges_to to before (j ∷ js) = edges_from j to before ++ edges_to to before js
@@ -35,7 +35,7 @@ abbrev pub firsts_of : List Bool → List ℕ → List ℕ → List ℕ
 firsts_of live firsts [] = []
 firsts_of live firsts (e ∷ es) = cond (is_flagged live e) (first_of firsts e ∷ []) [] ++ firsts_of live firsts es
 
--- what is known of each rule: its rows, the answers for its places, whether it is live, and its first place
+-- the input for each rule: its rows, the answers for its places, whether it is live, and its first place
 pub record FlowInputs : Type 0 where
   pub rows : List Prepared
   pub locals : List (List LocalAnswer)
@@ -52,11 +52,11 @@ edges_at p known k =
     edges_into (slice_index_or known.rows k no_rows) (firsts_of known.live known.firsts (pre p (suc k)))
     (slice_index_or known.firsts k 0) 0 (slice_index_or known.locals k [])
 
--- and none where it isn't live
+-- the edges into the places of a live rule, and none for other rules
 abbrev pub live_edges_at : Program → FlowInputs → ℕ → List (ℕ × ℕ)
 live_edges_at p known k = cond (slice_index_or known.live k false) (edges_at p known k) []
 
--- those of the rules below a position
+-- the edges of the rules below a position
 abbrev pub edges_below : Program → FlowInputs → ℕ → List (ℕ × ℕ)
 edges_below p known zero = []
 edges_below p known (suc k) = edges_below p known k ++ live_edges_at p known k

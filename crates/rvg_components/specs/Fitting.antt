@@ -7,7 +7,7 @@ use Rattle.local_size.specs.declared.answer.LocalAnswer.{LocalAnswer}
 use Rattle.rvg_components.specs.Listing.{answer_lists}
 use Rattle.rvg_components.specs.Edges.{FlowInputs}
 
--- what is known, as plain data
+-- the input as plain data
 abbrev pub flow_inputs_of : List RuleRows → List (Vec LocalAnswer Global) → List Bool → List ℕ → FlowInputs
 flow_inputs_of prepared_rules locals live firsts = record {
   rows = map prepared_of prepared_rules;

@@ -10,17 +10,19 @@ use Rattle.cert_types.specs.cert_rules.ComposedSizes.{reads, poly_at}
 use Rattle.cert_types.specs.cert_rules.Setting.{Setting}
 use Rattle.local_size.specs.LocalAnswers.{Local, HasBound, IsUnboundedOn, HasTripped}
 
--- what is answered of the place of a rule
+-- the answer for each place of a rule
 abbrev pub Locals : Type 0
 Locals = ℕ → ℕ → Local
 
--- an arm of the answer for a spot reads a place, numbered from 0; what is loose or tripped has no arms
+-- a side bound of the answer for a result variable reads a place, numbered from 0; an answer without side bounds reads
+-- none
 abbrev pub local_reads : Setting → ResultVariable → Local → ℕ → Bool
 local_reads s result_variable (HasBound l) j = reads (poly_at s result_variable) l.up j || reads (poly_at s result_variable) l.low j
 local_reads s result_variable (IsUnboundedOn side ray kept) j = false
 local_reads s result_variable (HasTripped t) j = false
 
--- a value flows from one place into another: the rule of the first can come just before that of the second, and an arm
+-- a value flows from one result variable into another: the rule of the first can come just before that of the second,
+-- and a side bound of the second reads the first; places count from 1
 -- of the second reads the first; places count from 1
 abbrev pub value_flows : Setting → Locals → ResultVariable → ResultVariable → Bool
 value_flows s local m n =

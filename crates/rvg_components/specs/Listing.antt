@@ -19,7 +19,7 @@ use Rattle.cert_types.specs.Views.{result_variable_of}
 use Rattle.rvg_components.specs.declared.component.Component.{Component}
 use Rattle.rvg_components.specs.Flows.{Locals, value_flows, live_result_variables, loops}
 
--- the spot at a position
+-- the result variable at a position
 abbrev pub result_variable_at : List ResultVariable → ℕ → ResultVariable
 result_variable_at result_variables i = slice_index_or result_variables i (record { rule = 0; place = 0 })
 
@@ -43,7 +43,7 @@ pub record AreComponents (s : Setting) (is_live : ℕ → Bool) (local : Locals)
 abbrev pub members_of : Component → List ResultVariable
 members_of c = map result_variable_of c.members.items
 
--- it says whether it loops
+-- a component says whether it loops
 abbrev pub SaysWhetherItLoops : Setting → Locals → Component → Type 0
 SaysWhetherItLoops s local c = c.looping ≡ loops s local (members_of c)
 

@@ -4,7 +4,7 @@ use Rattle.std.specs.List.{range_with_len}
 use Rattle.cert_types.specs.cert_rules.Nodes.{ResultVariable}
 use Rattle.local_size.specs.declared.answer.LocalAnswer.{LocalAnswer}
 
--- how many places each rule has: if it is live, as many as answers, and else none
+-- the number of places of each rule: if it is live, as many as answers, and else none
 abbrev pub widths : List (List LocalAnswer) → List Bool → List ℕ
 widths [] live = []
 widths (l ∷ locals) [] = []

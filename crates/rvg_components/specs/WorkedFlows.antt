@@ -18,7 +18,7 @@ use Rattle.rvg_components.specs.Listing.{AreComponents}
 abbrev pub result_variable : ℕ → ℕ → ResultVariable
 result_variable t i = record { rule = t; place = i }
 
--- answers whose arms read the place before: both, the up arm, the low arm, and none
+-- answers whose side bounds read the place before: both, the up one, the low one, and none
 abbrev pub reads_both : Local
 reads_both = HasBound (record { up = side_bound (pos 1) (pos 0) []; low = side_bound (negsuc 0) (pos 0) [] })
 
@@ -35,7 +35,7 @@ reads_none = HasBound (record { up = side_bound (pos 0) (pos 7) []; low = side_b
 abbrev pub reads_poly : Local
 reads_poly = HasBound (record { up = Poly; low = Poly })
 
--- answers without arms
+-- answers without side bounds
 abbrev pub is_unbounded : Local
 is_unbounded = IsUnboundedOn Up (pos 1 ∷ []) (record { parts = []; den = 0 })
 
@@ -58,8 +58,8 @@ abbrev pub squared : Setting
 squared = record counting { poly = λ t i. Some (record { coef = pos 1; vars = 0 ∷ 0 ∷ [] } ∷ []) }
 
 -- k(A) -> l(A), and l(A) -> l(A - 1): a value flows from the first place into the second, and from that into itself,
--- but not back. It flows by either arm that reads the place before, also by a polynomial, and by no other one; into a
--- place without arms nothing flows
+-- but not back. It flows by either side bound that reads the place before, also by a polynomial, and by no other one;
+-- into a place without side bounds no value flows
 pub record FlowsAreWorkedOut : Type 0 where
   pub onward : value_flows counting all_read (result_variable 1 1) (result_variable 2 1) ≡ true
   pub back : value_flows counting all_read (result_variable 2 1) (result_variable 1 1) ≡ false
@@ -89,8 +89,9 @@ ring = record counting {
       ∷ rule_over 2 1 0 (Variable 0) [] ∷ []);
 }
 
--- the place after rule 1 doesn't loop, and that after rule 2 of the program that counts down does, unless it has no
--- arms; of those that go round none does alone, and both do together
+-- the place after rule 1 doesn't loop; that after rule 2 of the program that counts down does, unless it has no side
+-- bounds; of two places in a ring neither loops alone, and both do together
+-- side bounds; of those that go round none does alone, and both do together
 pub record LoopsAreWorkedOut : Type 0 where
   pub none : loops counting all_read [] ≡ false
   pub first : loops counting all_read (result_variable 1 1 ∷ []) ≡ false
@@ -107,8 +108,8 @@ last_first = record counting {
       ∷ rule_over 0 1 0 (Variable 0) [] ∷ []);
 }
 
--- the components of the first: the place that comes in, and then the two that go round together; in no other order, nor
--- taken apart, nor without one of them. Those of the second: each place for itself, but the first one last
+-- the components of the first: the place of the entry, and then the two in the ring; in no other order, nor split, nor
+-- without one of them. Those of the second: each place for itself, with the first one last
 pub record FlowComponentsAreWorkedOut : Type 0 where
   pub round : AreComponents ring all_live all_read ((result_variable 1 1 ∷ []) ∷ (result_variable 2 1 ∷ result_variable 3 1 ∷ []) ∷ [])
   pub turned : ¬ (AreComponents ring all_live all_read ((result_variable 2 1 ∷ result_variable 3 1 ∷ []) ∷ (result_variable 1 1 ∷ []) ∷ []))

@@ -18,7 +18,7 @@ fn width_of(is_live: bool, count: usize) -> usize
     if is_live { count } else { 0 }
 }
 
-/// How many places each rule has: if it is live, as many as answers, and else none.
+/// The number of places of each rule: if it is live, as many as answers, and else none.
 pub(crate) fn widths_of(
     alloc: Global,
     locals: &[Vec<LocalAnswer>],

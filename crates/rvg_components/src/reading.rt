@@ -13,7 +13,7 @@ use model::Memory;
 use poly_terms::Poly;
 use std::alloc::Global;
 
-// Appends the places that an arm reads, of this many.
+// Appends those of this many places that a side bound reads.
 fn push_read(
     alloc: Global,
     places: &mut Vec<u32>,
@@ -28,8 +28,9 @@ fn push_read(
     places.extend_from_slice(&read)
 }
 
-/// The places that an answer reads, of this many, numbered from 0: those of the up arm and then those of the low arm.
-/// An answer that is loose or tripped has no arms. `poly` is the update, if it has degree 2 or more.
+/// Those of this many places, numbered from 0, that an answer reads: those of the up side bound and then those of the
+/// low one. An answer that is unbounded or a limit hit has no side bounds. `poly` is the update, if it has degree 2 or
+/// more.
 pub(crate) fn answer_places(
     alloc: Global,
     answer: &LocalAnswer,

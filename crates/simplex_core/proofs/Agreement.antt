@@ -173,7 +173,7 @@ module _ (p : LinearProgram) (e : ℕ → ℕ → ℤ) (r f s : ℕ → ℤ) (a 
   answer-same allowed (Err (Wide n)) h = h
   answer-same allowed (Err Memory) h = tt
 
-  -- what trips is the same
+  -- agreeing programs hit the same limits
   limit_hit-same : (allowed : ℕ) (c : Cause) → Trips p allowed c → Trips other allowed c
   limit_hit-same allowed (range k) h = (h.0, range-same allowed k h.1)
   limit_hit-same allowed (budget n) h = (h.0, h.1, budget-same allowed h.2)
@@ -224,7 +224,7 @@ of-agreeing P p q a h =
 pub answers-agree : (p q : LinearProgram) (allowed : ℕ) (x : Result Solved SolveError) → Agree p q → IsAnswer p allowed x → IsAnswer q allowed x
 answers-agree p q allowed x a h = of-agreeing (λ r. IsAnswer r allowed x) p q a (λ b. answer-same p q.entry q.right q.first q.second b allowed x h)
 
--- they trip by the same cause
+-- agreeing programs hit limits of the same cause
 pub trips-agree : (p q : LinearProgram) (allowed : ℕ) (c : Cause) → Agree p q → Trips p allowed c → Trips q allowed c
 trips-agree p q allowed c a h = of-agreeing (λ r. Trips r allowed c) p q a (λ b. limit_hit-same p q.entry q.right q.first q.second b allowed c h)
 

@@ -183,7 +183,7 @@ budget-apart p allowed k t none s r =
     let f = r.goes_on in
     cc
 
--- an end isn't a trip, unless memory runs out
+-- a program that ends hits no limit, unless memory runs out
 pub end-apart : (p : LinearProgram) (allowed : ℕ) (s : Solved) (e : SolveError) → (table_size p ≤ widest) × IsEnd p allowed s → IsStop p allowed e → IsMemory e
 end-apart p allowed (Optimal at basis k) (Range m) (w, a) (v, b) = range-apart p allowed k m a.last a.in_range (optimal-stops p allowed k at.items basis.items a) b
 end-apart p allowed (Optimal at basis k) (Budget m) (w, a) (v, b) =
@@ -197,7 +197,7 @@ end-apart p allowed s (Wide n) (w, a) (v, b) = clash _ _ w v
     clash a b l m = omega arith
 end-apart p allowed s Memory a b = tt
 
--- two trips are the same
+-- two stops at a limit are the same, unless memory runs out
 pub stops-agree : (p : LinearProgram) (allowed : ℕ) (e e' : SolveError) → IsStop p allowed e → IsStop p allowed e' → (e ≡ e') ⊎ (IsMemory e ⊎ IsMemory e')
 stops-agree p allowed Memory e' a b = inr (inl tt)
 stops-agree p allowed e Memory a b = inr (inr tt)

@@ -81,7 +81,7 @@ dual-trips p allowed numbers den s t =
     t.exceeds numbers den (over-same s.dual t.dual numbers den same s.scaled.over)
     (record { each = λ j l. s.within.each j (let a = same.lengths in let b = s.scaled.lengths in omega (arith, l, a, b)) })
 
--- where the sequence ends as optimal, it trips by its scale alone
+-- if the sequence ends as optimal, the only limit that it can hit is the scale
 optimal-apart : (p : LinearProgram) (allowed k : ℕ) (fs : List Frac) (basis : List ℕ) → table_size p ≤ widest → EndsOptimally p allowed fs basis k → (c : Cause) → Trips p allowed c
     → (c ≡ scale) × TripsSolution p allowed
 optimal-apart p allowed k fs basis fits a (range m) t = absurd (range-apart p allowed k m a.last a.in_range (optimal-stops p allowed k fs basis a) t.1)
@@ -90,7 +90,7 @@ optimal-apart p allowed k fs basis fits a (wide n) t = absurd (let l = t.0 in om
 optimal-apart p allowed k fs basis fits a scale (w, inl t) = (refl, t)
 optimal-apart p allowed k fs basis fits a scale (w, inr t) = absurd (ends-apart p allowed k t.k fs basis t.dual a t.ends)
 
--- where the sequence ends as infeasible, it trips by its scale alone
+-- if the sequence ends as infeasible, the only limit that it can hit is the scale
 infeasible-apart : (p : LinearProgram) (allowed k : ℕ) (fs : List Frac) → table_size p ≤ widest → EndsInfeasibly p allowed fs k → (c : Cause) → Trips p allowed c
     → (c ≡ scale) × TripsDual p allowed
 infeasible-apart p allowed k fs fits a (range m) t = absurd (range-apart p allowed k m a.last a.in_range (infeasible-stops p allowed k fs a) t.1)
@@ -99,7 +99,7 @@ infeasible-apart p allowed k fs fits a (wide n) t = absurd (let l = t.0 in omega
 infeasible-apart p allowed k fs fits a scale (w, inl t) = absurd (ends-apart p allowed t.k k t.at t.basis fs t.ends a)
 infeasible-apart p allowed k fs fits a scale (w, inr t) = (refl, t)
 
--- a cause of a trip is the only one
+-- a program hits limits of one cause only
 pub causes-same : (p : LinearProgram) (allowed : ℕ) (c d : Cause) → Trips p allowed c → Trips p allowed d → c ≡ d
 causes-same p allowed scale d (w, inl t) u = sym (optimal-apart p allowed t.k t.at t.basis w t.ends d u).0
 causes-same p allowed scale d (w, inr t) u = sym (infeasible-apart p allowed t.k t.dual w t.ends d u).0

@@ -45,7 +45,7 @@ pub record AnswersAreOne : Type 0 where
   pub each : (p : LinearProgram) (allowed : ℕ) (a b : Result Solved SolveError) → IsAnswer p allowed a
       → IsAnswer p allowed b → IsSameAnswer a b
 
--- programs that agree have the same answers, trip by the same causes, and have the same answers in integers
+-- programs that agree have the same answers, hit limits of the same causes, and have the same answers in integers
 pub record AgreeingProgramsAnswerTheSame : Type 0 where
   pub each : (p q : LinearProgram) (allowed : ℕ) (a : Result Solved SolveError) → Agree p q → IsAnswer p allowed a
       → IsAnswer q allowed a

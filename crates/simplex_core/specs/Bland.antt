@@ -42,7 +42,7 @@ leaving p t c =
     least p.rows (λ r. is_candidate t c r && every p.rows (λ i. not (is_candidate t c i && goes_before p t c i r)))
 
 -- whether the artificial unknowns of the basic solution add up to more than 0: as none of them is below 0, this is that
--- a row is solved for one with a right side above 0 (`ArtificialSumsAreTold` says that the two are the same)
+-- a row is solved for one with a right side above 0 (`ArtificialSumsAreWorkedOut`: the two are the same)
 abbrev pub has_artificial : LinearProgram → Tableau → Bool
 has_artificial p t = some p.rows (λ i. nat_le p.columns (t.basis i) && int_lt (pos 0) (t.entry i (unknowns p)))
 

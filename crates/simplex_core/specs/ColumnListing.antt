@@ -50,7 +50,7 @@ pub record UnmarksAt (old new : List Bool) (j : ℕ) : Type 0 where
   pub length_is : length new ≡ length old
   pub each : (k : ℕ) → slice_get new k ≡ Some true → (slice_get old k ≡ Some true) × (k ≢ j)
 
--- the same for the first m of these columns
+-- the marks of the first m of these columns aren't set, and no other is that wasn't
 pub record Unmarks (old new : List Bool) (touched : List ℕ) (m : ℕ) : Type 0 where
   pub length_is : length new ≡ length old
   pub each : (k : ℕ) → slice_get new k ≡ Some true

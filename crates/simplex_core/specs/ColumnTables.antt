@@ -106,7 +106,7 @@ pub record ClearsTouched (old new : ColumnTable) (r : ℕ) (pivot : ℤ) (shifte
   pub marks : new.marks.items ≡ old.marks.items
   pub first : IsFirst old → IsFirst new
 
--- the same for one column
+-- the number in row r of one column is cleared, and all else is as before
 pub record ClearsColumn (old new : ColumnTable) (position r : ℕ) (pivot : ℤ) (shifted : List Cell) : Type 0 where
   pub rows : new.rows ≡ old.rows
   pub columns : new.width ≡ old.width

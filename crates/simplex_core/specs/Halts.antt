@@ -12,7 +12,7 @@ abbrev pub IsUnmade : Type 0 → Unmade → Type 0
 IsUnmade gives_up Beyond = gives_up
 IsUnmade gives_up Memory = Unit {0}
 
--- the sequence isn't followed to an end: it trips, or the table gives up
+-- the sequence isn't followed to an end: it hits a limit, or the table gives up
 abbrev pub IsHalt : Type 0 → LinearProgram → ℕ → Halt → Type 0
 IsHalt gives_up p allowed (halts.LimitHit e) = IsLimitHit p allowed e
 IsHalt gives_up p allowed halts.Beyond = gives_up

@@ -31,7 +31,7 @@ SaysInfeasible (Optimal at basis k) = ⊥
 SaysInfeasible (Infeasible dual k) = Unit {0}
 
 -- an answer `Optimal` means that there is a solution, and an answer `Infeasible` that there is none; so where there is
--- none and nothing trips, the answer is `Infeasible`
+-- none and no limit is hit, the answer is `Infeasible`
 pub record OutcomeTellsSolutions : Type 0 where
   pub optimal : (p : LinearProgram) (allowed : ℕ) (at : Vec Frac Global) (basis : Vec ℕ Global) (k : ℕ)
       → IsAnswer p allowed (Ok (Optimal at basis k)) → HasSolution p

@@ -94,14 +94,14 @@ abbrev pub IsEnd : LinearProgram → ℕ → Solved → Type 0
 IsEnd p allowed (Optimal at basis k) = EndsOptimally p allowed at.items basis.items k
 IsEnd p allowed (Infeasible dual k) = EndsInfeasibly p allowed dual.items k
 
--- what the sequence within the allowed pivots trips; running out of memory may come at any time
+-- the limit that the sequence hits within the allowed pivots; running out of memory may come at any time
 abbrev pub IsLimitHit : LinearProgram → ℕ → SolveError → Type 0
 IsLimitHit p allowed (Range k) = TripsRange p allowed k
 IsLimitHit p allowed (Budget k) = (k ≡ allowed) × TripsBudget p allowed
 IsLimitHit p allowed (Wide n) = ⊥
 IsLimitHit p allowed Memory = Unit {0}
 
--- the answer that isn't an end: the table would be too wide, or it isn't and the sequence trips
+-- the answer that isn't an end: the table would be too wide, or it isn't and the sequence hits a limit
 abbrev pub IsStop : LinearProgram → ℕ → SolveError → Type 0
 IsStop p allowed (Range k) = (table_size p ≤ widest) × IsLimitHit p allowed (Range k)
 IsStop p allowed (Budget k) = (table_size p ≤ widest) × IsLimitHit p allowed (Budget k)

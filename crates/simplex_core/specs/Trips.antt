@@ -26,7 +26,7 @@ pub record TripsDual (p : LinearProgram) (allowed : ℕ) : Type 0 where
   pub ends : EndsInfeasibly p allowed dual k
   pub exceeds : ExceedsDual dual
 
--- a linear program, within a number of pivots, trips by a cause: its table is too wide, and has this many numbers; or
+-- a linear program hits this limit within a number of pivots: its table is too wide, and has this many numbers; or
 -- it isn't, and after this many pivots a number is out of range; or the allowed pivots don't suffice; or the answer has
 -- no integers small enough
 abbrev pub Trips : LinearProgram → ℕ → Cause → Type 0
@@ -80,8 +80,8 @@ IsSameWholeAnswer (OutOfLimits c) (Solution t) = ⊥
 IsSameWholeAnswer (OutOfLimits c) (Dual t) = ⊥
 IsSameWholeAnswer (OutOfLimits c) (OutOfLimits d) = cause_of c ≡ cause_of d
 
--- of one program within one number of pivots there is one answer in integers: so it trips, and by which cause, or has a
--- solution, or has none; and where one finds numbers for fractions over their least common denominator that aren't
+-- of one program within one number of pivots there is one answer in integers: it hits a limit, of one cause, or has a
+-- solution, or has none; and if the numbers of fractions over their least common denominator aren't
 -- within the limits, no other common denominator helps
 pub record WholeAnswersAreOne : Type 0 where
   pub each : (p : LinearProgram) (allowed : ℕ) (a b : Answer) → IsWholeAnswer p allowed a → IsWholeAnswer p allowed b

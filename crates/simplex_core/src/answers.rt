@@ -20,11 +20,11 @@ pub enum Answer {
     Solution(Numerators),
     /// A dual, which shows that there is no solution, one number for each row.
     Dual(Numerators),
-    /// The linear program trips.
+    /// The linear program hits a limit.
     OutOfLimits(LimitCause),
 }
 
-/// Solves a linear program, and scales what it finds by the least common denominator. The condition is that of `solve`.
+/// Solves a linear program, and scales its answer to the least common denominator. The condition is that of `solve`.
 /// `Scale` comes exactly where over no common denominator the numbers are small enough: within the limit of
 /// certificates, 2^56, for those of a solution and its denominator, and within that of points, 2^45, for those of a
 /// dual.

@@ -1,4 +1,4 @@
--- What is found of sizes is accepted behind lemmas that state the bounds of the table.
+-- A size that is found is accepted after lemmas that state the bounds of the table.
 use Rattle.std.proofs.Common.{◌≡◌, List, [], ◌∷◌, refl, sym, ◌∙◌, ap, subst, Vec}
 use Rattle.std.specs.declared.alloc.Global.{Global}
 use Rattle.model.specs.Facts.{Fact}

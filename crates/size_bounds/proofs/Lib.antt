@@ -1,8 +1,8 @@
--- what stands at a position
+-- the entry at a position
 pub mod StoredBounds
 -- the times and sizes of a table by key
 pub mod TablesByKey
--- what nodes rest on
+-- the premises of nodes
 pub mod UseLists
--- what is found is accepted
+-- sizes that are found are accepted
 mod FoundSizes

@@ -6,7 +6,7 @@ use Rattle.outcome.specs.declared.entry.Stored.{Stored}
 use Rattle.size_bounds.specs.declared.table.Table.{Table}
 use Rattle.size_bounds.specs.Tables.{entry_at, row_at, stored_size}
 
--- what is read at a position
+-- the entry that is read at a position
 pub entry_read : {A : Type 0} (xs : List (Option A)) (i : ℕ) (x : Option A) → i < length xs → x ≡ get_or xs i x
     → entry_at xs i ≡ x
 entry_read [] i x l e = absurd (omega (arith, l))

@@ -1,4 +1,4 @@
--- What nodes rest on, one more at a time.
+-- The premises of nodes, one more at a time.
 use Rattle.std.proofs.Common.{◌≡◌, ℕ, ◌==◌, ◌||◌, Bool, not, true, false, cond, List, [], ◌∷◌, ◌++◌, map, filter, refl}
 use Rattle.std.proofs.Common.{sym, ◌∙◌, ap}
 use Rattle.std.proofs.lemmas.List.{append-nil}
@@ -15,7 +15,7 @@ pub cites_seen : (ns : List ℕ) → uses_of (map (λ n. Cite n) ns) ≡ cites n
 cites_seen [] = refl
 cites_seen (n ∷ ns) = ap (λ (us : Proofs). AndProof (Cite n) us) (cites_seen ns)
 
--- one number more is kept exactly where it passes the test
+-- one number more is kept exactly if it passes the test
 pub filter-append : (test : ℕ → Bool) (xs : List ℕ) (x : ℕ) → filter test (xs ++ x ∷ []) ≡ filter test xs ++ cond (test x) (x ∷ []) []
 filter-append test [] x = go (test x) refl
   where

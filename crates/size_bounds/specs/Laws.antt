@@ -1,4 +1,4 @@
--- What is found of sizes is accepted behind lemmas.
+-- A size that is found is accepted after the lemmas that it cites.
 use Rattle.std.specs.Prelude.{◌≡◌, List, Vec}
 use Rattle.std.specs.declared.alloc.Global.{Global}
 use Rattle.model.specs.Facts.{Fact}
@@ -15,9 +15,8 @@ use Rattle.size_bounds.specs.declared.table.Table.{Table}
 use Rattle.size_bounds.specs.SizeAnswers.{IsSpreadAnswer, IsCycleAnswer}
 use Rattle.size_bounds.specs.Tables.{table_of, bounds_in, number_at}
 
--- behind all lists of lemmas that state known bounds alone, and each bound of the table by the number that the table
--- has of it, a node that is found of a place, or of the members of a loop, is accepted and states the facts found with
--- it
+-- after any lists of lemmas that state only known bounds, and each bound of the table by its number in the table, the
+-- node found for a place, or for the members of a loop, is accepted and states the facts found with it
 pub record FoundSizesAreAccepted : Type 0 where
   pub spread : (s : Setting) (past : List (List Fact)) (t : Table) (all : Bounds)
       → SayBounds s past (number_at t) (bounds_in t) all → (m : Member) (node : Proof) (facts : Vec code.Fact Global)

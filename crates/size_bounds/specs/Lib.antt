@@ -1,8 +1,8 @@
 -- tables of bounds as the code keeps them
 pub mod Tables
--- what is answered of a size
+-- the answers on sizes
 pub mod SizeAnswers
 -- the lemmas that a node cites
 pub mod Lemmas
--- what is found is accepted
+-- sizes that are found are accepted
 pub mod Laws

@@ -24,7 +24,7 @@ IsSpreadAnswer s tab number m (answers.Nonlinear result_variable) = ⊥
 IsSpreadAnswer s tab number m (answers.Untimed rule) = ⊥
 IsSpreadAnswer s tab number m (answers.Large nodes) = IsFirstAmong (spread_checks s tab m) (Large nodes)
 
--- what is answered of the members of a loop: the same, with one size for all
+-- the answer for the members of a loop, with one size for all
 abbrev pub IsCycleAnswer : Setting → Table → (ℕ → ℕ → ℕ) → List Member → SizeAnswer → Type 0
 IsCycleAnswer s tab number members (answers.Found node facts) = AcceptsCycle s tab members
     × (proof_of node ≡ Cycle members (uses_for number (cycle_premises s tab members)))

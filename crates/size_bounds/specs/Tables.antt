@@ -21,7 +21,7 @@ row_at [] n = []
 row_at (r ∷ rows) zero = r
 row_at (r ∷ rows) (suc n) = row_at rows n
 
--- what a reference points to, if there is one
+-- the entry that a reference points to, if there is one
 abbrev pub optional_stored : Option (Bor Stored) → Option Stored
 optional_stored o = option_map (λ s. s.now) o
 
@@ -38,7 +38,7 @@ abbrev pub lemma_stored : Option Stored → ℕ
 lemma_stored None = 0
 lemma_stored (Some s) = s.lemma
 
--- what is stored of the time of a rule, and of the size of a place after it; places count from 1
+-- the entry of the time of a rule, and that of the size of a place after it; places count from 1
 abbrev pub stored_time : Table → ℕ → Option Stored
 stored_time tab t = entry_at tab.times.items t
 
@@ -53,7 +53,7 @@ table_of tab = record {
   size = λ t i. bound_stored (stored_size tab t i);
 }
 
--- what is stored of a key: of the time of a rule at place 0, and of its sizes at the places of its target
+-- the entry of a key: of the time of a rule at place 0, and of its sizes at the places of its target
 abbrev pub stored_in : Table → ℕ → ℕ → Option Stored
 stored_in tab t zero = stored_time tab t
 stored_in tab t (suc i) = stored_size tab t (suc i)

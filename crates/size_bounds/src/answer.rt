@@ -9,7 +9,7 @@ pub enum SizeAnswer {
     Found { node: Proof, facts: Vec<Fact> },
     /// This size, which is needed from outside, is missing.
     Missing(ResultVariable),
-    /// A polynomial arm of this member reads a member.
+    /// A polynomial side bound of this member reads a member.
     Nonlinear(ResultVariable),
     /// The time of this rule, which is needed, is missing.
     Untimed { rule: u32 },

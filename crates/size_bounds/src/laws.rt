@@ -1,4 +1,4 @@
-//! What is found of sizes is accepted behind lemmas.
+//! The law that a size that is found is accepted after the lemmas that it cites.
 
 ghost use Rattle.size_bounds.specs.Laws.{FoundSizesAreAccepted};
 

@@ -23,13 +23,13 @@ use its_graph::Graph;
 use size_nodes::{Sizing, size_facts, sized_cycle};
 use std::alloc::Global;
 
-/// The size of all members of a loop of places: the sizes that enter the loop from outside, plus what its rules add,
-/// each times its time, all times the factor of each rule that multiplies to the power of its time. `Found` has a node
-/// that states it for each member and cites the lemmas of the sizes and times that are needed. If there is none, the
-/// first of these reasons is given: `Missing`, a size from outside that isn't known, in the order of members, then of
-/// the rules before, up before low, places ascending; `Nonlinear`, a member of which a polynomial arm reads a member;
-/// `Untimed`, the least rule that multiplies or adds and has no time; and `Large`, how many nodes the composed bound
-/// has.
+/// The size of all members of a loop of places: the sizes that enter the loop from outside, plus the additions of its
+/// rules, each times its time, all times the factor of each rule that multiplies to the power of its time. `Found` has
+/// a node that states it for each member and cites the lemmas of the sizes and times that are needed. If there is
+/// none, the first of these reasons is given: `Missing`, a size from outside that isn't known, in the order of
+/// members, then of the rules before, up before low, places ascending; `Nonlinear`, a member of which a polynomial
+/// side bound reads a member; `Untimed`, the least rule that multiplies or adds and has no time; and `Large`, the
+/// number of nodes of the composed bound.
 ///
 /// # Errors
 ///

@@ -22,10 +22,11 @@ use its_graph::Graph;
 use size_nodes::{Sizing, sized_spread};
 use std::alloc::Global;
 
-/// The size of a place after a rule whose arms read no place of its own loop: the maximum, over the rules that can come
-/// before, of both arms at the sizes after that rule. `Found` has a node that states it and cites the lemmas of the
-/// sizes that are read; `Missing` the first of these sizes that isn't known, in the order of the rules before, up
-/// before low, places ascending; `Large` how many nodes the composed bound has. `Nonlinear` and `Untimed` never come.
+/// The size of a place after a rule whose side bounds read no place of its own loop: the maximum, over the rules that
+/// can come before, of both side bounds at the sizes after that rule. `Found` has a node that states it and cites the
+/// lemmas of the sizes that are read; `Missing` the first of these sizes that isn't known, in the order of the rules
+/// before, up before low, places ascending; `Large` the number of nodes of the composed bound. `Nonlinear` and
+/// `Untimed` never come.
 ///
 /// # Errors
 ///
@@ -74,7 +75,7 @@ fn spread_node(
     Ok(Proof::Spread(Box::new(alloc, node)?))
 }
 
-// The fact that this is the size of a spot.
+// The fact that this is the size of a result variable.
 fn size_fact(
     alloc: Global,
     result_variable: ResultVariable,

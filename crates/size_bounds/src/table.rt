@@ -9,8 +9,8 @@ use bound_expr::Bound;
 use cert_types::{Known, ResultVariable};
 use outcome::Stored;
 
-/// What is known: a time of each rule or none, and a size of each place after each rule or none, each with the number
-/// of the lemma that states it. The virtual entry has the index 0.
+/// The known bounds: a time of each rule or none, and a size of each place after each rule or none, each with the
+/// number of the lemma that states it. The virtual entry has the index 0.
 #[derive(Debug, Drop)]
 pub struct Table {
     pub times: Vec<Option<Stored>>,
@@ -68,7 +68,7 @@ impl Known for Table {
     }
 }
 
-// What is stored at a position, where something is.
+// The entry at a position, if there is one.
 fn stored_at(bounds: &[Option<Stored>], position: usize) -> Option<&Stored>
     ensures { optional_stored result ≡ entry_at bounds.now position }
 {
@@ -81,7 +81,7 @@ fn stored_at(bounds: &[Option<Stored>], position: usize) -> Option<&Stored>
     }
 }
 
-// The bound of what is stored.
+// The bound of an entry.
 fn bound_in(stored: Option<&Stored>) -> Option<&Bound>
     ensures { optional_bound result ≡ bound_stored (optional_stored stored.entry) }
 {

@@ -10,7 +10,7 @@ use Rattle.cert_types.proofs.cert_rules.FirstReasons.{HasSize}
 use Rattle.size_nodes.specs.Needs.{this_or, first_missing}
 use Rattle.model.proofs.Cases.{none_some as none-some, some_same as some-same}
 
--- where a check for each element passes, the first that fails is the first behind them
+-- if the check for each element passes, the first check that fails is the first one after them
 pub behind-each : {A : Type 0} (f : A → Check) (xs : List A) (rest : List Check) (r : Reason)
     → AllByRecursion (λ x. (f x).holds) xs → IsFirstAmong rest r → IsFirstAmong (for_each f xs rest) r
 behind-each f [] rest r h k = k

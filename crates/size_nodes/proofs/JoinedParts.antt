@@ -56,7 +56,7 @@ one_pushed xs new x b en ex =
 pub none_pushed : (ps : Parts) → ps ≡ joined ps NoParts
 none_pushed ps = sym (joined-nothing ps)
 
--- the same, by a test
+-- a part that a test chooses is pushed
 pub pushed_where : (v : Bool) (xs new : List Bound) (x : Bound) (b : plain.Bound) → v ≡ true → new ≡ xs ++ x ∷ []
     → bound_of x ≡ b → parts_of (bounds_of new) ≡ joined (parts_of (bounds_of xs)) (cond v (Part b NoParts) NoParts)
 pushed_where v xs new x b h en ex =

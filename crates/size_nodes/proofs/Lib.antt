@@ -1,12 +1,12 @@
 -- loops over lists
 pub mod ListSteps
--- the sizes that arms need
+-- the sizes that side bounds read
 pub mod NeededResultVariables
 -- the first of them that isn't known
 pub mod FirstMissing
--- the rows and arms of members
+-- the rows and side bounds of members
 pub mod ProgramMembers
--- what is answered of a place that doesn't loop
+-- the answers for a place that doesn't loop
 pub mod SpreadAnswers
 -- the members after one rule
 pub mod MembersAfter
@@ -15,17 +15,17 @@ pub mod MembersAfter
 pub mod LoopMembers
 -- parts that are joined
 pub mod JoinedParts
--- what flows into members
+-- the flows into members
 pub mod LoopFlows
--- how often arms take members
+-- the coefficients of side bounds at members
 pub mod Slopes
--- what the rules of a loop do
+-- the growth by the rules of a loop
 pub mod LoopParts
 -- the flows of one rule
 pub mod RuleFlows
 -- the rules of members
 pub mod MemberRules
--- the members of which an arm reads a member
+-- the members that a side bound reads
 pub mod NonlinearMembers
--- what is answered of a loop
+-- the answers for a loop
 pub mod LoopAnswers

@@ -1,4 +1,4 @@
--- What is answered of a loop is the first reason why it isn't accepted, or the node that is.
+-- The answer for a loop is the first reason why it isn't accepted, or the node that is.
 use Rattle.std.proofs.Common.{◌≡◌, inl, inr, ℕ, cond, List, [], ◌∷◌, ◌++◌, map, Option, Some, None, refl, sym, ap, ◌∙◌, subst}
 use Rattle.std.specs.List.{AllByRecursion}
 use Rattle.std.proofs.lemmas.List.Elements.{recursion_from_All}
@@ -64,7 +64,7 @@ module _ (tab : Table) where
 
 module _ (p : Program) (g : Graph) (prepared_rules : List RuleRows) (tab : Table) (ms : List Member)
     (given : AreMembersOfProgram p g prepared_rules ms) where
-  -- what the loop needs
+  -- the premises of the loop
   abbrev needed : List ResultVariable
   needed = needed_into (setting_of p) ms ms
 
@@ -80,7 +80,7 @@ module _ (p : Program) (g : Graph) (prepared_rules : List RuleRows) (tab : Table
   lows : AllByRecursion (AcceptsLow (setting_of p)) ms
   lows = recursion_from_All (AcceptsLow (setting_of p)) ms given.low
 
-  -- the checks behind those of the arms, of the sizes, of the bends and of the times
+  -- the checks after those of the side bounds, of the sizes, of linearity and of the times
   abbrev small_checks : List Check
   small_checks = check_small (setting_of p) whole ∷ []
 
@@ -110,7 +110,7 @@ module _ (p : Program) (g : Graph) (prepared_rules : List RuleRows) (tab : Table
     behind-sizes : (r : Reason) → IsFirstAmong nonlinear_checks r → IsFirstAmong (cycle_checks (setting_of p) tab ms) r
     behind-sizes r h = behind-side_bounds r (behind-each (check_size tab) needed nonlinear_checks r (all-known tab needed none) h)
 
-    -- where none is, the first member that is bent
+    -- if none is missing, the first nonlinear member
     pub is-nonlinear : (result_variable : ResultVariable) → first_nonlinear (setting_of p) ms ms ≡ Some result_variable
         → IsFirstAmong (cycle_checks (setting_of p) tab ms) (Nonlinear result_variable.rule result_variable.place)
     is-nonlinear result_variable e =
@@ -133,7 +133,7 @@ module _ (p : Program) (g : Graph) (prepared_rules : List RuleRows) (tab : Table
           (behind-each (check_time tab) timed small_checks (Large n) (times-known tab timed e)
           (inl (h, ap Large (sym k))))
 
-      -- and else the node is accepted
+      -- otherwise the node is accepted
       is-accepted : first_unknown tab.time timed ≡ None → IsSmallComposed rewritten whole
           → AcceptsCycle (setting_of p) tab ms
       is-accepted e h = passes-cycle (setting_of p) tab ms (
@@ -158,7 +158,7 @@ module _ (p : Program) (g : Graph) (prepared_rules : List RuleRows) (tab : Table
       sizing-where a None e h = timed-sizing a e h
       sizing-where a (Some t) e h = subst (IsCycleSizing (setting_of p) tab ms) (sym h) (is-untimed t e)
 
-      -- what is answered over the flows and the rules of the loop is answered of it
+      -- the answer over the flows and the rules of the loop is the answer for the loop
       pub is-sized : (a : Sizing) (result_variables : List ResultVariable) (fs : List Flow) (ts : List ℕ)
           → result_variables ≡ needed → fs ≡ flows (setting_of p) ms tab.size → ts ≡ rules_of (setting_of p) ms
           → IsLoopSizing tab result_variables (base_of fs) (map (growth_by_flows fs) ts) a → IsCycleSizing (setting_of p) tab ms a

@@ -1,5 +1,5 @@
--- What is known of a member of a loop: its rule is one of the graph, and the numbers of its arms are within their
--- limits.
+-- The properties of a member of a loop: its rule is one of the graph, and the numbers of its side bounds are within
+-- their limits.
 use Rattle.std.proofs.Common.{◌≡◌, ℕ, zero, suc, ◌<◌, ◌≤◌, List, length, Some, None, ap, ◌∙◌, arith}
 use Rattle.std.proofs.lemmas.List.{length-map}
 use Rattle.std.proofs.lemmas.Option.{slice_get_within}
@@ -32,7 +32,7 @@ module _ (p : Program) (g : Graph) (prepared_rules : List RuleRows) where
           let n = ap length h.graph.links ∙ length-map p.rules ends_of in
           (omega arith, omega (arith, l, n))
 
-  -- and the numbers of its arms are within their limits
+  -- the numbers of its side bounds are within their limits
   pub limited : (m : nodes.Member) → IsMemberOfProgram p g prepared_rules m → (side_bound : SideBound)
       → HasSideBoundShape (setting_of p) m.result_variable.rule (left_of p m.result_variable.rule) (side_bound_of side_bound) → IsLimited side_bound
   limited m h (Linear den coefs constant multipliers) shape =

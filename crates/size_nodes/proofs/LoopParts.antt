@@ -1,4 +1,4 @@
--- What the rules of a loop do, as its composed bound has it.
+-- The growth by the rules of a loop, as in its composed bound.
 use Rattle.std.proofs.Common.{◌≡◌, ℕ, ◌||◌, Bool, true, false, List, [], ◌∷◌, map, filter, Option, refl, ap, ◌∙◌}
 use Rattle.model.specs.Bounds.{Bound, SumOf, ProductOf, PowerOf, Parts, NoParts, Part}
 use Rattle.model.specs.Programs.{Program}

@@ -20,7 +20,7 @@ abbrev Rises : ℕ → List ℕ → Type 0
 Rises b [] = Unit {0}
 Rises b (x ∷ xs) = (b ≤ x) × Rises (suc x) xs
 
--- they rise from a lesser number on
+-- numbers that rise from b rise from any lesser number
 rises-from : (a b : ℕ) (xs : List ℕ) → a ≤ b → Rises b xs → Rises a xs
 rises-from a b [] l h = tt
 rises-from a b (x ∷ xs) l h = (omega (arith, l, h.0), h.1)
@@ -102,7 +102,7 @@ ascend m (n ∷ ms) h = (go h.0, ascend n ms h.1)
     go (inl k) = omega (arith, k)
     go (inr k) = omega (arith, k.0)
 
--- so their rules, each once, rise
+-- the rules of members, each once, rise
 rules-rise : (t : ℕ) (ms : List Member) → Ascend t ms → Rises (suc t) (rules_after t ms)
 rules-rise t [] h = tt
 rules-rise t (m ∷ ms) h = go (eqb_tells m.result_variable.rule t) (rules-rise m.result_variable.rule ms h.1)

@@ -13,7 +13,7 @@ use Rattle.cert_types.specs.cert_rules.Checks.{result_variables_after}
 use Rattle.cert_types.specs.declared.side_bound.Member.{Member}
 use Rattle.cert_types.specs.Views.{member_of}
 
--- what comes before has no greater rule
+-- a member that comes before another has no greater rule
 pub no-greater : (a b : nodes.ResultVariable) → ComesBefore a b → a.rule ≤ b.rule
 no-greater a b (inl l) = omega (arith, l)
 no-greater a b (inr h) = omega (arith, h.0)
@@ -89,7 +89,7 @@ pub before-greater : (ms : List Member) (rule i : ℕ) → AllWithin (λ (m : Me
 before-greater ms rule i h = λ t j. any-take (λ m. (m.result_variable.rule == rule) && (m.result_variable.place == suc j)) ms i (λ k d l n.
     other-rule (get_or ms k d).result_variable.rule rule ((get_or ms k d).result_variable.place == suc j) (λ e. omega (arith, e, h k d l n))) t
 
--- what is outside of members is outside of those after the rule
+-- the result variables outside members are those outside the members after the rule
 pub outside-same : (xs ms : List nodes.Member) (rule : ℕ) (js : List ℕ) → is_member xs rule ≡ is_member ms rule
     → result_variables_outside xs rule js ≡ result_variables_outside ms rule js
 outside-same xs ms rule js e = ap (λ (inside : ℕ → Bool). result_variables_after rule (filter (λ j. not (inside j)) js)) e

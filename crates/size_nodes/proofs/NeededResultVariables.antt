@@ -1,4 +1,4 @@
--- The sizes that arms need, place by place and rule by rule.
+-- The sizes that side bounds read, place by place and rule by rule.
 use Rattle.cert_types.specs.declared.side_bound.ResultVariable.{ResultVariable as CodeResultVariable}
 use Rattle.std.proofs.Common.{◌≡◌, ℕ, zero, suc, ◌+◌, ◌^◌, ◌<◌, ◌≤◌, ◌&&◌, not, Bool, true, false, List, [], ◌∷◌, ◌++◌}
 use Rattle.std.proofs.Common.{map, filter, All, Option, refl, sym, ap, ◌∙◌, arith}
@@ -16,7 +16,7 @@ use Rattle.cert_types.specs.Sizes.{is_result_variable}
 use Rattle.cert_types.specs.Reading.{places_read}
 use Rattle.size_nodes.specs.Needs.{result_variables_outside, result_variables_from}
 
--- what passes two tests passes the one and then the other
+-- filtering by two tests is filtering by one and then by the other
 filter-both : (f g : ℕ → Bool) (xs : List ℕ)
     → filter (λ j. f j && not (g j)) xs ≡ filter (λ j. not (g j)) (filter f xs)
 filter-both f g [] = refl
@@ -29,14 +29,14 @@ filter-both f g (x ∷ xs) = go (f x) refl (g x) refl (filter-both f g xs)
     go true e false k h = rw (e, k) (ap (λ (ys : List ℕ). x ∷ ys) h)
     go false e w k h = rw e h
 
--- the sizes that an arm needs after a rule are those of the places that it reads except for the members
+-- the sizes that a side bound reads after a rule are those of the places that it reads except for the members
 needed-outside : (s : Setting) (members : List Member) (m : Member) (side_bound : SideBound) (e : ℕ)
     → needed_by s members m side_bound e
     ≡ result_variables_outside members e (places_read (poly_at s m.result_variable) side_bound (left_of s.program m.result_variable.rule))
 needed-outside s members m side_bound e =
     ap (result_variables_after e) (filter-both (λ j. reads (poly_at s m.result_variable) side_bound j) (λ j. is_member members e j) _)
 
--- the same for a member, after each of these rules
+-- the sizes that a member reads, after each of these rules
 pub needed-result_variables : (s : Setting) (members : List Member) (m : Member) (es : List ℕ)
     → needed_from s members m es
     ≡ result_variables_from members (places_read (poly_at s m.result_variable) m.local.up (left_of s.program m.result_variable.rule))
@@ -66,11 +66,11 @@ few_read poly side_bound left l =
     (each-filter (λ j. j < 2 ^ 31) (λ j. reads poly side_bound j) (range_with_len 0 left) (below-range 0 left (2 ^ 31) (omega (arith, l))))
 
 module _ (members : List Member) (rule : ℕ) where
-  -- a place is left out where it is a member, and else it is one spot
+  -- a place is left out if it is a member, and else it is one result variable
   same-result_variable : (position : ℕ) → is_result_variable members rule (position + 1) ≡ is_member members rule position
   same-result_variable position = ap (λ (n : ℕ). is_result_variable members rule n) (let e : position + 1 ≡ suc position = omega arith in e)
 
-  -- a place that is a member adds no spot to those that are needed
+  -- a place that is a member adds no result variable to the needed ones
   pub inside_left_out : (position : ℕ) (result_variables : List ResultVariable) → true ≡ is_result_variable members rule (position + 1)
       → result_variables ≡ result_variables ++ result_variables_outside members rule (position ∷ [])
   inside_left_out position result_variables h =
@@ -79,7 +79,7 @@ module _ (members : List Member) (rule : ℕ) where
       none : is_member members rule position ≡ true → result_variables_outside members rule (position ∷ []) ≡ []
       none e = rw e refl
 
-  -- a place that is no member has its spot pushed to those that are needed
+  -- a place that is no member has its result variable pushed to the needed ones
   pub outside_pushed : (position : ℕ) (old new : List CodeResultVariable) (result_variable : CodeResultVariable) → new ≡ old ++ result_variable ∷ []
       → result_variable_of result_variable ≡ record { rule = rule; place = position + 1 } → false ≡ is_result_variable members rule (position + 1)
       → map result_variable_of new ≡ map result_variable_of old ++ result_variables_outside members rule (position ∷ [])

@@ -1,4 +1,4 @@
--- The checks that no polynomial arm reads a member, and the first member of which one does.
+-- The checks that no polynomial side bound reads a member, and the first member of which one does.
 use Rattle.std.proofs.Common.{◌≡◌, inl, inr, ℕ, ◌+◌, ◌<◌, ◌||◌, cond, length, map, get_or, drop, Bool, true, false}
 use Rattle.std.proofs.Common.{List, [], ◌∷◌, Option, Some, None, refl, sym, ap, ◌∙◌, subst}
 use Rattle.std.specs.List.{list_any}
@@ -63,7 +63,7 @@ one-reads members e (m ∷ q) h = go (list_any (is_member members e) m.vars) ref
         let (j, is_there, inside) = later l in
         (j, or_right (is_in j m.vars) (list_any (λ n. is_in j n.vars) q) is_there, inside)
 
--- an arm is bent where the same places are members
+-- a side bound is nonlinear alike over member lists with the same places after the rule
 pub same-nonlinear : (o : Option Polynomial) (xs ys : List Member) (side_bound : SideBound) (e : ℕ) → is_member xs e ≡ is_member ys e
     → is_nonlinear_side_bound o xs side_bound e ≡ is_nonlinear_side_bound o ys side_bound e
 same-nonlinear o xs ys (Linear den form multipliers) e h = refl
@@ -71,7 +71,7 @@ same-nonlinear None xs ys Poly e h = refl
 same-nonlinear (Some q) xs ys Poly e h = λ i. list_any (λ m. list_any (h i) m.vars) q
 
 module _ (s : Setting) (members : List Member) where
-  -- an arm that isn't bent is straight, and one that is bent isn't
+  -- a side bound that isn't nonlinear is straight, and one that is isn't
   straight-side_bound : (o : Option Polynomial) (m : Member) (side_bound : SideBound) (e : ℕ) → poly_at s m.result_variable ≡ o
       → is_nonlinear_side_bound o members side_bound e ≡ false → IsStraightSideBound s members m e side_bound
   straight-side_bound o m (Linear den form multipliers) e d h = tt
@@ -90,14 +90,14 @@ module _ (s : Setting) (members : List Member) where
       (k j (subst (λ (q : Option Polynomial). has_variable q j ≡ true) (sym d) is_there)) inside
 
   module _ (m : Member) (rest : List Check) where
-    -- the test of both arms after these rules
+    -- the test of both side bounds after these rules
     abbrev is_nonlinear : List ℕ → Bool
     is_nonlinear es = is_nonlinear_over (poly_at s m.result_variable) members m.local es
 
     abbrev side_bound_nonlinear : SideBound → ℕ → Bool
     side_bound_nonlinear side_bound e = is_nonlinear_side_bound (poly_at s m.result_variable) members side_bound e
 
-    -- where it fails the checks pass
+    -- if the test fails, the checks pass
     pub from-first : (es : List ℕ) → is_nonlinear es ≡ false → (r : Reason) → IsFirstAmong rest r
         → IsFirstAmong (straight_from s members m es rest) r
     from-first [] h r k = k
@@ -118,7 +118,7 @@ module _ (s : Setting) (members : List Member) where
           (straight-side_bound (poly_at s m.result_variable) m m.local.low e refl side_bounds.1, from-passes es both.1 k),
         )
 
-    -- where it holds the first that fails is of this member
+    -- if the test is true, the first check that fails is of this member
     pub from-nonlinear : (es : List ℕ) → is_nonlinear es ≡ true
         → IsFirstAmong (straight_from s members m es rest) (Nonlinear m.result_variable.rule m.result_variable.place)
     from-nonlinear [] h = absurd (no_is_not_yes false refl h)
@@ -139,7 +139,7 @@ module _ (s : Setting) (members : List Member) where
         )
 
   module _ (rest : List Check) where
-    -- where no member is bent the checks pass
+    -- if no member is nonlinear, the checks pass
     pub straight-first : (ms : List Member) → first_nonlinear s members ms ≡ None → (r : Reason) → IsFirstAmong rest r
         → IsFirstAmong (straight_into s members ms rest) r
     straight-first [] h r k = k
@@ -169,7 +169,7 @@ module _ (s : Setting) (members : List Member) where
             some-none x d = cc
         go false e l later = from-passes m (straight_into s members ms rest) (pre s.program m.result_variable.rule) e (later (rw e at l) k)
 
-    -- the first bent member is that of the first check that fails
+    -- the first nonlinear member is that of the first check that fails
     pub nonlinear-first : (ms : List Member) (result_variable : ResultVariable) → first_nonlinear s members ms ≡ Some result_variable
         → IsFirstAmong (straight_into s members ms rest) (Nonlinear result_variable.rule result_variable.place)
     nonlinear-first [] result_variable h = absurd (none-some result_variable h)
@@ -193,7 +193,7 @@ module _ (s : Setting) (members : List Member) where
             from-first m (straight_into s members ms rest) (pre s.program m.result_variable.rule) e (Nonlinear result_variable.rule result_variable.place)
             (later (rw e at l))
 
-  -- the members that are left decide: the first of them is bent, or it isn't
+  -- the remaining members decide, by whether the first of them is nonlinear
   module _ (ms : List code.Member) (i : ℕ) (m : code.Member) (low : i < length ms) (e : m ≡ get_or ms i m) where
     left : first_nonlinear s members (map member_of (drop i ms))
         ≡ cond (is_nonlinear_by s members (member_of m)) (Some (result_variable_of m.result_variable))

@@ -1,4 +1,4 @@
--- What is known of a member of a program: its rule's rows, and that its arms can be read.
+-- The properties of a member of a program: its rule's rows, and that its side bounds can be read.
 use Rattle.std.proofs.Common.{◌≡◌, ℕ, zero, suc, ◌+◌, ◌-◌, ◌^◌, ◌<◌, ◌≤◌, Bool, true, false, if◌then◌else◌, List, []}
 use Rattle.std.proofs.Common.{◌∷◌, length, map, get_or, slice_get, All, Option, Some, None, option_map, refl, sym, ap}
 use Rattle.std.proofs.Common.{subst, ◌∙◌, arith}
@@ -54,7 +54,7 @@ module _ (p : Program) (prepared_rules : List RuleRows) (rows : AreRowsOf prepar
   row-within (suc t) r e =
       let l = slice_get_within p.rules t r e in (omega arith, omega (arith, l, same-length))
 
-  -- which are its own
+  -- these rows are the rule's own
   pub row-is : (t : ℕ) (r : Rule) (prepared_rule : RuleRows) → rule_at p t ≡ Some r → prepared_rule ≡ get_or prepared_rules (t - 1) prepared_rule
       → prepared_of prepared_rule ≡ prepared r
   row-is zero r prepared_rule e h = absurd (none e)
@@ -101,7 +101,7 @@ few-terms w [] l h = tt
 few-terms w (m ∷ ms) l h =
     (All-from_recursion (λ v. v < 2 ^ 31) m.vars.items (few-variables w m.vars.items l h.0), few-terms w ms l h.1)
 
--- so it has few places
+-- an update has few places
 pub few-places : (w : ℕ) (o : Option (Bor Poly)) (polys : List Polynomial) (place : ℕ) → w ≤ 64
     → AllByRecursion (HasVariablesBelow w) polys → optional_poly o ≡ update_at polys place → HasFewPlaces o
 few-places w None polys place l h e = tt
@@ -120,7 +120,7 @@ updates-below n [] h = tt
 updates-below n (u ∷ us) h = (variables-expanded n u h.0.variables, updates-below n us h.1)
 
 module _ (p : Program) (prepared_rules : List RuleRows) (rows : AreRowsOf prepared_rules p) where
-  -- the update of a spot is that of its rule's rows
+  -- the update of a result variable is that of its rule's rows
   pub poly_is : (result_variable : ResultVariable) → IsResultVariable p result_variable → (prepared_rule : RuleRows) → prepared_rule ≡ get_or prepared_rules (result_variable.rule - 1) prepared_rule
       → update_at (map poly_of prepared_rule.polys.items) result_variable.place ≡ poly_at (setting_of p) result_variable
   poly_is result_variable is prepared_rule e =
@@ -131,7 +131,7 @@ module _ (p : Program) (prepared_rules : List RuleRows) (rows : AreRowsOf prepar
       told zero = refl
       told (suc i) = refl
 
-  -- and has few places
+  -- the update of a result variable has few places
   pub poly_few : IsValid p → (result_variable : ResultVariable) → IsResultVariable p result_variable → (prepared_rule : RuleRows) → prepared_rule ≡ get_or prepared_rules (result_variable.rule - 1) prepared_rule
       → (o : Option (Bor Poly)) → optional_poly o ≡ update_at (map poly_of prepared_rule.polys.items) result_variable.place → HasFewPlaces o
   poly_few v result_variable is prepared_rule e o seen =
@@ -142,7 +142,7 @@ module _ (p : Program) (prepared_rules : List RuleRows) (rows : AreRowsOf prepar
       (updates-below (is.rule.left + is.rule.free) is.rule.updates h.updates))
       seen
 
-  -- this many left variables has its rule, which are few
+  -- the number of left variables is that of the rule, and small
   pub left_is : (result_variable : ResultVariable) → IsResultVariable p result_variable → (prepared_rule : RuleRows) → prepared_rule ≡ get_or prepared_rules (result_variable.rule - 1) prepared_rule
       → prepared_rule.left ≡ left_of p result_variable.rule
   left_is result_variable is prepared_rule e =

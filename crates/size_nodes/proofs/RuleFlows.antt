@@ -26,7 +26,7 @@ abbrev ComeFrom : ℕ → List flows.Flow → Type 0
 ComeFrom t [] = ⊤
 ComeFrom t (f ∷ fs) = (t ≤ f.rule) × ComeFrom f.rule fs
 
--- the same for a lesser rule
+-- flows of rules from t on are flows of rules from any lesser one on
 come-weaker : (s t : ℕ) (fs : List flows.Flow) → s ≤ t → ComeFrom t fs → ComeFrom s fs
 come-weaker s t [] l h = tt
 come-weaker s t (f ∷ fs) l h = (omega (arith, l, h.0), h.1)
@@ -39,7 +39,7 @@ module _ (s : Setting) (members : List Member) (size : ℕ → ℕ → Option pl
   come-block m (e ∷ es) rest h =
       let same : m.result_variable.rule ≤ m.result_variable.rule = omega arith in (same, (same, come-block m es rest h))
 
-  -- what flows into members that ascend comes by rules
+  -- the flows into ascending members come in the order of rules
   come-all : (t : ℕ) (m : Member) (ms : List Member) → t ≤ m.result_variable.rule → AreAscending (m ∷ ms)
       → ComeFrom t (flows_into s members size (m ∷ ms))
   come-all t m [] l h =
@@ -54,7 +54,7 @@ module _ (s : Setting) (members : List Member) (size : ℕ → ℕ → Option pl
   come-flows [] h = tt
   come-flows (m ∷ ms) h = come-all 0 m ms (omega arith) h
 
--- the same for flows of the code each two that are neighbours
+-- flows of the code whose neighbours are ordered come in the order of rules
 come-adjacent : (t : ℕ) (fs : List Flow) → ComeFrom t (map flow_of fs)
     → AllAdjacentBelow (λ (x y : Flow). x.rule ≤ y.rule) fs (length fs)
 come-adjacent t [] h k d l = absurd (omega (arith, l))
@@ -94,11 +94,11 @@ module _ (t : ℕ) where
       ap (λ (v : Bool). cond (v && not (f.slope == 0)) (Part (flow_of f).offset (offsets (is_inner t) fs)) (offsets (is_inner t) fs))
       (sym (other f.rule n))
 
-  -- what is read off flows, where one of another rule in front makes no difference
+  -- a function of flows that ignores a flow of another rule in front
   module _ {A : Type 0} (read : List flows.Flow → A)
       (passed : (f : Flow) (fs : List flows.Flow) → IsOther f → read fs ≡ read (flow_of f ∷ fs))
       (kept : (f : Flow) (xs ys : List flows.Flow) → read xs ≡ read ys → read (flow_of f ∷ xs) ≡ read (flow_of f ∷ ys)) where
-    -- nor do those before a position
+    -- such a function ignores the flows of other rules before a position
     read-drop : (fs : List Flow) (i : ℕ) → AllWithin IsOther fs 0 i → read (map flow_of (drop i fs)) ≡ read (map flow_of fs)
     read-drop [] zero h = refl
     read-drop [] (suc i) h = refl
@@ -113,7 +113,7 @@ module _ (t : ℕ) where
         read-none fs (λ k d l m. h (suc k) d (omega arith) (omega (arith, m)))
         ∙ passed f (map flow_of fs) (h zero f (omega arith) (omega arith))
 
-    -- nor those from a position on
+    -- such a function ignores the flows of other rules from a position on
     read-take : (fs : List Flow) (i : ℕ) → AllWithin IsOther fs i (length fs) → read (map flow_of (take i fs)) ≡ read (map flow_of fs)
     read-take [] zero h = refl
     read-take [] (suc i) h = refl
@@ -131,7 +131,7 @@ module _ (t : ℕ) where
   offsets-kept f xs ys e =
       ap (λ (ps : Parts). cond (is_inner t (flow_of f)) (Part (flow_of f).offset ps) ps) e
 
-  -- what a rule does, by its factor and by the offsets of its flows
+  -- the growth by a rule, from its factor and the offsets of its flows
   abbrev made : ℕ → Parts → Growth
   made n ps = record {
     rule = t;

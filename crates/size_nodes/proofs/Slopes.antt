@@ -1,4 +1,4 @@
--- Arms take members neither by coefficients that are 0 nor after rules without members.
+-- Side bounds multiply members neither by coefficients that are 0 nor after rules without members.
 use Rattle.std.proofs.Common.{◌≡◌, ℕ, ◌+◌, ◌≤◌, ◌-◌, Bool, true, false, cond, List, [], ◌∷◌, length, map, refl, sym, ap, ◌∙◌, arith}
 use Rattle.std.specs.Prelude.{ℤ, pos, nat_abs}
 use Rattle.std.proofs.lemmas.Nat.{div_below}
@@ -24,7 +24,7 @@ no-inner : (cs : List ℤ) (den : ℕ) → inner_sum cs den (λ j. false) ≡ 0
 no-inner [] den = refl
 no-inner (c ∷ cs) den = let e = no-inner cs den in omega (arith, e)
 
--- after a rule without members an arm takes none
+-- after a rule without members the slope is 0
 pub outer_slope : (side_bound : SideBound) (ms : List Member) (rule : ℕ) → length ms ≡ 0 → 0 ≡ slope_of side_bound (is_member (map member_of ms) rule)
 outer_slope (Linear den form multipliers) [] rule e = sym (no-inner form.coefs den)
 outer_slope Poly ms rule e = refl

@@ -1,4 +1,4 @@
--- What is answered of a place that doesn't loop.
+-- The answers for a place that doesn't loop.
 use Rattle.std.proofs.Common.{◌≡◌, inl, inr, ℕ, [], ◌∷◌, Some, None, sym, ap}
 use Rattle.model.specs.Bounds.{Bound}
 use Rattle.bound_table.specs.InForce.{rewritten}
@@ -49,7 +49,7 @@ module _ (p : Program) (tab : Table) (m : Member) (shape : HasMemberShape (setti
           → Large (large_nodes rewritten (spread_size (setting_of p) tab m)) ≡ Large n
       large-told n e = ap Large (sym e)
 
-  -- and else the node is accepted, and states this bound
+  -- otherwise the node is accepted, and states this bound
   pub is-accepted : (b : Bound) → first_missing tab (needed_into (setting_of p) [] (m ∷ [])) ≡ None
       → rewritten_within (spread_size (setting_of p) tab m) ≡ Fits b
       → AcceptsSpread (setting_of p) tab m × (b ≡ rewritten (spread_size (setting_of p) tab m))

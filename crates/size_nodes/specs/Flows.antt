@@ -12,7 +12,8 @@ use Rattle.cert_types.specs.declared.side_bound.SideBound.{SideBound}
 use Rattle.cert_types.specs.declared.side_bound.SideBound.TheVariants.{Linear, Poly}
 use Rattle.size_nodes.specs.declared.flow.Flow as code
 
--- the numbers of a linear arm are within their limits, and it has no more coefficients than a rule has variables
+-- the numbers of a linear side bound are within their limits, and it has no more coefficients than a rule has
+-- variables
 abbrev pub IsLimited : SideBound → Type 0
 IsLimited (Linear den coefs constant multipliers) =
     (1 ≤ den) × ((length coefs.items ≤ 64) × All (λ c. IsInLimit (nat_abs c)) coefs.items)
@@ -22,7 +23,7 @@ IsLimited Poly = Unit {0}
 abbrev pub flow_of : code.Flow → Flow
 flow_of f = record { rule = f.rule; slope = f.slope; offset = bound_of f.offset }
 
--- what flows into a member by an arm from rule e, with the polynomial of its place
+-- the flow into a member by a side bound from rule e, with the polynomial of its place
 abbrev pub flow_over : Option Polynomial → List Member → (ℕ → ℕ → Option Bound) → Member → nodes.SideBound → ℕ → Flow
 flow_over q members size m side_bound e = record {
   rule = m.result_variable.rule;
@@ -30,7 +31,7 @@ flow_over q members size m side_bound e = record {
   offset = offset_of q side_bound (is_member members e) (sizes_after size e);
 }
 
--- what flows into it from these rules, up before low
+-- the flows into a member from these rules, up before low
 abbrev pub flows_over : Option Polynomial → List Member → (ℕ → ℕ → Option Bound) → Member → List ℕ → List Flow
 flows_over q members size m [] = []
 flows_over q members size m (e ∷ es) =

@@ -25,18 +25,18 @@ abbrev pub all_joined : {A : Type 0} → (A → Parts) → List A → Parts
 all_joined f [] = NoParts
 all_joined f (x ∷ xs) = joined (f x) (all_joined f xs)
 
--- what a rule of a loop does: by what it multiplies, what it adds, and whether that, rewritten, isn't 0
+-- the growth by a rule of a loop: its factor, its addition, and whether the rewritten addition isn't 0
 pub record Growth : Type 0 where
   pub rule : ℕ
   pub factor : ℕ
   pub addition : Bound
   pub adds : Bool
 
--- it as plain data
+-- a growth as plain data
 abbrev pub growth_of : code.Growth → Growth
 growth_of g = record { rule = g.rule; factor = g.factor; addition = bound_of g.addition; adds = g.adds }
 
--- what a rule does by these flows
+-- the growth by a rule with these flows
 abbrev pub growth_by_flows : List Flow → ℕ → Growth
 growth_by_flows fs t = record {
   rule = t;

@@ -1,4 +1,4 @@
--- Members of a program, whose shapes are right and whose arms are accepted.
+-- Members of a program, with right shapes and accepted side bounds.
 use Rattle.std.specs.Prelude.{List}
 use Rattle.std.specs.List.{All}
 use Rattle.model.specs.Programs.{Program}
@@ -12,7 +12,7 @@ use Rattle.cert_types.specs.cert_rules.Nodes.{Member}
 use Rattle.cert_types.specs.cert_program.Setting.{setting_of}
 use Rattle.size_nodes.specs.declared.transitions.Transitions.{Transitions}
 
--- the graph and the rows are those of a program, and the arms of a member are accepted
+-- the graph and the rows are those of a program, and the side bounds of a member are accepted
 pub record IsMemberOfProgram (p : Program) (g : Graph) (prepared_rules : List RuleRows) (m : Member) : Type 0 where
   pub valid : IsValid p
   pub graph : IsGraphOf g p

@@ -1,5 +1,5 @@
--- The premises of arms: the sizes of the places that they read, except for members; and the first size or time that
--- isn't known.
+-- The premises of side bounds: the sizes of the places that they read, except for members; and the first size or time
+-- that isn't known.
 use Rattle.std.specs.Prelude.{ℕ, zero, suc, not, Bool, true, false, cond, List, [], ◌∷◌, ◌++◌, filter}
 use Rattle.std.specs.Prelude.{Option, Some, None}
 use Rattle.model.specs.Bounds.{Bound}
@@ -19,18 +19,18 @@ update_at polys (suc i) = nonlinear_at polys i
 abbrev pub result_variables_outside : List Member → ℕ → List ℕ → List ResultVariable
 result_variables_outside members e js = result_variables_after e (filter (λ j. not (is_member members e j)) js)
 
--- the same after each of these rules: the places of the up arm before those of the low arm
+-- the result variables read after each of these rules: the places of the up side bound before those of the low one
 abbrev pub result_variables_from : List Member → List ℕ → List ℕ → List ℕ → List ResultVariable
 result_variables_from members up low [] = []
 result_variables_from members up low (e ∷ es) =
     result_variables_outside members e up ++ (result_variables_outside members e low ++ result_variables_from members up low es)
 
--- the first of these spots, unless its size is known
+-- the first of these result variables, unless its size is known
 abbrev pub this_or : Option Bound → ResultVariable → Option ResultVariable → Option ResultVariable
 this_or None result_variable rest = Some result_variable
 this_or (Some b) result_variable rest = rest
 
--- the first spot whose size isn't known
+-- the first result variable whose size isn't known
 abbrev pub first_missing : Table → List ResultVariable → Option ResultVariable
 first_missing tab [] = None
 first_missing tab (result_variable ∷ result_variables) = this_or (tab.size result_variable.rule result_variable.place) result_variable (first_missing tab result_variables)

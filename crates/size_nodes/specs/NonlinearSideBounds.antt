@@ -1,4 +1,4 @@
--- The members of a loop with a polynomial arm that reads a member.
+-- The members of a loop with a polynomial side bound that reads a member.
 use Rattle.std.specs.Prelude.{ℕ, ◌||◌, Bool, false, cond, List, [], ◌∷◌, Option, Some, None}
 use Rattle.std.specs.List.{list_any}
 use Rattle.model.specs.Paths.{pre}
@@ -7,25 +7,25 @@ use Rattle.cert_types.specs.cert_rules.Nodes.{ResultVariable, SideBound, Linear,
 use Rattle.cert_types.specs.cert_rules.ComposedSizes.{is_member, poly_at}
 use Rattle.cert_types.specs.cert_rules.Setting.{Setting}
 
--- after rule e: a polynomial arm reads a member
+-- whether a polynomial side bound reads a member after rule e
 abbrev pub is_nonlinear_side_bound : Option Polynomial → List Member → SideBound → ℕ → Bool
 is_nonlinear_side_bound q members (Linear den form multipliers) e = false
 is_nonlinear_side_bound None members Poly e = false
 is_nonlinear_side_bound (Some q) members Poly e = list_any (λ m. list_any (is_member members e) m.vars) q
 
--- the same for one of the two arms of a local bound
+-- whether one of the two side bounds of a local bound does
 abbrev pub is_nonlinear_from : Option Polynomial → List Member → LocalBound → ℕ → Bool
 is_nonlinear_from q members local e = is_nonlinear_side_bound q members local.up e || is_nonlinear_side_bound q members local.low e
 
--- the same after one of these rules
+-- whether one does after one of these rules
 abbrev pub is_nonlinear_over : Option Polynomial → List Member → LocalBound → List ℕ → Bool
 is_nonlinear_over q members local es = list_any (is_nonlinear_from q members local) es
 
--- the same for a member after one of the rules that can come before it
+-- whether one does for a member after one of the rules that can come before it
 abbrev pub is_nonlinear_by : Setting → List Member → Member → Bool
 is_nonlinear_by s members m = is_nonlinear_over (poly_at s m.result_variable) members m.local (pre s.program m.result_variable.rule)
 
--- the first of these members with a polynomial arm that reads a member
+-- the first of these members with a polynomial side bound that reads a member
 abbrev pub first_nonlinear : Setting → List Member → List Member → Option ResultVariable
 first_nonlinear s members [] = None
 first_nonlinear s members (m ∷ ms) = cond (is_nonlinear_by s members m) (Some m.result_variable) (first_nonlinear s members ms)

@@ -21,13 +21,13 @@ use Rattle.size_nodes.specs.Needs.{first_unknown}
 abbrev pub time_key : ℕ → ResultVariable
 time_key t = record { rule = t; place = 0 }
 
--- the keys of the bounds that the members of a loop need: the sizes that their arms read outside of it, member by
--- member, and then the times of the rules that multiply or add
+-- the premises of a loop node: the keys of the sizes that the members' side bounds read outside the loop, member by
+-- member, and then of the times of the rules that multiply or add
 abbrev pub loop_premises : Setting → Table → List Member → List ResultVariable
 loop_premises s tab members = needed_into s members members ++ map time_key (needed_times s tab members)
 
--- what is answered of a place that doesn't loop: the sizes that the node needs, which is accepted, and its bound; or
--- the first check of the node that fails
+-- the answer for a place that doesn't loop: the sizes that the node needs, which is accepted, and its bound; or the
+-- first check of the node that fails
 abbrev pub IsSpreadSizing : Setting → Table → Member → Sizing → Type 0
 IsSpreadSizing s tab m (sizings.Found premises bound) = AcceptsSpread s tab m
     × (map result_variable_of premises.items ≡ needed_into s [] (m ∷ [])) × (bound_of bound ≡ s.rewrite (spread_size s tab m))
@@ -37,8 +37,7 @@ IsSpreadSizing s tab m (sizings.Nonlinear result_variable) = ⊥
 IsSpreadSizing s tab m (sizings.Untimed rule) = ⊥
 IsSpreadSizing s tab m (sizings.Large nodes) = IsFirstAmong (spread_checks s tab m) (Large nodes)
 
--- what is answered of the members of a loop: the same, with one bound for all; the times that the node needs come
--- behind the sizes
+-- the answer for the members of a loop, with one bound for all; the times that the node needs come after the sizes
 abbrev pub IsCycleSizing : Setting → Table → List Member → Sizing → Type 0
 IsCycleSizing s tab members (sizings.Found premises bound) = AcceptsCycle s tab members
     × (map result_variable_of premises.items ≡ loop_premises s tab members)
@@ -50,7 +49,7 @@ IsCycleSizing s tab members (sizings.Nonlinear result_variable) =
 IsCycleSizing s tab members (sizings.Untimed rule) = IsFirstAmong (cycle_checks s tab members) (MissingTime rule)
 IsCycleSizing s tab members (sizings.Large nodes) = IsFirstAmong (cycle_checks s tab members) (Large nodes)
 
--- what is answered of a loop whose needed sizes and times are known, by its composed bound
+-- the answer for a loop whose needed sizes and times are known, by its composed bound
 abbrev pub IsTimedSizing : List ResultVariable → Bound → Sizing → Type 0
 IsTimedSizing premises b (sizings.Found found bound) =
     IsSmallComposed rewritten b × (map result_variable_of found.items ≡ premises) × (bound_of bound ≡ rewritten b)
@@ -66,8 +65,8 @@ abbrev pub IsSizingWhere : Option ℕ → List ResultVariable → Bound → Sizi
 IsSizingWhere None premises b a = IsTimedSizing premises b a
 IsSizingWhere (Some t) premises b a = a ≡ sizings.Untimed t
 
--- what is answered of a loop whose needed sizes are known and that isn't bent, by what comes into it and by what its
--- rules do
+-- the answer for a loop whose needed sizes are known and that isn't nonlinear, by the sizes that enter it and the
+-- growth by its rules
 abbrev pub IsLoopSizing : Table → List ResultVariable → Bound → List Growth → Sizing → Type 0
 IsLoopSizing tab needed base gs a =
     IsSizingWhere (first_unknown tab.time (growing_rule_numbers gs))

@@ -27,18 +27,18 @@ use cert_types::{
 use poly_terms::Poly;
 use std::alloc::Global;
 
-/// A flow into a member by one arm from one rule before.
+/// A flow into a member by one side bound from one rule before.
 #[derive(Drop)]
 pub(crate) struct Flow {
     /// The member's rule.
     pub rule: u32,
-    /// The slope: the sum of the arm's coefficients at members.
+    /// The slope: the sum of the side bound's coefficients at members.
     pub slope: u64,
-    /// What the arm adds to them.
+    /// The part of the side bound besides the members.
     pub offset: Bound,
 }
 
-/// The bounds that the arms of a loop's members read: those that are known outside of it, and the members.
+/// The bounds that the side bounds of a loop's members read: those known outside of it, and the members.
 #[derive(Drop)]
 pub(crate) struct Scope<'a, 'b, K> {
     pub known: &'a K,
@@ -92,7 +92,7 @@ fn inner_sum(coefs: &[i64], den: u64, members: &[Member], rule: u32, place: u32)
     inner(coef, den, members, rule, place) + inner_sum(others, den, members, rule, place + 1)
 }
 
-// How often an arm takes the members, after a rule.
+// The sum of a side bound's coefficients at members, after a rule.
 #[tactic(auto, using(crate::proofs::Slopes::outer_slope))]
 fn slope(side_bound: &SideBound, source: &Source) -> u64
     requires { IsLimited side_bound.now }
@@ -113,7 +113,7 @@ fn slope(side_bound: &SideBound, source: &Source) -> u64
     }
 }
 
-// The flow into a member by an arm from a rule before.
+// The flow into a member by a side bound from a rule before.
 fn flow_by<K: Known>(
     alloc: Global,
     known: &K,
@@ -164,7 +164,7 @@ fn push_both<K: Known>(
     Ok(())
 }
 
-// Pushes the flows into a member from these rules. Only the members after the rule before are looked at.
+// Pushes the flows into a member from these rules. Only the members after the rule before are examined.
 fn push_flows<K: Known>(
     alloc: Global,
     flows: &mut Vec<Flow>,
@@ -208,7 +208,7 @@ fn push_flows_into<K: Known>(
     push_flows(alloc, flows, scope, &Sink { member, poly }, before)
 }
 
-/// All flows into the members of a loop: by members, then by what can come before, then up before low.
+/// All flows into the members of a loop: by members, then by the rules that can come before, then up before low.
 ///
 /// # Errors
 ///

@@ -32,7 +32,7 @@ pub(crate) struct Growth {
     pub rule: u32,
     /// The factor by which it multiplies, at least 1.
     pub factor: u64,
-    /// What it adds.
+    /// The addition of the rule.
     pub addition: Bound,
     /// Whether the addition, rewritten, isn't 0.
     pub adds: bool,

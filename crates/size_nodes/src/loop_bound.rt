@@ -97,8 +97,8 @@ fn sum<K: Known>(alloc: Global, known: &K, base: Bound, growths: &[Growth]) -> R
 }
 
 /// The size of the members of a loop that `base` enters: the product of the factors of the rules, each to the power of
-/// the rule's time, times the sum of `base` and of what the rules add, each times its time. A time that isn't known
-/// counts as 0.
+/// the rule's time, times the sum of `base` and of the rules' additions, each times its time. An unknown time counts
+/// as 0.
 ///
 /// # Errors
 ///

@@ -1,4 +1,4 @@
-//! The members of a loop with a polynomial arm that reads a member.
+//! The members of a loop with a polynomial side bound that reads a member.
 
 ghost use Rattle.std.specs.Prelude.{◌≡◌, ◌<◌, ◌^◌, map, All, option_map};
 ghost use Rattle.std.specs.List.{list_any};
@@ -47,7 +47,7 @@ fn reads_member(monomials: &[Monomial], members: &[Member], rule: u32) -> bool
     false
 }
 
-// Whether an arm is polynomial and reads a member, after a rule.
+// Whether a side bound is polynomial and reads a member, after a rule.
 fn is_nonlinear(side_bound: &SideBound, poly: Option<&Poly>, members: &[Member], rule: u32) -> bool
     requires { HasFewPlaces poly }
     ensures { result ≡ is_nonlinear_side_bound (optional_poly poly.entry) (map member_of members.now) (side_bound_of side_bound.now) rule }
@@ -58,7 +58,7 @@ fn is_nonlinear(side_bound: &SideBound, poly: Option<&Poly>, members: &[Member],
     }
 }
 
-// Whether one of both arms is, after a rule. Of the members only those after it are looked at.
+// Whether one of both side bounds is and does, after a rule. Only the members after it are examined.
 fn is_nonlinear_bound(
     local: &LocalBound,
     poly: Option<&Poly>,
@@ -73,7 +73,7 @@ fn is_nonlinear_bound(
     is_nonlinear(&local.up, poly, inside, rule) || is_nonlinear(&local.low, poly, inside, rule)
 }
 
-// Whether one of both arms is, after one of these rules.
+// Whether one of both side bounds is and does, after one of these rules.
 fn is_nonlinear_after(
     local: &LocalBound,
     poly: Option<&Poly>,
@@ -93,7 +93,7 @@ fn is_nonlinear_after(
     false
 }
 
-// Whether one of both arms of a member reads a member and is a polynomial, after what can come before it.
+// Whether one of both side bounds of a member is and does, after one of the rules that can come before it.
 fn is_nonlinear_member(transitions: &Transitions, cycle: &LoopMembers, member: &Member) -> bool
     requires { (p : Program) × IsMemberIn p transitions.now (member_of member.now) }
     ensures { (p : Program) → IsMemberIn p transitions.now (member_of member.now)
@@ -108,7 +108,7 @@ fn is_nonlinear_member(transitions: &Transitions, cycle: &LoopMembers, member: &
     )
 }
 
-/// The first member with a polynomial arm that reads a member, after what can come before it.
+/// The first member with a polynomial side bound that reads a member, after a rule that can come before it.
 pub(crate) fn first_nonlinear(
     transitions: &Transitions,
     cycle: &LoopMembers,

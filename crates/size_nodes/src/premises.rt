@@ -1,4 +1,4 @@
-//! The sizes that arms need.
+//! The sizes that side bounds read.
 
 ghost use Rattle.std.specs.Prelude.{◌≡◌, ℕ, ◌<◌, ◌≤◌, ◌^◌, [], ◌∷◌, ◌++◌, not, length, map, All, IfOk, OnOk};
 ghost use Rattle.model.specs.Programs.{Program};
@@ -53,7 +53,7 @@ fn push_each(
     Ok(())
 }
 
-// The same for the members of a loop: only those after the rule are looked at.
+// Pushes the result variables read outside the members of a loop: only those after the rule are examined.
 fn push_outside(
     result_variables: &mut Vec<ResultVariable>,
     rule: u32,
@@ -67,7 +67,7 @@ fn push_outside(
     push_each(result_variables, rule, places, cycle.after(rule))
 }
 
-// The same after each of these rules: the places of the up arm before those of the low arm.
+// Pushes those read after each of these rules: the places of the up side bound before those of the low one.
 fn push_from(
     result_variables: &mut Vec<ResultVariable>,
     up: &[u32],
@@ -87,8 +87,8 @@ fn push_from(
     Ok(())
 }
 
-/// Appends the sizes that a member needs except for those of the members: after each rule that can come before, the
-/// places that its up arm reads, ascending, and then those of its low arm.
+/// Appends the premises of a member, except for sizes of the members: after each rule that can come before, the places
+/// that its up side bound reads, ascending, and then those of its low one.
 ///
 /// # Errors
 ///

@@ -32,10 +32,11 @@ use guard_prep::RuleRows;
 use its_graph::Graph;
 use std::alloc::Global;
 
-/// The size of a place after a rule whose arms read no place of its own loop: the maximum, over the rules that can come
-/// before, of both arms at the sizes after that rule, with the keys of the sizes that the node needs. If there is none,
-/// the first of these reasons is given: `Missing`, a size that isn't known, in the order of the rules before, up before
-/// low, places ascending; and `Large`, how many nodes the composed bound has. `Nonlinear` and `Untimed` never come.
+/// The size of a place after a rule whose side bounds read no place of its own loop: the maximum, over the rules that
+/// can come before, of both side bounds at the sizes after that rule, with the keys of the sizes that the node needs.
+/// If there is none, the first of these reasons is given: `Missing`, a size that isn't known, in the order of the
+/// rules before, up before low, places ascending; and `Large`, the number of nodes of the composed bound. `Nonlinear`
+/// and `Untimed` never come.
 ///
 /// # Errors
 ///
@@ -88,12 +89,12 @@ fn sized_composed<K: Known>(
     }
 }
 
-/// The size of all members of a loop of places: the sizes that enter the loop from outside, plus what its rules add,
-/// each times its time, all times the factor of each rule that multiplies to the power of its time; with the keys of
-/// the sizes and then of the times that the node needs. If there is none, the first of these reasons is given:
+/// The size of all members of a loop of places: the sizes that enter the loop from outside, plus the additions of its
+/// rules, each times its time, all times the factor of each rule that multiplies to the power of its time; with the
+/// keys of the sizes and then of the times that the node needs. If there is none, the first of these reasons is given:
 /// `Missing`, a size from outside that isn't known, in the order of members, then of the rules before, up before low,
-/// places ascending; `Nonlinear`, a member of which a polynomial arm reads a member; `Untimed`, the least rule that
-/// multiplies or adds and has no time; and `Large`, how many nodes the composed bound has.
+/// places ascending; `Nonlinear`, a member of which a polynomial side bound reads a member; `Untimed`, the least rule
+/// that multiplies or adds and has no time; and `Large`, the number of nodes of the composed bound.
 ///
 /// # Errors
 ///
@@ -157,7 +158,7 @@ fn sized_by_flows<K: Known>(
     sized_by_growths(alloc, known, needed, base, &growths)
 }
 
-// The size by what enters a loop and by the growth by its rules.
+// The size by the sizes that enter a loop and by the growth by its rules.
 fn sized_by_growths<K: Known>(
     alloc: Global,
     known: &K,
@@ -179,7 +180,7 @@ fn sized_by_growths<K: Known>(
     }
 }
 
-// Keys, and behind them those of the times of these rules.
+// Keys, and after them those of the times of these rules.
 fn with_times(needed: Vec<ResultVariable>, rules: &[u32]) -> Result<Vec<ResultVariable>, Memory>
     ensures { IfOk result (λ premises. map result_variable_of premises.items
         ≡ map result_variable_of needed.items ++ map time_key rules.now) }

@@ -15,7 +15,7 @@ use cert_types::{ResultVariable, nonlinear_update};
 use guard_prep::RuleRows;
 use poly_terms::Poly;
 
-/// The update of a spot, where it has degree 2 or more.
+/// The update of a result variable, if it has degree 2 or more.
 pub(crate) fn poly_at(prepared_rules: &[RuleRows], result_variable: ResultVariable) -> Option<&Poly>
     requires { (p : Program) × (IsValid p × (AreRowsOf prepared_rules.now p × IsResultVariable p (result_variable_of result_variable))) }
     ensures seen { (p : Program) → AreRowsOf prepared_rules.now p → IsResultVariable p (result_variable_of result_variable)

@@ -11,7 +11,7 @@ use Rattle.text_core.proofs.Orders.{not_after_on, IsFirstOf, first_of_is, IsFirs
 use Rattle.text_core.proofs.Walks.{walk-none, walk-onto, pieces-onto}
 
 module _ {P T F K : Type 0} (r : Reader P T F K) where
-  -- a fault at this point: the front shows it, or the remaining text breaks off here
+  -- a fault in this state: the state shows it, or the remaining text breaks off here
   abbrev pub Here : ℕ → List (Token P) → F → List (Token P) → Fault K → Type 0
   Here n done f rest x = Among x (r.shown n done f rest) ⊎ (BreaksOff r (pieces done) (pieces rest) × (off_at r n f rest ≡ x))
 
@@ -35,7 +35,7 @@ module _ {P T F K : Type 0} (r : Reader P T F K) where
   ahead_fault (p ∷ rest) n done (Some f) x e (inl h) = here_fault n done f (p ∷ rest) x e h
   ahead_fault (p ∷ rest) n done (Some f) x e (inr h) = ahead_fault rest n (p ∷ done) (r.step f p.piece) x (ap (λ (o : Option F). next r.step o p.piece) e) h
 
-  -- a fault found from a front that the tokens reach is a fault of the whole token list
+  -- a fault found from a state that the tokens reach is a fault of the whole token list
   fault_back : (done rest : List (Token P)) (n : ℕ) (x : Fault K) (o : Option F) → reached r (pieces done) ≡ o → Ahead n done o rest x → Ahead n [] (Some r.beginning) (onto done rest) x
   fault_back [] rest n x o e h = subst (λ (v : Option F). Ahead n [] v rest x) (sym e) h
   fault_back (p ∷ done) rest n x o e h = go (reached r (pieces done)) refl e (λ f w a. fault_back done (p ∷ rest) n x (Some f) w a)
@@ -64,7 +64,7 @@ module _ {P T F K : Type 0} (r : Reader P T F K) where
   fault_ahead n ts x (breaks done rest f is led b e) = subst (λ (us : List (Token P)). Ahead n [] (Some r.beginning) us x) is (fault_back done rest n x (Some f) led (here_ahead rest n done f x (inr (b, e))))
 
   module _ (laws : Laws r) where
-    -- one text stands for one tree
+    -- each text denotes at most one tree
     pub one_tree : (a b : T) (ps : List P) → r.Writes a ps → r.Writes b ps → a ≡ b
     one_tree a b ps wa wb = let x = laws.reads a ps wa in let y = laws.reads b ps wb in go x.0 x.1 x.2 y.0 y.1 y.2
       where
@@ -78,7 +78,7 @@ module _ {P T F K : Type 0} (r : Reader P T F K) where
         let kind : x.kind ≡ y.kind = laws.differ x.kind y.kind (let p = a.kind at in let q = b.kind (sym at) in omega (arith, p, q)) in
         λ i. record { kind = kind i; at = at i }
 
-    -- no text begins with pieces that lead nowhere
+    -- no text begins with pieces that the reader rejects
     pub nowhere_begins : (done : List P) → reached r done ≡ None → ¬ IsBeginning r done
     nowhere_begins done e (t, more, w) =
         let x = laws.reads t (onto done more) w in
@@ -88,26 +88,26 @@ module _ {P T F K : Type 0} (r : Reader P T F K) where
         go : (f : F) → walk r.step (Some r.beginning) (onto done more) ≡ Some f → walk r.step (Some r.beginning) (onto done more) ≡ None → ⊥
         go f a b = cc
 
-    -- a text that is whole can end at its front
+    -- a whole text can end in the state that it reaches
     pub whole_ends : (done : List P) (f : F) → reached r done ≡ Some f → r.finish f ≡ None → ¬ IsWhole r done
     whole_ends done f e none (t, w) = let x = laws.reads t (onto done []) w in go x.0 (sym (walk-onto r done []) ∙ x.1) x.2
       where
         go : (g : F) → walk r.step (reached r done) [] ≡ Some g → r.finish g ≡ Some t → ⊥
         go g a b = let same : f ≡ g = cc in let u : r.finish f ≡ r.finish g = ap r.finish same in cc
 
-    -- the text breaks off where the step leads nowhere
+    -- the text breaks off where the step rejects the next piece
     pub breaks_here : (done : List P) (f : F) (p : P) (rest : List P) → reached r done ≡ Some f → r.step f p ≡ None → BreaksOff r done (p ∷ rest)
     breaks_here done f p rest e none = (laws.goes_on done f e, nowhere_begins (p ∷ done) (ap (λ (o : Option F). next r.step o p) e ∙ none))
 
-    -- and not where it leads somewhere
+    -- the text doesn't break off where the step accepts the next piece
     pub goes_here : (done : List P) (f g : F) (p : P) (rest : List P) → reached r done ≡ Some f → r.step f p ≡ Some g → ¬ BreaksOff r done (p ∷ rest)
     goes_here done f g p rest e some b = b.1 (laws.goes_on (p ∷ done) g (ap (λ (o : Option F). next r.step o p) e ∙ some))
 
-    -- it breaks off at its end where it can't end
+    -- the text breaks off at its end, in a state that can't end
     breaks_end : (done : List P) (f : F) → reached r done ≡ Some f → r.finish f ≡ None → BreaksOff r done []
     breaks_end done f e none = (laws.goes_on done f e, whole_ends done f e none)
 
-    -- and not where it can
+    -- the text doesn't break off at its end in a state that can end
     pub ends_here : (done : List P) (f : F) (t : T) → reached r done ≡ Some f → r.finish f ≡ Some t → ¬ BreaksOff r done []
     ends_here done f t e some b = b.1 (t, laws.ends done f t e some)
 
@@ -116,8 +116,8 @@ module _ {P T F K : Type 0} (r : Reader P T F K) where
     IsRest best Left ps (Stands t) = (best ≡ None) × ((x : Fault K) → ¬ Left x) × r.Writes t ps
     IsRest best Left ps (Refused x) = ((best ≡ Some x) ⊎ Left x) × ((y : Fault K) → (best ≡ Some y) ⊎ Left y → NotAfter r x y)
 
-    -- where the text breaks off, the first of the faults shown and of the break is the first of all faults at this
-    -- point
+    -- where the text breaks off, the first of the shown faults and of the break is the first of all faults in this
+    -- state
     broken_off : (n : ℕ) (done : List (Token P)) (f : F) (rest : List (Token P)) (best o : Option (Fault K)) (ps : List P) → IsFirstAmong r best (r.shown n done f rest) o
         → BreaksOff r (pieces done) (pieces rest) → IsRest best (Here n done f rest) ps (Refused (first_of r o (off_at r n f rest)))
     broken_off n done f rest best o ps h b = (one (first_of_is r o (off_at r n f rest)).one, least o h (first_of_is r o (off_at r n f rest)))
@@ -145,7 +145,7 @@ module _ {P T F K : Type 0} (r : Reader P T F K) where
     run-stopped [] n x = refl
     run-stopped (p ∷ rest) n x = refl
 
-    -- nothing is ahead of nowhere
+    -- no fault is ahead once a piece was rejected
     pub nowhere_ahead : (rest : List (Token P)) (n : ℕ) (done : List (Token P)) (x : Fault K) → ¬ Ahead n done None rest x
     nowhere_ahead [] n done x h = h
     nowhere_ahead (p ∷ rest) n done x h = h
@@ -175,7 +175,7 @@ module _ {P T F K : Type 0} (r : Reader P T F K) where
         go None h None k = broken_off n done f [] best None (pieces (onto done [])) h (breaks_end (pieces done) f e k)
         go (Some x) h None k = broken_off n done f [] best (Some x) (pieces (onto done [])) h (breaks_end (pieces done) f e k)
 
-    -- reading from a front on answers a tree where there is no fault so far and none ahead, or the first of them
+    -- reading from a state answers the tree if there is no fault so far and none ahead, else the first fault
     pub run_is : (rest : List (Token P)) (n : ℕ) (done : List (Token P)) (f : F) (best : Option (Fault K)) → reached r (pieces done) ≡ Some f
         → IsRest best (Ahead n done (Some f) rest) (pieces (onto done rest)) (run r n (Going best done f) rest)
     run_is [] n done f best e = rest_ended n done f best e

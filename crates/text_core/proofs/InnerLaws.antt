@@ -7,18 +7,18 @@ use Rattle.text_core.specs.Laws.{Laws}
 use Rattle.text_core.specs.Inner.{Inside, IsInto, inner_step, step_behind, step_by, step_inside, IsInside}
 use Rattle.text_core.proofs.Walks.{inner-walk}
 
--- what comes before, in two parts
+-- `onto` of an appended list, in two steps
 onto-two : {X : Type 0} (done before rest : List X) → onto (done ++ before) rest ≡ onto before (onto done rest)
 onto-two [] before rest = refl
 onto-two (x ∷ done) before rest = onto-two done before (x ∷ rest)
 
--- what inner pieces come before, as outer ones
+-- `onto` commutes with embedding inner pieces
 onto-map : {P Q : Type 0} (into : P → Q) (done ps : List P) (rest : List Q) → onto (map into done) (map into ps ++ rest) ≡ map into (onto done ps) ++ rest
 onto-map into [] ps rest = refl
 onto-map into (p ∷ done) ps rest = onto-map into done (p ∷ ps) rest
 
 module _ {P T F K Q G C : Type 0} (r : Reader P T F K) (laws : Laws r) (i : Inside P T F Q G C) (is : IsInto i) where
-  -- the pieces of a text up to a front inside: those before, the inner ones, and then others
+  -- in a state inside, the text is the pieces before the inner text, the inner ones read so far, and then others
   text_inside : (before done : List Q) (f : F) (s : IsInside r i before done f) (ps : List P) (rest : List Q) → onto done (map i.into ps ++ rest) ≡ onto before (map i.into (onto s.inner ps) ++ rest)
   text_inside before done f s ps rest =
       ap (λ qs. onto qs (map i.into ps ++ rest)) s.pieces
@@ -28,7 +28,7 @@ module _ {P T F K Q G C : Type 0} (r : Reader P T F K) (laws : Laws r) (i : Insi
   pub begins_inside : (before : List Q) → IsInside r i before before r.beginning
   begins_inside before = record { inner = []; pieces = refl; led = refl }
 
-  -- behind a piece that the inner reader accepts, it is still inside
+  -- after a piece that the inner reader accepts, the outer one is still inside
   pub stays_inside : (before done : List Q) (f g : F) (q : Q) → IsInside r i before done f → inner_step r i f (i.inner_of q) ≡ Some g → IsInside r i before (q ∷ done) g
   stays_inside before done f g q s e = go (i.inner_of q) refl e
     where
@@ -50,7 +50,7 @@ module _ {P T F K Q G C : Type 0} (r : Reader P T F K) (laws : Laws r) (i : Insi
   pub ends_inside : (before done : List Q) (f : F) (t : T) → IsInside r i before done f → r.finish f ≡ Some t → IsRead before done t
   ends_inside before done f t s e = record { inner = onto s.inner []; writes = laws.ends s.inner f t s.led e; text = λ rest. text_inside before done f s [] rest }
 
-  -- from each front inside, inner pieces complete the inner text
+  -- some inner pieces complete the inner text to one of a tree
   pub record Completes (before done : List Q) : Type 0 where
     pub tree : T
     pub more : List P
@@ -58,7 +58,7 @@ module _ {P T F K Q G C : Type 0} (r : Reader P T F K) (laws : Laws r) (i : Insi
     pub writes : r.Writes tree inner
     pub text : (rest : List Q) → onto done (map i.into more ++ rest) ≡ onto before (map i.into inner ++ rest)
 
-  -- from each front inside, inner pieces complete the inner text
+  -- from every state inside, some inner pieces complete the inner text
   pub completes_inside : (before done : List Q) (f : F) → IsInside r i before done f → Completes before done
   completes_inside before done f s =
       let b = laws.goes_on s.inner f s.led in
@@ -66,22 +66,23 @@ module _ {P T F K Q G C : Type 0} (r : Reader P T F K) (laws : Laws r) (i : Insi
 
   -- an outer reader that steps inside as the inner one does
   module _ (outer : G → Q → Option G) (follows : (c : C) (f : F) (q : Q) → outer (i.inside c f) q ≡ step_inside r i c f q) where
-    -- a piece that leads the inner reader on leads the outer one so
+    -- a piece that the inner reader accepts is accepted by the outer one, with the same inner state
     pub step_on : (c : C) (f g : F) (p : P) → r.step f p ≡ Some g → outer (i.inside c f) (i.into p) ≡ Some (i.inside c g)
     step_on c f g p e =
         follows c f (i.into p)
         ∙ (ap (λ (o : Option P). step_by r i c f (inner_step r i f o) (i.into p)) (is.there p) ∙ ap (λ (o : Option F). step_by r i c f o (i.into p)) e)
 
-    -- the same for pieces, whatever follows
+    -- pieces that lead the inner reader from state to state lead the outer one alike, whatever follows
     pub inside-walk : (c : C) (ps : List P) (rest : List Q) (f g : F) → walk r.step (Some f) ps ≡ Some g
         → walk outer (Some (i.inside c f)) (map i.into ps ++ rest) ≡ walk outer (Some (i.inside c g)) rest
     inside-walk c = inner-walk r.step outer (i.inside c) i.into (step_on c)
 
-    -- a piece that leads the inner reader nowhere leads the outer one where the tree is behind
+    -- at a piece that the inner reader rejects in a state that can end, the outer reader continues after the inner
+    -- tree
     pub step_off : (c : C) (f : F) (t : T) (q : Q) → inner_step r i f (i.inner_of q) ≡ None → r.finish f ≡ Some t → outer (i.inside c f) q ≡ i.behind c t q
     step_off c f t q none e = follows c f q ∙ (ap (λ (o : Option F). step_by r i c f o q) none ∙ ap (λ (o : Option T). step_behind r i c o q) e)
 
-    -- the pieces of a tree, and one behind it at which no inner text goes on, lead where the tree is behind
+    -- the pieces of a tree, and one more that can't continue its text, lead the outer reader past the inner text
     pub tree-walk : (c : C) (t : T) (ps : List P) (q : Q) (rest : List Q) → r.Writes t ps → ((f : F) → r.finish f ≡ Some t → inner_step r i f (i.inner_of q) ≡ None)
         → walk outer (Some (i.inside c r.beginning)) (map i.into ps ++ q ∷ rest) ≡ walk outer (i.behind c t q) rest
     tree-walk c t ps q rest w stops =

@@ -10,7 +10,7 @@ use Rattle.text_core.proofs.NameLaws.{same_equal, equal_same}
 
 module _ {X : Type 0} (view : X → Name) where
   module _ (n : Name) (test : X → Bool) (same : (k : X) → test k ≡ is_same n (view k)) where
-    -- the set has the key exactly where the name is among the names
+    -- the set has the key exactly if the name is among the names
     pub key_among : (ks : List X) → list_any test ks ≡ is_among n (map view ks)
     key_among [] = refl
     key_among (k ∷ ks) = rw (same k, key_among ks) refl
@@ -58,7 +58,7 @@ not_before (m ∷ before) n behind h = go (is_same n m) refl (among before h.0) 
     go true e other ih = let s = equal_same m n (sym (same_equal n m e)) in cc
     go false e other ih = rw (e, ih) refl
 
--- a look-up answers the position of the name, and none exactly where it isn't among the names
+-- a look-up answers the position of the name, and none exactly if it isn't among the names
 pub found_at : {X : Type 0} (view : X → Name) (n : Name) (test : X → Bool) (same : (k : X) → test k ≡ is_same n (view k)) (ks : List X) (o : Option ℕ) → o ≡ position test ks → is_some o ≡ list_any test ks
     → MatchOption o (IsFalse (is_among n (map view ks))) (λ i. (i ≡ position_of n (map view ks)) × IsTrue (is_among n (map view ks)))
 found_at view n test same ks None e f = sym (key_among view n test same ks) ∙ sym f
@@ -73,7 +73,7 @@ one_more_name view eq ks new k left all same e so_far distinct =
     ∙ append_assoc (map view ks) (view k ∷ []) left
     ∙ so_far
 
--- a name that isn't among others is behind the last one
+-- a name that isn't in a list has the list's length as position
 pub absent_position : {X : Type 0} (view : X → Name) (n : Name) (ks : List X) → is_among n (map view ks) ≡ false → length ks ≡ position_of n (map view ks)
 absent_position view n [] h = refl
 absent_position view n (k ∷ ks) h = go (is_same n (view k)) refl h (absent_position view n ks)

@@ -1,4 +1,4 @@
--- The tokens of a text are in order of position, and those behind the first one are the tokens of the bytes behind it.
+-- The tokens of a text are in order of position, and those after the first one are the tokens of the bytes after it.
 use Rattle.std.proofs.Common.{◌≡◌, ℕ, zero, suc, ◌+◌, ◌-◌, ◌≤◌, ◌<◌, List, [], ◌∷◌, length, drop, Option, Some, None}
 use Rattle.std.proofs.Common.{refl, ap, sym, subst, ◌∙◌, arith}
 use Rattle.text_core.specs.Tokens.{Token, Lexeme, Lexer, pieces, token_then, tokens_in, lexer_with_one_mode}
@@ -19,7 +19,7 @@ one_in_order at len (Some p) ts n some h = (
 )
 
 module _ {P M : Type 0} (lexer : Lexer P M) where
-  -- the tokens behind bytes that are passed over
+  -- the tokens after skipped bytes are those of the bytes left
   pub tokens_in-drop : (mode : M) (k at : ℕ) (bytes : List ℕ) → tokens_in lexer mode at k bytes ≡ tokens_in lexer mode (at + k) 0 (drop k bytes)
   tokens_in-drop mode zero at [] = refl
   tokens_in-drop mode (suc k) at [] = refl
@@ -27,7 +27,7 @@ module _ {P M : Type 0} (lexer : Lexer P M) where
   tokens_in-drop mode (suc k) at (b ∷ bytes) =
       tokens_in-drop mode k (at + 1) bytes ∙ ap (λ (p : ℕ). tokens_in lexer mode p 0 (drop k bytes)) (let e : at + 1 + k ≡ at + suc k = omega arith in e)
 
-  -- the tokens of a text are that of its first lexeme, and those behind it
+  -- the tokens of a text are its first lexeme's token, if it is a piece, and then the tokens after it
   pub tokens_in-first : (mode : M) (at : ℕ) (text others behind : List ℕ) (b : ℕ) (l : Lexeme (Option P)) → text ≡ b ∷ others → l ≡ lexer.lexeme_in mode b others → 0 < l.len
       → behind ≡ drop l.len text → tokens_in lexer mode at 0 text ≡ token_then at l.len l.piece (tokens_in lexer (lexer.mode_behind mode l.piece) (at + l.len) 0 behind)
   tokens_in-first mode at text others behind b l e is some rests =
@@ -69,13 +69,13 @@ module _ {P M : Type 0} (lexer : Lexer P M) where
       go None len ts us ih = ih
       go (Some p) len ts us ih = ap (λ ps. p ∷ ps) ih
 
--- the same with one mode
+-- the laws above for a lexer with one mode
 module _ {P : Type 0} (lexeme_at : ℕ → List ℕ → Lexeme (Option P)) where
-  -- the tokens behind bytes that are passed over are those of what is left behind them
+  -- the tokens after skipped bytes are those of the bytes left
   pub tokens-drop : (k at : ℕ) (bytes : List ℕ) → tokens_from lexeme_at at k bytes ≡ tokens_from lexeme_at (at + k) 0 (drop k bytes)
   tokens-drop = tokens_in-drop (lexer_with_one_mode lexeme_at) tt
 
-  -- the tokens of a text are that of its first lexeme, and those of what is behind it
+  -- the tokens of a text are its first lexeme's token, if it is a piece, and then those of the bytes after it
   pub tokens-first : (at : ℕ) (text others behind : List ℕ) (b : ℕ) (l : Lexeme (Option P)) → text ≡ b ∷ others → l ≡ lexeme_at b others → 0 < l.len
       → behind ≡ drop l.len text → tokens_from lexeme_at at 0 text ≡ token_then at l.len l.piece (tokens_from lexeme_at (at + l.len) 0 behind)
   tokens-first = tokens_in-first (lexer_with_one_mode lexeme_at) tt
@@ -84,6 +84,6 @@ module _ {P : Type 0} (lexeme_at : ℕ → List ℕ → Lexeme (Option P)) where
   pub in_order : LexesWithin lexeme_at → (bytes : List ℕ) (skip at : ℕ) → skip ≤ length bytes → AreInOrder (at + skip) (tokens_from lexeme_at at skip bytes) (at + length bytes)
   in_order within bytes = in_order_in (lexer_with_one_mode lexeme_at) (λ mode. within) bytes tt
 
-  -- the pieces of a text are the same at any position
+  -- the pieces of a text don't depend on its position
   pub pieces_at : (bytes : List ℕ) (skip a b : ℕ) → pieces (tokens_from lexeme_at a skip bytes) ≡ pieces (tokens_from lexeme_at b skip bytes)
   pieces_at bytes = pieces_in (lexer_with_one_mode lexeme_at) bytes tt

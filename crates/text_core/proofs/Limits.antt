@@ -1,4 +1,4 @@
--- What is answered is within the limits, and what is within them is answered.
+-- An answered tree is within the limits, and a tree within the limits is answered.
 use Rattle.std.proofs.Common.{◌≡◌, ℕ, List, [], ◌∷◌, Option, Some, None, refl, ap, sym, subst, ◌∙◌, inl}
 use Rattle.text_core.specs.Tokens.{Token, pieces}
 use Rattle.text_core.specs.Readers.{Fault, Reader, onto, next, walk, reached, BreaksOff}
@@ -15,9 +15,9 @@ none_among [] h = refl
 none_among (x ∷ xs) h = absurd (h x (inl refl))
 
 module _ {P T F K : Type 0} (r : Reader P T F K) (laws : Laws r) (Within : T → Type 0) where
-  -- a text without a fault leads by fronts that keep an invariant to a tree within the limits
+  -- a text without a fault passes states that satisfy the invariant, and ends with a tree within the limits
   module _ (Kept : F → List P → Type 0) (keeps : KeepsLimits r Within Kept) where
-    -- the front that tokens of a text without faults lead to keeps it
+    -- on a text without faults, tokens lead from one state that satisfies the invariant to another
     kept_on : (rest done : List (Token P)) (n : ℕ) (f g : F) (t : T) → ((x : Fault K) → ¬ FaultAt r n (onto done rest) x) → reached r (pieces done) ≡ Some f → Kept f (pieces rest)
         → walk r.step (Some f) (pieces rest) ≡ Some g → r.finish g ≡ Some t → Within t
     kept_on [] done n f g t none e k w fin = keeps.ends (pieces done) f t e k (let same : f ≡ g = cc in ap r.finish same ∙ fin)
@@ -40,7 +40,7 @@ module _ {P T F K : Type 0} (r : Reader P T F K) (laws : Laws r) (Within : T →
             let x = laws.reads t (pieces ts) is.written in
             kept_on ts [] n r.beginning x.0 t is.faultless refl (keeps.begins (pieces ts)) x.1 x.2
 
-  -- a tree within the limits leads, by fronts that show nothing, to no fault
+  -- the text of a tree within the limits passes only states that show no fault
   module _ (Small : F → List P → Type 0) (small : ShowsNoLimit r Within Small) where
     -- the invariant goes back along the pieces that are left
     small_back : (ps done : List P) (f g : F) (t : T) → reached r done ≡ Some f → walk r.step (Some f) ps ≡ Some g → r.finish g ≡ Some t → Within t → Small f ps
@@ -51,7 +51,7 @@ module _ {P T F K : Type 0} (r : Reader P T F K) (laws : Laws r) (Within : T →
         go None s v ih = let n = walk-none r.step ps in cc
         go (Some h) s v ih = small.goes_back done f h p ps e s (ih h (ap (λ (o : Option F). next r.step o p) e ∙ s) v)
 
-    -- the fronts of a text that stands for a tree within the limits show nothing
+    -- the states of a text that denotes a tree within the limits show no fault
     nothing_shown : (n : ℕ) (done rest : List (Token P)) (f : F) (t : T) → r.Writes t (pieces (onto done rest)) → Within t → reached r (pieces done) ≡ Some f → ShowsNothing r n done f rest
     nothing_shown n done rest f t w within e =
         let x = laws.reads t (pieces (onto done rest)) w in
@@ -60,12 +60,12 @@ module _ {P T F K : Type 0} (r : Reader P T F K) (laws : Laws r) (Within : T →
         (sym (ap (λ (o : Option F). walk r.step o (pieces rest)) e) ∙ sym (walk-onto r (pieces done) (pieces rest)) ∙ ap (walk r.step (Some r.beginning)) (sym (pieces-onto done rest)) ∙ x.1)
         x.2 within)
 
-    -- such a text breaks off nowhere
+    -- a whole text breaks off nowhere
     goes_on_whole : (done rest : List P) (t : T) → r.Writes t (onto done rest) → ¬ BreaksOff r done rest
     goes_on_whole done [] t w b = b.1 (t, w)
     goes_on_whole done (p ∷ rest) t w b = b.1 (t, rest, w)
 
-    -- it has no fault
+    -- the text of a tree within the limits has no fault
     pub within_faultless : (n : ℕ) (ts : List (Token P)) (t : T) → r.Writes t (pieces ts) → Within t → (x : Fault K) → ¬ FaultAt r n ts x
     within_faultless n ts t w within x (shows done rest f is led a) =
         subst (Among x) (nothing_shown n done rest f t (subst (λ (us : List (Token P)). r.Writes t (pieces us)) (sym is) w) within led) a

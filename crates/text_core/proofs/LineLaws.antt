@@ -19,7 +19,7 @@ row_into = record { there = λ p. refl; back = back }
     back (In o) p e = let same : o ≡ p = cc in ap In (sym same)
     back Semicolon p e = cc
 
--- what is known of a front that pieces lead to: whole lines, and then what the reader of rows has read
+-- a state that pieces reach: they are whole lines, and then pieces that lead the reader of rows to f
 pub record Stands (done : List Piece) (earlier : List row.Row) (f : row.Front) : Type 0 where
   pub before : List Piece
   pub lines : (rest : List Piece) → onto before rest ≡ lines_then earlier rest
@@ -29,7 +29,7 @@ abbrev Known : List Piece → Option Front → Type 0
 Known done None = ⊤
 Known done (Some (InLine earlier f)) = Stands done earlier f
 
--- a piece of a row leads on, and a semicolon ends a line
+-- the invariant holds after a piece of a row, and after the semicolon that ends a line
 step_known : (done : List Piece) (earlier : List row.Row) (f : row.Front) (q : Piece) → Stands done earlier f → Known (q ∷ done) (step (InLine earlier f) q)
 step_known done earlier f (In p) s = go (row.step f p) refl
   where
@@ -60,7 +60,7 @@ reached_known : (done : List Piece) → Known done (reached lines done)
 reached_known [] = record { before = []; lines = λ rest. refl; inside = begins_inside row.rows row_laws row_inside row_into [] }
 reached_known (q ∷ done) = next_known done q (reached lines done) (reached_known done)
 
--- no piece leads the reader of rows to its beginning
+-- no piece leads the reader of rows back to its beginning
 never_begins : (f : row.Front) (p : row.Piece) → row.step f p ≡ Some row.Begins → ⊥
 never_begins row.Begins (row.Number n) e = cc
 never_begins row.Begins row.Comma e = cc
@@ -89,7 +89,7 @@ ends_known done (InLine earlier row.Begins) t s e =
 ends_known done (InLine earlier (row.Behind r)) t s e = cc
 ends_known done (InLine earlier (row.Open r)) t s e = cc
 
--- a text goes on from each front: the row can be completed, and its line ends
+-- each state can be completed: the row is completed, and then its line ends
 goes_on_known : (done : List Piece) (f : Front) → Known done (Some f) → IsBeginning lines done
 goes_on_known done (InLine earlier f) s =
     let c = completes_inside row.rows row_laws row_inside row_into s.before done f s.inside in (
@@ -98,7 +98,7 @@ goes_on_known done (InLine earlier f) s =
       ap (λ ps. lines_then earlier (map In ps ++ Semicolon ∷ [])) c.writes ∙ (sym (s.lines (map In c.inner ++ Semicolon ∷ [])) ∙ sym (c.text (Semicolon ∷ []))),
     )
 
--- the pieces of lines lead behind them
+-- the pieces of lines lead to the state after them
 lines_read : (t : List row.Row) (rest : List Piece) → walk step (Some (InLine [] row.Begins)) (lines_then t rest) ≡ walk step (Some (InLine t row.Begins)) rest
 lines_read [] rest = refl
 lines_read (r ∷ earlier) rest =

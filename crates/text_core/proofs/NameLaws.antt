@@ -1,4 +1,4 @@
--- Two names are the same exactly where their bytes are.
+-- Two names are the same exactly if their bytes are equal.
 use Rattle.std.proofs.Common.{◌≡◌, true, sym, subst}
 use Rattle.std.proofs.lemmas.Cmp.{nat_list_eq_equiv}
 use Rattle.std.specs.Cmp.Lexicographic.{same_text}

@@ -26,7 +26,7 @@ one_digit limit value digit next c left all h d n e =
     let v = digit_value-digit c h in
     limited_after limit next (value * 10 + digit_value c) left (omega (arith, d, n, v)) ∙ e
 
--- the same where the digits are left of a row of digits
+-- one more digit, where the remaining digits are those of a list from position i on
 pub next_digit : (limit : ℕ) (ds : List ℕ) (i value digit next c : ℕ) → i < length ds → c ≡ get_or ds i 0 → IsTrue (list_all is_ascii_digit (drop i ds))
     → min (digits_value_after 10 value (drop i ds)) limit ≡ value_up_to limit ds → digit ≡ c - 48 → next ≡ min (value * 10 + digit) limit
     → (min (digits_value_after 10 next (drop (i + 1) ds)) limit ≡ value_up_to limit ds) × (next ≤ limit) × IsTrue (list_all is_ascii_digit (drop (i + 1) ds))

@@ -1,4 +1,4 @@
--- The first of faults: it is one of them, and none comes before it.
+-- The first of some faults is one of them, and none comes before it.
 use Rattle.std.proofs.Common.{◌≡◌, ℕ, ◌≤◌, Bool, true, false, cond, nat_lt, nat_eq, ◌&&◌, ◌||◌, List, [], ◌∷◌, Option}
 use Rattle.std.proofs.Common.{Some, None, refl, sym, subst, inl, inr, arith}
 use Rattle.std.specs.Prelude.{◌⊎◌}
@@ -7,11 +7,11 @@ use Rattle.text_core.specs.Readers.{Fault, Reader}
 use Rattle.text_core.specs.Faults.{Among, NotAfter}
 use Rattle.text_core.specs.Reading.{is_before, first_of, first_among}
 
--- what a test of positions and numbers says where it passes
+-- if the test of positions and numbers passes, the first pair isn't after the second one
 before_true : (a b i j : ℕ) → nat_lt a b || (nat_eq a b && nat_lt i j) ≡ true → (a ≤ b) × (a ≡ b → i ≤ j)
 before_true a b i j h = (grind (arith, nat_tests), λ e. grind (arith, nat_tests))
 
--- and where it doesn't
+-- if the test fails, the second pair isn't after the first one
 before_false : (a b i j : ℕ) → nat_lt a b || (nat_eq a b && nat_lt i j) ≡ false → (b ≤ a) × (b ≡ a → j ≤ i)
 before_false a b i j h = (grind (arith, nat_tests), λ e. grind (arith, nat_tests))
 
@@ -20,7 +20,7 @@ module _ {P T F K : Type 0} (r : Reader P T F K) where
   pub not_after_self : (x : Fault K) → NotAfter r x x
   not_after_self x = record { position = omega arith; kind = λ e. omega arith }
 
-  -- what isn't after a second one that isn't after a third isn't after the third
+  -- `NotAfter` is transitive
   pub not_after_on : (x y z : Fault K) → NotAfter r x y → NotAfter r y z → NotAfter r x z
   not_after_on x y z a b = record {
     position = let p = a.position in let q = b.position in omega (arith, p, q);

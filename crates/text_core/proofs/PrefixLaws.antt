@@ -21,7 +21,7 @@ module _ {X : Type 0} (p : X → Bool) where
     go true e ih = rw e ih
     go false e ih = refl
 
-  -- as many elements as the prefix has are the prefix
+  -- taking as many elements as the prefix has gives the prefix
   pub take-prefix : (xs : List X) → take (length (prefix p xs)) xs ≡ prefix p xs
   take-prefix [] = refl
   take-prefix (x ∷ xs) = go (p x) (take-prefix xs) where
@@ -29,7 +29,7 @@ module _ {X : Type 0} (p : X → Bool) where
     go true ih = ap (λ ys. x ∷ ys) ih
     go false ih = refl
 
-  -- without as many elements as the prefix has there is the rest
+  -- dropping as many elements as the prefix has gives the rest
   pub drop-prefix : (xs : List X) → drop (length (prefix p xs)) xs ≡ rest p xs
   drop-prefix [] = refl
   drop-prefix (x ∷ xs) = go (p x) (drop-prefix xs) where

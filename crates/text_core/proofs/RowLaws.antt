@@ -23,7 +23,7 @@ step_sound (Open row) g (Number n) rest e = let s : Behind (More row n) ≡ g = 
 step_sound (Open row) g Comma rest e = cc
 step_sound (Open row) g Wrong rest e = cc
 
--- a front that pieces lead to has read them
+-- the pieces read are those that the state denotes
 read_so : (done : List Piece) (f : Front) (rest : List Piece) → reached rows done ≡ Some f → onto done rest ≡ front_then f rest
 read_so [] f rest e = let s : Begins ≡ f = cc in ap (λ (h : Front). front_then h rest) s
 read_so (p ∷ done) f rest e = go (reached rows done) refl e (λ g h. read_so done g (p ∷ rest) h)
@@ -32,18 +32,18 @@ read_so (p ∷ done) f rest e = go (reached rows done) refl e (λ g h. read_so d
     go None h k ih = cc
     go (Some g) h k ih = ih g h ∙ step_sound g f p rest k
 
--- the pieces of a row lead behind it
+-- the pieces of a row lead to the state after it
 row_read : (row : Row) (rest : List Piece) → walk step (Some Begins) (row_then row rest) ≡ walk step (Some (Behind row)) rest
 row_read (One n) rest = refl
 row_read (More row n) rest = row_read row (Comma ∷ Number n ∷ rest)
 
--- each front can be completed
+-- each state can be completed
 completed : (f : Front) → (row : Row) × (more : List Piece) × (row_then row [] ≡ front_then f more)
 completed Begins = (One 0, Number 0 ∷ [], refl)
 completed (Behind row) = (row, [], refl)
 completed (Open row) = (More row 0, Number 0 ∷ [], refl)
 
--- a row that a text can end with is what has been read
+-- where a text can end, its row is written as the pieces that the state denotes
 finished : (f : Front) (row : Row) → finish f ≡ Some row → row_then row [] ≡ front_then f []
 finished Begins row e = cc
 finished (Behind r) row e = let s : r ≡ row = cc in ap (λ (q : Row). row_then q []) (sym s)

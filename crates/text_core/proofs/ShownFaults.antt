@@ -32,7 +32,7 @@ unfolding faults_at
 no_faults at test [] h = refl
 no_faults at test (k ∷ kinds) h = ap (λ (v : Bool). cond v (record { kind = k; at = at } ∷ faults_at at test kinds) (faults_at at test kinds)) (h k) ∙ no_faults at test kinds h
 
--- and where there are none, no kind passes
+-- where there are no faults no kind passes
 pub nothing_passes : {K : Type 0} (at : ℕ) (test : K → Bool) (kinds : List K) (kind : K) → Among kind kinds → faults_at at test kinds ≡ [] → test kind ≡ false
 nothing_passes at test kinds kind a h = go (test kind) refl
   where

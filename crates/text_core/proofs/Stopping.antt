@@ -1,4 +1,4 @@
--- Reading can stop where nothing that is still to come is before what was shown.
+-- Reading can stop once no fault that is still to come is before the first one shown.
 use Rattle.std.proofs.Common.{◌≡◌, ℕ, ◌≤◌, ◌<◌, List, [], ◌∷◌, Option, Some, None, refl, ap, sym, inl, inr, arith}
 use Rattle.text_core.specs.Tokens.{Token, pieces, AreInOrder}
 use Rattle.text_core.specs.Readers.{Fault, Reader, onto, reached}
@@ -35,7 +35,7 @@ module _ {P T F K : Type 0} (r : Reader P T F K) where
   ahead_next s (t ∷ rest) n from done (Some f) x h (inr a) =
       let e = ahead_next s rest n t.upto (t ∷ done) (r.step f t.piece) x h.2 a in let g = h.0 in let k = h.1 in omega (arith, e, g, k)
 
-  -- the same where nothing is shown before the last token's first byte
+  -- a fault ahead is at or after the last token's first byte, if states show none before it
   pub ahead_behind : ShowsBehind r → (rest : List (Token P)) (n from : ℕ) (done : List (Token P)) (o : Option F) (x : Fault K) → IsBehind done from → AreInOrder from rest n → Ahead r n done o rest x → last_at done ≤ x.at
   ahead_behind s [] n from done None x l h a = absurd a
   ahead_behind s [] n from done (Some f) x l h (inl a) = s.each n done f [] x (behind_on done from n l h) a
@@ -47,7 +47,7 @@ module _ {P T F K : Type 0} (r : Reader P T F K) where
       let g = h.0 in let k = last_before done from l in
       let e = ahead_behind s rest n t.upto (t ∷ done) (r.step f t.piece) x (h.1, omega arith) h.2 a in omega (arith, e, g, k)
 
-  -- where all that is still to come is behind the fault so far, that fault is the answer
+  -- where every fault still to come is after the fault so far, that fault is the answer
   pub settled : Laws r → (n : ℕ) (done rest : List (Token P)) (f : F) (x : Fault K) → reached r (pieces done) ≡ Some f → ((y : Fault K) → Ahead r n done (Some f) rest y → x.at < y.at)
       → run r n (Going (Some x) done f) rest ≡ Refused x
   settled laws n done rest f x e behind = go (run r n (Going (Some x) done f) rest) (run_is r laws rest n done f (Some x) e)
@@ -62,7 +62,7 @@ module _ {P T F K : Type 0} (r : Reader P T F K) where
       → run r n (Going (Some x) done f) rest ≡ Refused x
   stops_early laws s n from done rest f x e l h before = settled laws n done rest f x e (λ y a. let k = ahead_behind s rest n from done (Some f) y l h a in omega (arith, before, k))
 
-  -- a fault ahead that no other one ahead comes before is the answer
+  -- the first of the faults ahead is the answer
   pub first_ahead : Laws r → (n : ℕ) (done rest : List (Token P)) (f : F) (x : Fault K) → reached r (pieces done) ≡ Some f
       → Ahead r n done (Some f) rest x → ((y : Fault K) → Ahead r n done (Some f) rest y → NotAfter r x y) → run r n (Going None done f) rest ≡ Refused x
   first_ahead laws n done rest f x e is least = go (run r n (Going None done f) rest) (run_is r laws rest n done f None e)

@@ -1,9 +1,9 @@
--- What a walk from the beginning comes to is what its pieces lead to.
+-- A walk from the beginning ends in the state that its pieces reach.
 use Rattle.std.proofs.Common.{◌≡◌, List, [], ◌∷◌, ◌++◌, map, Option, Some, None, refl, ap, sym, ◌∙◌}
 use Rattle.text_core.specs.Tokens.{Token, pieces}
 use Rattle.text_core.specs.Readers.{Reader, onto, next, walk, reached}
 
--- from nowhere nothing leads anywhere
+-- after a rejected piece no piece is accepted
 pub walk-none : {P F : Type 0} (step : F → P → Option F) (ps : List P) → walk step None ps ≡ None
 walk-none step [] = refl
 walk-none step (p ∷ ps) = refl
@@ -24,22 +24,22 @@ pub pieces-onto : {P : Type 0} (done rest : List (Token P)) → pieces (onto don
 pieces-onto [] rest = refl
 pieces-onto (t ∷ done) rest = pieces-onto done (t ∷ rest)
 
--- what comes before one more, and then the rest
+-- `onto` of an appended rest
 pub onto-append : {X : Type 0} (done rest more : List X) → onto done (rest ++ more) ≡ onto done rest ++ more
 onto-append [] rest more = refl
 onto-append (x ∷ done) rest more = onto-append done (x ∷ rest) more
 
 module _ {P T F K : Type 0} (r : Reader P T F K) where
-  -- a walk goes through each front that its pieces lead to
+  -- a walk passes each state that its pieces reach
   pub walk-onto : (done rest : List P) → walk r.step (Some r.beginning) (onto done rest) ≡ walk r.step (reached r done) rest
   walk-onto [] rest = refl
   walk-onto (p ∷ done) rest = walk-onto done (p ∷ rest) ∙ walk-next r.step (reached r done) p rest
 
--- an inner reader inside an outer one, which goes on inside where the inner step leads somewhere: pieces that lead the inner
--- reader from front to front lead the outer one so, whatever follows
+-- an inner reader inside an outer one that follows its steps: pieces that lead the inner reader from state to state
+-- lead the outer one alike, whatever follows
 module _ {P Q F G : Type 0} (inner : F → P → Option F) (outer : G → Q → Option G) (inside : F → G) (as_outer : P → Q)
     (stays : (f g : F) (p : P) → inner f p ≡ Some g → outer (inside f) (as_outer p) ≡ Some (inside g)) where
-  -- pieces that lead the inner reader from front to front lead the outer one so, whatever follows
+  -- pieces that lead the inner reader from state to state lead the outer one alike, whatever follows
   pub inner-walk : (ps : List P) (rest : List Q) (f g : F) → walk inner (Some f) ps ≡ Some g → walk outer (Some (inside f)) (map as_outer ps ++ rest) ≡ walk outer (Some (inside g)) rest
   inner-walk [] rest f g e = let same : f ≡ g = cc in ap (λ (h : F). walk outer (Some (inside h)) rest) same
   inner-walk (p ∷ ps) rest f g e = go (inner f p) refl e (λ h k. inner-walk ps rest h g k)

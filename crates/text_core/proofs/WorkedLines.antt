@@ -8,7 +8,7 @@ use Rattle.text_core.specs.WorkedLines.{LinesAreWorkedOut, LinesAreRead, WorkedL
 use Rattle.text_core.proofs.FirstFaults.{answer_is, answers_all, one_tree_each, one_first_each, breaks_here}
 use Rattle.text_core.proofs.LineLaws.{line_laws}
 
--- `1;12;,` breaks off at its comma, behind two lines
+-- `1;12;,` breaks off at its comma, after two lines
 later : HasFault (codes "1;12;,") row.Syntax 5
 later = breaks
     (record { piece = Semicolon; at = 4; upto = 5 } ∷ record { piece = In (row.Number 12); at = 2; upto = 4 } ∷ record { piece = Semicolon; at = 1; upto = 2 }

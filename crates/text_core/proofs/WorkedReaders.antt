@@ -79,7 +79,7 @@ many_there n (t ∷ done) row [] x behind a = go (nat_lt 3 (count row)) a
     go true (inr a) = absurd a
     go false a = absurd a
 
--- what a front of a row shows isn't before the last token
+-- a fault that a state of a row shows isn't before the last token
 shown_behind : (n : ℕ) (done : List (Token Piece)) (f : Front) (rest : List (Token Piece)) (x : Fault Kind)
     → IsBehind done (next_at n rest) → Among x (shown n done f rest) → last_at done ≤ x.at
 shown_behind n done Begins rest x behind a =
@@ -118,7 +118,7 @@ unshown_small m at h = go (nat_lt 9 m) refl h
         something c = cc
     go false e k = lt_false 9 m e
 
--- a step from a front that shows nothing keeps numbers small
+-- a step from a state that shows no fault keeps the numbers small
 begun : (p : Piece) (at : ℕ) (g : Front) (ps : List Piece) → large_at p at ≡ [] → step Begins p ≡ Some g
     → HasReadSmall g ps
 begun (Number m) at g ps none e = subst (λ (h : Front). HasReadSmall h ps) (same e) (unshown_small m at none)
@@ -154,7 +154,7 @@ small_on n done Begins g t rest small none e = begun t.piece t.at g (pieces rest
 small_on n done (Behind row) g t rest small none e = followed row t.piece g (pieces rest) small e
 small_on n done (Open row) g t rest small none e = opened row t.piece t.at g (pieces rest) small none e
 
--- a front with small numbers ends with a row of such
+-- a state with small numbers ends with a row of small numbers
 small_end : (f : Front) (row : Row) → HasReadSmall f [] → finish f ≡ Some row → HasSmallNumbers row
 small_end Begins row small e = absurd (none_some row e)
 small_end (Behind r) row small e = subst HasSmallNumbers (same e) small
@@ -163,7 +163,7 @@ small_end (Behind r) row small e = subst HasSmallNumbers (same e) small
     same k = cc
 small_end (Open r) row small e = absurd (none_some row e)
 
--- and a row of such ends a front with small numbers
+-- a state that ends with a row of small numbers has small numbers
 end_small : (f : Front) (row : Row) → finish f ≡ Some row → HasSmallNumbers row → HasReadSmall f []
 end_small Begins row e small = tt
 end_small (Behind r) row e small = subst HasSmallNumbers (same e) small
@@ -172,7 +172,7 @@ end_small (Behind r) row e small = subst HasSmallNumbers (same e) small
     same k = cc
 end_small (Open r) row e small = absurd (none_some row e)
 
--- small numbers behind a step are small before it
+-- if the numbers are small after a step, they were so before it
 small_back : (f g : Front) (p : Piece) → step f p ≡ Some g → HasReadSmall g [] → HasReadSmall f []
 small_back Begins g p e small = tt
 small_back (Behind row) g Comma e small = subst (λ (h : Front). HasReadSmall h []) (same e) small
@@ -188,7 +188,7 @@ small_back (Open row) g (Number m) e small = (subst (λ (h : Front). HasReadSmal
 small_back (Open row) g Comma e small = absurd (none_some g e)
 small_back (Open row) g Wrong e small = absurd (none_some g e)
 
--- the same for those behind a walk
+-- if the numbers are small after a walk, they were so before it
 walk_small : (ps : List Piece) (f g : Front) → walk step (Some f) ps ≡ Some g → HasReadSmall g [] → HasReadSmall f []
 walk_small [] f g w small = subst (λ (h : Front). HasReadSmall h []) (same w) small
   where
@@ -201,7 +201,7 @@ walk_small (p ∷ ps) f g w small = go (step f p) refl w (λ k v. walk_small ps 
     go None e v ih = absurd (none_some g (sym (walk-none step ps) ∙ v))
     go (Some k) e v ih = small_back f k p e (ih k v)
 
--- the number that comes next is small, where the pieces lead to a row within the limits
+-- the next number is small, if the pieces lead to a row within the limits
 next_small : (m : ℕ) (ps : List Piece) → LeadsWithin Begins (Number m ∷ ps) → m ≤ 9
 next_small m ps h =
     walk_small ps (Behind (One m)) h.front h.walked (end_small h.front h.row h.ended h.within.0)
@@ -214,7 +214,7 @@ open_small row m ps h =
 small_unshown : (m at : ℕ) → m ≤ 9 → large_at (Number m) at ≡ []
 small_unshown m at l = ap (λ (b : Bool). if b then fault TooLarge at ∷ [] else []) (false_lt 9 m l)
 
--- what comes next isn't shown
+-- no fault is shown at the first number of a row within the limits
 begins_nothing : (rest : List (Token Piece)) → LeadsWithin Begins (pieces rest) → large_next rest ≡ []
 begins_nothing [] h = refl
 begins_nothing (t ∷ rest) h = go t.piece t.at h
@@ -233,7 +233,7 @@ open_nothing row (t ∷ rest) h = go t.piece t.at h
     go Comma at k = refl
     go Wrong at k = refl
 
--- nor are too many numbers
+-- after a row within the limits no fault of too many numbers is shown
 behind_nothing : (done : List (Token Piece)) (row : Row) (rest : List (Token Piece)) → LeadsWithin (Behind row) (pieces rest)
     → many_behind done (Behind row) rest ≡ []
 behind_nothing [] row rest h = refl

@@ -43,11 +43,11 @@ digits = record { seven = refl; leading = refl; plain_seven = refl; zero_alone =
 pub tokens_found : TokensAreFound
 tokens_found = record { found = refl; nothing = refl }
 
--- what begins no row
+-- a comma begins no row
 no_comma : ¬ IsBeginning rows (Comma ∷ [])
 no_comma = nowhere_begins rows row_laws (Comma ∷ []) refl
 
--- texts of rows begin and break off as was worked out
+-- the worked values of which texts begin a row and where texts break off
 pub break_values : BreaksAreWorked
 break_values = record {
   comma_begins = row_laws.goes_on (Comma ∷ Number 1 ∷ []) (Open (One 1)) refl;
@@ -76,7 +76,7 @@ later : HasFault (codes "12,,") Syntax 3
 later = breaks (record { piece = Comma; at = 2; upto = 3 } ∷ record { piece = Number 12; at = 0; upto = 2 } ∷ []) (record { piece = Comma; at = 3; upto = 4 } ∷ []) (Open (One 12)) refl refl
     (row_laws.goes_on (Comma ∷ Number 12 ∷ []) (Open (One 12)) refl, nowhere_begins rows row_laws (Comma ∷ Comma ∷ Number 12 ∷ []) refl) refl
 
--- there is no fault behind a break
+-- there is no fault after a break
 behind_break : (x : Fault Kind) → x.kind ≡ TooLarge → Ahead rows 5 [] (Some Begins) (tokens (codes "1,,12")) x → ⊥
 behind_break x k (inl (inl a)) = a
 behind_break x k (inl (inr b)) = not_large 0 x b.1 k
@@ -86,7 +86,7 @@ behind_break x k (inr (inr (inl (inl a)))) = a
 behind_break x k (inr (inr (inl (inr b)))) = not_large 2 x b.1 k
 behind_break x k (inr (inr (inr a))) = a
 
--- nor at a number that can't follow
+-- there is no fault at a number that can't follow
 cannot_follow : (x : Fault Kind) → x.kind ≡ TooLarge → Ahead rows 4 [] (Some Begins) (tokens (codes "1 12")) x → ⊥
 cannot_follow x k (inl (inl a)) = a
 cannot_follow x k (inl (inr b)) = not_large 0 x b.1 k

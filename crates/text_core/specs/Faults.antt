@@ -8,7 +8,7 @@ abbrev pub Among : {X : Type 0} → X → List X → Type 0
 Among x [] = ⊥
 Among x (y ∷ ys) = (x ≡ y) ⊎ Among x ys
 
--- the position at which a text of n bytes goes on with these tokens: the first byte of the next one, or its end
+-- the position at which a text of n bytes continues with these tokens: the first byte of the next one, or its end
 abbrev pub next_at : {P : Type 0} → ℕ → List (Token P) → ℕ
 next_at n [] = n
 next_at n (t ∷ ts) = t.at
@@ -20,19 +20,19 @@ faults_at at test (kind ∷ kinds) =
     if test kind then record { kind = kind; at = at } ∷ faults_at at test kinds else faults_at at test kinds
 
 module _ {P T F K : Type 0} (r : Reader P T F K) where
-  -- the refusal where a text of n bytes breaks off behind a front
+  -- the refusal where a text of n bytes breaks off in a parser state
   abbrev pub off_at : ℕ → F → List (Token P) → Fault K
   off_at n f rest = record { kind = r.off f rest; at = next_at n rest }
 
-  -- a fault of a text of n bytes with these tokens: a front that the text leads to shows it, or the text breaks off
-  -- there
+  -- a fault of a text of n bytes with these tokens: a parser state that the text reaches shows it, or the text breaks
+  -- off in such a state
   pub data FaultAt (n : ℕ) (ts : List (Token P)) (x : Fault K) : Type 0 where
     shows : (done rest : List (Token P)) (f : F) → onto done rest ≡ ts → reached r (pieces done) ≡ Some f
         → Among x (r.shown n done f rest) → FaultAt n ts x
     breaks : (done rest : List (Token P)) (f : F) → onto done rest ≡ ts → reached r (pieces done) ≡ Some f
         → BreaksOff r (pieces done) (pieces rest) → off_at n f rest ≡ x → FaultAt n ts x
 
-  -- of two faults the first: at the lesser position, or at the same one and of no greater number
+  -- the first of two faults: it has the lesser position, or the same position and no greater number
   pub record NotAfter (x y : Fault K) : Type 0 where
     pub position : x.at ≤ y.at
     pub kind : x.at ≡ y.at → r.number x.kind ≤ r.number y.kind

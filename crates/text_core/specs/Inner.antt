@@ -3,9 +3,9 @@ use Rattle.std.specs.Prelude.{◌≡◌, ℕ, List, [], ◌∷◌, ◌++◌, map
 use Rattle.text_core.specs.Tokens.{Token}
 use Rattle.text_core.specs.Readers.{Reader, reached}
 
--- what an inner piece is among the outer ones, and which outer ones are inner; the outer front that an inner one is, by
--- what is known of the text before it; and where the outer reader goes on behind the inner tree with the piece behind
--- that
+-- how an inner text is embedded: the outer piece of an inner one (`into`), and the inner piece of an outer one, if it
+-- is one; the outer state for what is known of the text before and for an inner state (`inside`); and the outer state
+-- after the inner tree and the first piece after it (`behind`)
 pub record Inside (P T F Q G C : Type 0) : Type 0 where
   pub into : P → Q
   pub inner_of : Q → Option P
@@ -18,26 +18,27 @@ pub record IsInto {P T F Q G C : Type 0} (i : Inside P T F Q G C) : Type 0 where
   pub back : (q : Q) (p : P) → i.inner_of q ≡ Some p → i.into p ≡ q
 
 module _ {P T F K Q G C : Type 0} (r : Reader P T F K) (i : Inside P T F Q G C) where
-  -- where an outer piece leads the inner reader, if it is one of its pieces
+  -- the inner state after an outer piece, if that is an inner piece and can follow
   abbrev pub inner_step : F → Option P → Option F
   inner_step f None = None
   inner_step f (Some p) = r.step f p
 
-  -- where a piece leads behind the inner tree, if the inner text can end
+  -- the outer state after a piece that follows the inner text, if the inner text can end here
   abbrev pub step_behind : C → Option T → Q → Option G
   step_behind c None q = None
   step_behind c (Some t) q = i.behind c t q
 
-  -- the inner reader goes on where its step leads somewhere; else its text ends
+  -- the outer state after a piece: inside, if the inner reader accepts the piece; else the inner text ends before it
   abbrev pub step_by : C → F → Option F → Q → Option G
   step_by c f (Some g) q = Some (i.inside c g)
   step_by c f None q = step_behind c (r.finish f) q
 
-  -- where a piece leads from a front inside
+  -- the outer state after a piece, from a state inside
   abbrev pub step_inside : C → F → Q → Option G
   step_inside c f q = step_by c f (inner_step f (i.inner_of q)) q
 
-  -- the inner reader is at a front behind these pieces: the inner text begins behind the outer pieces before
+  -- the outer reader is inside: the pieces since the inner text began, after those `before`, lead the inner reader to
+  -- f
   pub record IsInside (before done : List Q) (f : F) : Type 0 where
     pub inner : List P
     pub pieces : done ≡ map i.into inner ++ before

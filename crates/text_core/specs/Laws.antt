@@ -7,11 +7,11 @@ use Rattle.text_core.specs.Reading.{answer, Answers}
 
 -- the laws of a reader, over pieces and kinds alone
 pub record Laws {P T F K : Type 0} (r : Reader P T F K) : Type 0 where
-  -- a text goes on from each front that pieces lead to
+  -- each state that pieces reach can be completed to a whole text
   pub goes_on : (done : List P) (f : F) → reached r done ≡ Some f → IsBeginning r done
   -- where a text can end, its pieces are those of the tree
   pub ends : (done : List P) (f : F) (t : T) → reached r done ≡ Some f → r.finish f ≡ Some t → r.Writes t (onto done [])
-  -- the pieces of a tree lead to it
+  -- the pieces of a tree lead to a state that ends with this tree
   pub reads : (t : T) (ps : List P) → r.Writes t ps → (f : F) × (walk r.step (Some r.beginning) ps ≡ Some f)
       × (r.finish f ≡ Some t)
   -- two kinds with one number are one
@@ -21,7 +21,7 @@ pub record Laws {P T F K : Type 0} (r : Reader P T F K) : Type 0 where
 pub record AnswersAll {P T F K : Type 0} (r : Reader P T F K) : Type 0 where
   pub each : (n : ℕ) (ts : List (Token P)) → Answers r n ts (answer r n ts)
 
--- one text stands for one tree
+-- each text denotes at most one tree
 pub record OneTree {P T F K : Type 0} (r : Reader P T F K) : Type 0 where
   pub each : (a b : T) (ps : List P) → r.Writes a ps → r.Writes b ps → a ≡ b
 

@@ -1,5 +1,5 @@
--- A small language with another one inside, to try the definitions of inner readers: lines, each a row of numbers with
--- a semicolon behind it, as in `1, 23;4;`.
+-- A small language that embeds another one, to try the definitions of inner readers: lines, each a row of numbers and
+-- then a semicolon, as in `1, 23;4;`.
 use Rattle.std.specs.Prelude.{◌≡◌, ℕ, if◌then◌else◌, ◌==◌, Option, Some, None, List, [], ◌∷◌, ◌++◌, map}
 use Rattle.text_core.specs.Tokens.{Token, Lexeme}
 use Rattle.text_core.specs.Readers.{Fault, Reader}
@@ -11,7 +11,7 @@ pub data Piece : Type 0 where
   In : row.Piece → Piece
   Semicolon : Piece
 
--- the lines before, the last one first, and what has been read of a row
+-- the lines before, the last one first, and the parser state within a row
 pub data Front : Type 0 where
   InLine : List row.Row → row.Front → Front
 
@@ -29,7 +29,7 @@ abbrev pub inner_of : Piece → Option row.Piece
 inner_of (In p) = Some p
 inner_of Semicolon = None
 
--- behind a row comes a semicolon, and then another row or nothing
+-- after a row comes a semicolon, and then another row or the end
 abbrev pub behind : List row.Row → row.Row → Piece → Option Front
 behind earlier r Semicolon = Some (InLine (r ∷ earlier) row.Begins)
 behind earlier r (In p) = None
@@ -38,7 +38,7 @@ behind earlier r (In p) = None
 abbrev pub row_inside : Inside row.Piece row.Row row.Front Piece Front (List row.Row)
 row_inside = record { into = In; inner_of = inner_of; inside = InLine; behind = behind }
 
--- where a piece leads
+-- the parser state after a piece
 abbrev pub step : Front → Piece → Option Front
 step (InLine earlier f) q = step_inside row.rows row_inside earlier f q
 

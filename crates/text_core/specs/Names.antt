@@ -14,7 +14,7 @@ name_of n = n.bytes.items
 abbrev pub begins_name : ℕ → Bool
 begins_name b = is_ascii_alphabetic b || (b == 95) || (b == 36)
 
--- a name goes on with letters, digits, `_`, `$`, `'` and `.`
+-- a name continues with letters, digits, `_`, `$`, `'` and `.`
 abbrev pub continues_name : ℕ → Bool
 continues_name b = begins_name b || is_ascii_digit b || (b == 39) || (b == 46)
 
@@ -31,7 +31,7 @@ is_same = pointwise nat_eq
 abbrev pub is_among : Name → List Name → Bool
 is_among name names = list_any (is_same name) names
 
--- the position of a name among others, from 0, and behind the last where it isn't among them
+-- the position of a name in a list, from 0, or the list's length if it isn't in it
 abbrev pub position_of : Name → List Name → ℕ
 position_of name names = position_or_len (is_same name) names
 

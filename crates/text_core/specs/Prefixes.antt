@@ -1,8 +1,8 @@
--- The elements from the front of a list on that pass a test, and the rest.
+-- The longest prefix of a list whose elements pass a test, and the rest.
 use Rattle.std.specs.Prelude.{Bool, List, [], ◌∷◌, if◌then◌else◌}
 
 module _ {X : Type 0} (p : X → Bool) where
-  -- the elements from the front on that pass
+  -- the longest prefix whose elements pass
   abbrev pub prefix : List X → List X
   prefix [] = []
   prefix (x ∷ xs) = if p x then x ∷ prefix xs else []

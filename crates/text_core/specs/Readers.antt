@@ -1,5 +1,5 @@
--- Readers: trees with the pieces that they are written as, and how the pieces of a text lead from front to front (from
--- one parser state to the next).
+-- Readers: trees with the pieces that they are written as, and how the pieces of a text lead from one parser state
+-- to the next.
 use Rattle.std.specs.Prelude.{ℕ, List, [], ◌∷◌, Option, Some, None}
 use Rattle.text_core.specs.Tokens.{Token}
 
@@ -8,48 +8,48 @@ pub record Fault (K : Type 0) : Type 0 where
   pub kind : K
   pub at : ℕ
 
--- a reader of trees T that are written as pieces P: a front F (the parser's state) describes what has been read so far,
+-- a reader of trees T that are written as pieces P: a parser state F describes what has been read so far,
 -- and faults have kinds K
 pub record Reader (P T F K : Type 0) : Type 1 where
   -- the tree is written as these pieces
   pub Writes : T → List P → Type 0
   -- nothing has been read
   pub beginning : F
-  -- where a piece leads, if it can follow
+  -- the parser state after a piece, if it can follow
   pub step : F → P → Option F
   -- the tree of a text that ends here, if it can
   pub finish : F → Option T
-  -- of two kinds at one position the one with the lesser number comes first
+  -- of two kinds of faults at one position the one with the lesser number is reported
   pub number : K → ℕ
-  -- the faults that a front shows in a text of this many bytes, given the tokens before it, the last one first, and
-  -- those behind it
+  -- the faults that a parser state shows in a text of this many bytes, given the tokens before it, the last one first,
+  -- and the tokens after it
   pub shown : ℕ → List (Token P) → F → List (Token P) → List (Fault K)
-  -- the kind of refusal where the text breaks off at the tokens behind a front
+  -- the kind of refusal where the text breaks off in this state, before these tokens
   pub off : F → List (Token P) → K
 
--- what comes before, the last one first, and then the rest
+-- the reversed first list, and then the second one
 abbrev pub onto : {X : Type 0} → List X → List X → List X
 onto [] rest = rest
 onto (x ∷ done) rest = onto done (x ∷ rest)
 
--- where one more piece leads
+-- the parser state after one more piece
 abbrev pub next : {P F : Type 0} → (F → P → Option F) → Option F → P → Option F
 next step None p = None
 next step (Some f) p = step f p
 
--- where pieces lead
+-- the parser state after these pieces
 abbrev pub walk : {P F : Type 0} → (F → P → Option F) → Option F → List P → Option F
 walk step o [] = o
 walk step None (p ∷ ps) = None
 walk step (Some f) (p ∷ ps) = walk step (step f p) ps
 
 module _ {P T F K : Type 0} (r : Reader P T F K) where
-  -- the front that pieces lead to, the last one first
+  -- the parser state after these pieces, of which the last one is first
   abbrev pub reached : List P → Option F
   reached [] = Some r.beginning
   reached (p ∷ done) = next r.step (reached done) p
 
-  -- some pieces behind these make a whole text
+  -- these pieces can be continued to a whole text
   abbrev pub IsBeginning : List P → Type 0
   IsBeginning done = (t : T) × (more : List P) × r.Writes t (onto done more)
 
@@ -57,7 +57,7 @@ module _ {P T F K : Type 0} (r : Reader P T F K) where
   abbrev pub IsWhole : List P → Type 0
   IsWhole done = (t : T) × r.Writes t (onto done [])
 
-  -- a text begins with what is done and doesn't go on like this: the next piece can't follow, or the text ends too
+  -- a text begins with `done`, and can't be continued as it is: the next piece can't follow, or the text ends too
   -- early
   abbrev pub BreaksOff : List P → List P → Type 0
   BreaksOff done [] = IsBeginning done × ¬ IsWhole done

@@ -1,4 +1,5 @@
--- The procedure of reading: it keeps the least fault that it is shown, and stops where the next piece leads nowhere.
+-- The procedure of reading: it keeps the first fault that it was shown, and stops at the first piece that the parser
+-- rejects.
 use Rattle.std.specs.Prelude.{◌≡◌, ℕ, Bool, if◌then◌else◌, nat_lt, ◌==◌, ◌&&◌, ◌||◌, List, [], ◌∷◌, Option, Some, None}
 use Rattle.text_core.specs.Tokens.{Token, pieces}
 use Rattle.text_core.specs.Readers.{Fault, Reader}
@@ -9,13 +10,14 @@ pub data Answer (T K : Type 0) : Type 0 where
   Stands : T → Answer T K
   Refused : Fault K → Answer T K
 
--- the progress of reading: finished, or at a front behind tokens, the last one first, with the least fault so far
+-- the progress of reading: stopped with a fault; or running, with the first fault so far, the tokens read, the last
+-- one first, and the parser state
 pub data Progress (P F K : Type 0) : Type 0 where
   Stopped : Fault K → Progress P F K
   Going : Option (Fault K) → List (Token P) → F → Progress P F K
 
 module _ {P T F K : Type 0} (r : Reader P T F K) where
-  -- whether a fault comes before another
+  -- whether a fault is reported rather than another: at a lesser position, or at the same one with a lesser number
   abbrev pub is_before : Fault K → Fault K → Bool
   is_before x y = nat_lt x.at y.at || ((x.at == y.at) && nat_lt (r.number x.kind) (r.number y.kind))
 
@@ -53,8 +55,8 @@ module _ {P T F K : Type 0} (r : Reader P T F K) where
   abbrev pub answer : ℕ → List (Token P) → Answer T K
   answer n ts = run n (Going None [] r.beginning) ts
 
-  -- an answer is right: a tree that is written so, where the text has no fault and stands for no other tree, or its
-  -- first fault
+  -- an answer is right: the tree, if the text is written so, has no fault and denotes no other tree; else its first
+  -- fault
   pub record IsTree (n : ℕ) (ts : List (Token P)) (t : T) : Type 0 where
     pub written : r.Writes t (pieces ts)
     pub faultless : (x : Fault K) → ¬ FaultAt r n ts x

@@ -7,7 +7,7 @@ use Rattle.text_core.specs.Bytes.{is_white_space}
 use Rattle.text_core.specs.Tokens.{Token, Lexeme}
 use Rattle.text_core.specs.Readers.{Fault, Reader}
 
--- a number, a comma, or what is no piece of any text
+-- a number, a comma, or a byte that is in no text
 pub data Piece : Type 0 where
   Number : ℕ → Piece
   Comma : Piece
@@ -45,7 +45,7 @@ row_then (More row n) rest = row_then row (Comma ∷ Number n ∷ rest)
 abbrev pub Writes : Row → List Piece → Type 0
 Writes row ps = row_then row [] ≡ ps
 
--- where a piece leads
+-- the parser state after a piece
 abbrev pub step : Front → Piece → Option Front
 step Begins (Number n) = Some (Behind (One n))
 step (Behind row) Comma = Some (Open row)
@@ -62,7 +62,7 @@ abbrev pub count : Row → ℕ
 count (One n) = 1
 count (More row n) = count row + 1
 
--- a number over 9 that comes next shows at its first byte
+-- a number over 9 as the next piece is a fault at its first byte
 abbrev pub large_at : Piece → ℕ → List (Fault Kind)
 large_at (Number n) at = if nat_lt 9 n then record { kind = TooLarge; at = at } ∷ [] else []
 large_at p at = []
@@ -77,7 +77,7 @@ many_behind (t ∷ done) (Behind row) [] =
     if nat_lt 3 (count row) then record { kind = TooMany; at = t.upto - 1 } ∷ [] else []
 many_behind done f rest = []
 
--- what a front shows: a large number that could follow, or a row with too many
+-- the faults that a state shows: a large number that could follow, or a row with too many
 abbrev pub shown : ℕ → List (Token Piece) → Front → List (Token Piece) → List (Fault Kind)
 shown n done (Behind row) rest = many_behind done (Behind row) rest
 shown n done f rest = large_next rest

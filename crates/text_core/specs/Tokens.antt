@@ -1,13 +1,13 @@
 -- The pieces of a text with their positions.
 use Rattle.std.specs.Prelude.{ℕ, zero, suc, ◌+◌, ◌-◌, Option, Some, None, List, [], ◌∷◌, length, ◌≤◌, ◌<◌, ⊤}
 
--- a piece, the position of its first byte, and the one behind its last byte
+-- a piece, the position of its first byte, and the position after its last byte
 pub record Token (P : Type 0) : Type 0 where
   pub piece : P
   pub at : ℕ
   pub upto : ℕ
 
--- what a text begins with, and the number of its bytes
+-- the first piece of a text, if it is one, and the number of its bytes
 pub record Lexeme (P : Type 0) : Type 0 where
   pub piece : P
   pub len : ℕ
@@ -22,12 +22,12 @@ abbrev pub token_then : {P : Type 0} → ℕ → ℕ → Option P → List (Toke
 token_then at len None ts = ts
 token_then at len (Some p) ts = record { piece = p; at = at; upto = at + len } ∷ ts
 
--- how texts are cut: what bytes begin with, by the mode that the text before them leaves, and the mode behind that
+-- how texts are cut: the first lexeme of bytes, by the mode that the text before them leaves, and the mode after it
 pub record Lexer (P M : Type 0) : Type 0 where
   pub lexeme_in : M → ℕ → List ℕ → Lexeme (Option P)
   pub mode_behind : M → Option P → M
 
--- the tokens of bytes from a position on, after skipping this many of them: each lexeme begins where the one before it
+-- the tokens of bytes from a position on, after this many skipped bytes: each lexeme begins where the one before it
 -- ends
 abbrev pub tokens_in : {P M : Type 0} → Lexer P M → M → ℕ → ℕ → List ℕ → List (Token P)
 tokens_in lexer mode at skip [] = []

@@ -38,7 +38,7 @@ pub record NamesAreWorkedOut : Type 0 where
 
 -- which names are equal, and the position of a name among others
 pub record PositionsAreFound : Type 0 where
-  -- names with the same bytes are the same: `A'` and `A'`
+  -- names with equal bytes are the same: `A'` and `A'`
   pub same : is_same (65 ∷ 39 ∷ []) (65 ∷ 39 ∷ []) ≡ true
   -- other bytes are another name, a small letter for a capital one too: `A'` and `B'`, `A` and `a`
   pub other : is_same (65 ∷ 39 ∷ []) (66 ∷ 39 ∷ []) ≡ false
@@ -50,7 +50,7 @@ pub record PositionsAreFound : Type 0 where
   pub first : position_of (letter 65) (letter 65 ∷ letter 66 ∷ []) ≡ 0
   -- for a name that occurs twice the first position counts: `B` among `A`, `B`, `A`, `B`
   pub twice : position_of (letter 66) (letter 65 ∷ letter 66 ∷ letter 65 ∷ letter 66 ∷ []) ≡ 1
-  -- a name that isn't there is behind the last: `C` among `A`, `B`, and among none
+  -- a name that isn't in the list has its length as position: `C` in `A`, `B`, and in the empty list
   pub absent : position_of (letter 67) (letter 65 ∷ letter 66 ∷ []) ≡ 2
   pub among_none : position_of (letter 67) [] ≡ 0
 
@@ -77,7 +77,7 @@ pub record TokensAreFound : Type 0 where
       ∷ record { piece = Number 23; at = 4; upto = 6 } ∷ record { piece = Wrong; at = 6; upto = 7 } ∷ []
   pub nothing : tokens [] ≡ []
 
--- what texts of rows begin with, and where they break off; pieces that are done have the last one first
+-- which pieces begin a row, and where texts break off; the pieces that are done have the last one first
 pub record BreaksAreWorked : Type 0 where
   -- `1,` begins a text and is none; `1,2` is one, and begins others
   pub comma_begins : IsBeginning rows (Comma ∷ Number 1 ∷ [])
@@ -88,12 +88,12 @@ pub record BreaksAreWorked : Type 0 where
   pub nothing_begins : IsBeginning rows []
   pub nothing_is_none : ¬ IsWhole rows []
   pub no_comma_first : ¬ IsBeginning rows (Comma ∷ [])
-  -- `1,` breaks off where it ends, and at a second comma, not at a number; `1` doesn't break off
+  -- `1,` breaks off at its end, and at a second comma, but not at a number; `1` doesn't break off
   pub ends_early : BreaksOff rows (Comma ∷ Number 1 ∷ []) []
   pub second_comma : BreaksOff rows (Comma ∷ Number 1 ∷ []) (Comma ∷ [])
   pub goes_on : ¬ BreaksOff rows (Comma ∷ Number 1 ∷ []) (Number 2 ∷ [])
   pub ends_well : ¬ BreaksOff rows (Number 1 ∷ []) []
-  -- what doesn't begin a text breaks off nowhere: it did so before
+  -- pieces that begin no text break off nowhere: the text broke off before
   pub broken_before : ¬ BreaksOff rows (Comma ∷ []) (Comma ∷ [])
 
 -- a fault of a text of rows, and its first one
@@ -105,23 +105,23 @@ HasFirst bytes kind at = IsFirst rows (length bytes) (tokens bytes) (record { ki
 
 -- which faults texts of rows have
 pub record FaultsAreWorked : Type 0 where
-  -- `1,2` stands for a row
+  -- `1,2` denotes a row
   pub row : IsTree rows 3 (tokens (codes "1,2")) (More (One 1) 2)
   -- `1, ` ends too early at its length, `1,,` at the second comma, and `;` at its first byte
   pub ends_early : HasFirst (codes "1, ") Syntax 3
   pub second_comma : HasFirst (codes "1,,") Syntax 2
   pub no_piece : HasFirst (codes ";") Syntax 0
-  -- `12,,` has a large number first, and yet breaks off further on
+  -- `12,,` has a large number as its first fault, and yet breaks off later
   pub large_first : HasFirst (codes "12,,") TooLarge 0
   pub breaks_later : HasFault (codes "12,,") Syntax 3
   pub not_first : ¬ HasFirst (codes "12,,") Syntax 3
-  -- `1,,12` has no fault behind the one at which it breaks off, `1 12` none at a number that can't follow
+  -- `1,,12` has no fault after the one where it breaks off, `1 12` none at a number that can't follow
   pub nothing_behind : ¬ HasFault (codes "1,,12") TooLarge 3
   pub cannot_follow : ¬ HasFault (codes "1 12") TooLarge 2
   -- `1,2,3,4 ` has too many numbers at the last byte of the last one, and `1,2,3` has not
   pub too_many : HasFirst (codes "1,2,3,4 ") TooMany 6
   pub three : (at : ℕ) → ¬ HasFault (codes "1,2,3") TooMany at
-  -- `1,2,3,4,` breaks off, and has them not
+  -- `1,2,3,4,` is refused where it breaks off, and not for too many numbers
   pub broken_many : HasFirst (codes "1,2,3,4,") Syntax 8
   -- `1,2,3,10` has both a large number and too many, at its first byte and at its last
   pub large_and_many : HasFirst (codes "1,2,3,10") TooLarge 6

@@ -20,7 +20,7 @@ HasFirst bytes kind at = IsFirst lines (length bytes) (tokens bytes) (record { k
 
 -- which faults texts of lines have
 pub record LinesAreWorkedOut : Type 0 where
-  -- `1, 2;3;` stands for two lines, and no byte at all for none
+  -- `1, 2;3;` denotes two lines, and the empty text none
   pub two : IsTree lines 7 (tokens (codes "1, 2;3;")) (One 3 ∷ More (One 1) 2 ∷ [])
   pub nothing : IsTree lines 0 (tokens []) []
   -- a fault of the second row is reported at its own position in the text, though a later line is broken: `1;12;,`
@@ -32,8 +32,8 @@ pub record LinesAreWorkedOut : Type 0 where
   pub too_many_open : HasFirst (codes "1;1,2,3,4") TooMany 8
   -- the rows before don't count in: `1,2;3,4;` has not too many
   pub each_alone : IsTree lines 8 (tokens (codes "1,2;3,4;")) (More (One 3) 4 ∷ More (One 1) 2 ∷ [])
-  -- a text breaks off within a row at what can't go on with it, `1,,`, and behind a row that can't end at the
-  -- semicolon, `1,;` and `1;;`; it ends too early without one, `1;2`
+  -- a text breaks off within a row at a piece that can't continue it, `1,,`, and at a semicolon after an incomplete
+  -- row, `1,;` and `1;;`; without a semicolon it ends too early, `1;2`
   pub within_row : HasFirst (codes "1;1,,") Syntax 4
   pub open_row : HasFirst (codes "1,;") Syntax 2
   pub no_row : HasFirst (codes "1;;") Syntax 2

@@ -29,13 +29,13 @@ abbrev pub leading_comma : Front → Piece → Option Front
 leading_comma Begins Comma = Some Begins
 leading_comma f p = step f p
 
--- a text may end behind a comma, which is lost
+-- a reader that lets a text end after a comma, and drops the comma
 abbrev pub ending_open : Front → Option Row
 ending_open (Open row) = Some row
 ending_open f = finish f
 
--- each law fails alone: a front that begins no row; a tree that isn't written so; a row that isn't read; and kinds that
--- aren't distinct
+-- each law can fail alone: a state that begins no row; a tree that isn't written like its text; a row that isn't read;
+-- and kinds that aren't distinct
 pub record LawsAreWorkedOut : Type 0 where
   pub leads_nowhere : ¬ Laws (rows_with leading_comma finish number_of shown)
   pub ends_wrongly : ¬ Laws (rows_with step ending_open number_of shown)
@@ -46,7 +46,8 @@ pub record LawsAreWorkedOut : Type 0 where
 abbrev pub fault : Kind → ℕ → Fault Kind
 fault kind at = record { kind = kind; at = at }
 
--- the fault at the lesser position comes first, of two at one the one with the lesser number, and none is after itself
+-- the fault at the lesser position comes first; of two at one position the one with the lesser number; and none is
+-- after itself
 pub record OrderIsWorked : Type 0 where
   pub earlier : NotAfter rows (fault TooMany 1) (fault Syntax 2)
   pub lesser_kind : NotAfter rows (fault Syntax 3) (fault TooLarge 3)
@@ -76,7 +77,7 @@ abbrev pub HasSmallNumbers : Row → Type 0
 HasSmallNumbers (One n) = n ≤ 9
 HasSmallNumbers (More row n) = HasSmallNumbers row × (n ≤ 9)
 
--- those that have been read are
+-- all numbers that have been read are at most 9
 abbrev pub HasReadSmall : Front → List Piece → Type 0
 HasReadSmall Begins ps = ⊤
 HasReadSmall (Behind row) ps = HasSmallNumbers row
@@ -86,7 +87,7 @@ HasReadSmall (Open row) ps = HasSmallNumbers row
 abbrev pub IsWithin : Row → Type 0
 IsWithin row = HasSmallNumbers row × (count row ≤ 3)
 
--- the pieces that are left lead to a row within the limits
+-- the remaining pieces lead to a row within the limits
 pub record LeadsWithin (f : Front) (ps : List Piece) : Type 0 where
   pub row : Row
   pub front : Front
@@ -94,9 +95,10 @@ pub record LeadsWithin (f : Front) (ps : List Piece) : Type 0 where
   pub ended : finish front ≡ Some row
   pub within : IsWithin row
 
--- small numbers are kept where nothing is shown, and lead to rows with small numbers, but not to rows of at most three;
--- a row within both limits leads by fronts that show nothing, while a front of which nothing is known can show
--- something, and what holds of no front doesn't hold of that of a row within them
+-- small numbers are an invariant where no fault is shown, and imply a row with small numbers, but not one of at most
+-- three, and without an invariant nothing is implied; on the text of a row within both limits `LeadsWithin` holds, and
+-- implies that no fault is shown, while a condition that always holds doesn't imply it, and one that never holds isn't
+-- met
 pub record LimitsAreWorkedOut : Type 0 where
   pub small_numbers : KeepsLimits rows HasSmallNumbers HasReadSmall
   pub unkept_numbers : ¬ KeepsLimits rows HasSmallNumbers (λ f ps. ⊤)

@@ -24,7 +24,7 @@ pub fn begins_with(bytes: &[u8], byte: u8) -> bool
     }
 }
 
-/// How many bytes from the front on are digits.
+/// The number of digits that bytes begin with.
 pub fn digits_len(bytes: &[u8]) -> usize
     ensures value { result ≡ length (prefix is_ascii_digit bytes.now) }
     ensures within { result ≤ length bytes.now }

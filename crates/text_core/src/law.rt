@@ -15,8 +15,8 @@ pub fn worked_lines_hold()
     ensures { WorkedLines }
 {}
 
-/// Worked values, on both sides, of which fault comes first, where faults are shown and which limits are kept; and each
-/// law of a reader is broken by one that differs from the reader of rows in one part.
+/// Worked values, on both sides: which fault comes first, where faults are shown, and which limits are kept. Each law
+/// of a reader is broken by some reader that differs from the reader of rows in one part.
 pub fn worked_readers_hold()
     ensures { WorkedReaders }
 {}

@@ -1,4 +1,4 @@
--- Numbers of at most 64 digits, and lines of such values, come apart from what stands behind them: no two are spelled
+-- Numbers of at most 64 digits, and lines of such values, are separable from the text after them: no two are spelled
 -- alike.
 use Rattle.std.proofs.Common.{◌≡◌, ℕ, suc, ◌^◌, ◌<◌, true, false, List, [], ◌∷◌, ◌++◌, length, refl, ap, sym, subst}
 use Rattle.std.proofs.Common.{◌∙◌, append_assoc, arith}
@@ -19,7 +19,7 @@ Ends (b ∷ bs) = is_ascii_digit b ≡ false
 digit_ends : (b : ℕ) → is_ascii_digit b ≡ true → is_ascii_digit b ≡ false → ⊥
 digit_ends b d e = cc
 
--- digits come apart from what doesn't begin with one
+-- digits are separable from a text that doesn't begin with a digit
 digits_apart : (cs bs xs ys : List ℕ) → AllDigits 10 cs → AllDigits 10 bs → Ends xs → Ends ys → cs ++ xs ≡ bs ++ ys
     → (cs ≡ bs) × (xs ≡ ys)
 digits_apart [] [] xs ys all every h k e = (refl, e)
@@ -33,12 +33,12 @@ digits_apart (a ∷ cs) (b ∷ bs) xs ys all every h k e =
     let w = digits_apart cs bs xs ys all.1 every.1 h k rest in
     (ap (λ (d : ℕ). d ∷ cs) same ∙ ap (λ (ds : List ℕ). b ∷ ds) w.0, w.1)
 
--- decimals of at most 64 digits that are the same are of one number
+-- equal decimals of at most 64 digits denote the same number
 digits_same : (m n : ℕ) → m < 10 ^ 64 → n < 10 ^ 64 → decimal m ≡ decimal n → m ≡ n
 digits_same m n l k e =
     sym (decimal_is_IsNumeral_wide m l).1 ∙ ap (digits_value 10) e ∙ (decimal_is_IsNumeral_wide n k).1
 
--- they come apart so
+-- two decimals of at most 64 digits, before what ends them, come apart if the texts are equal
 pub decimal_apart : (m n : ℕ) (xs ys : List ℕ) → m < 10 ^ 64 → n < 10 ^ 64 → Ends xs → Ends ys
     → decimal m ++ xs ≡ decimal n ++ ys → (m ≡ n) × (xs ≡ ys)
 decimal_apart m n xs ys l k h i e =
@@ -73,7 +73,7 @@ pub line_ends : (vs : List ℤ) (xs : List ℕ) → Ends (line_text vs ++ xs)
 line_ends [] xs = refl
 line_ends (v ∷ vs) xs = refl
 
--- and lines of values come apart from what stands behind them
+-- lines of values are separable from the text after them
 pub line_apart : (vs ws : List ℤ) (xs ys : List ℕ) → AreShort vs → AreShort ws
     → line_text vs ++ xs ≡ line_text ws ++ ys → (vs ≡ ws) × (xs ≡ ys)
 line_apart [] [] xs ys l k e = let rest : xs ≡ ys = cc in (refl, rest)

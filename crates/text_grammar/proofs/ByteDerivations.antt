@@ -1,4 +1,4 @@
--- Texts of bytes and what they are made of, both ways: numbers, and what is the text's own.
+-- Derivations and parts of texts of bytes, both ways: of numbers, and of the text's own nonterminals.
 use Rattle.std.proofs.Common.{◌≡◌, ℕ, zero, suc, ◌-◌, ◌^◌, ◌<◌, ◌≤◌, List, [], ◌∷◌, ◌++◌}
 use Rattle.std.proofs.Common.{length, refl, ap, sym, subst, ◌∙◌, arith, append-nil, append_assoc, inl, inr, Option, Some, None, Bool, true, false, ◌&&◌}
 use Rattle.std.specs.Prelude.{◌⊎◌, ℤ, pos, negsuc, unsigned_abs, nat_lt}
@@ -48,7 +48,7 @@ among_in : (rules : List (List (List Symbol))) (n : ℕ) (bodies : List (List Sy
 among_in rules n bodies body e a = subst (Among body) (sym e) a
 
 module _ {S T K : Type 0} (x : ByteText S T K) where
-  -- bytes that are said before others
+  -- the events of bytes before other parts
   events-says : (bs : List ℕ) (xs : List (Part ℕ Numbered))
       → events_of (fold_of x) (numbers_of x) (says bs xs) ≡ reads bs ++ events_of (fold_of x) (numbers_of x) xs
   events-says [] xs = refl
@@ -60,7 +60,7 @@ module _ {S T K : Type 0} (x : ByteText S T K) where
   spelled-says (b ∷ bs) xs = ap (λ (ds : List ℕ). b ∷ ds) (spelled-says bs xs)
 
 module _ {S T K : Type 0} (x : ByteText S T K) where
-  -- what is left of a line of values, as text and as events
+  -- the rest of a line of values, as text and as events
   values_spelled : (vs : List ℤ) → spelled (fold_of x) (numbers_of x) (values_parts vs) ≡ line_text vs
   values_spelled [] = refl
   values_spelled (v ∷ vs) = ap (λ (bs : List ℕ). 32 ∷ (signed_decimal v ++ bs)) (values_spelled vs)
@@ -82,12 +82,12 @@ no_kind None e = refl
 no_kind (Some kind) e = absurd (false_true e)
 
 module _ {S T K : Type 0} (x : ByteText S T K) where
-  -- whether nothing stands against the bytes of a word from a state on
+  -- whether the bytes of a word have no fault, from a state on
   abbrev pub passes_word : Spelling S → List ℕ → Bool
   passes_word s [] = true
   passes_word s (b ∷ bs) = is_no ((fold_of x).against s b) && passes_word ((fold_of x).read b s) bs
 
-  -- then it stands before what stands behind it, and what is behind a word that stands does
+  -- a word without faults before parts without faults has none, and the parts after a word without faults have none
   pub word_stands : (s : Spelling S) (bs : List ℕ) (xs : List (Part ℕ Numbered)) → passes_word s bs ≡ true
       → Stand (fold_of x) (numbers_of x) (after (fold_of x) s (reads bs)) xs
       → Stand (fold_of x) (numbers_of x) s (says bs xs)
@@ -103,7 +103,8 @@ module _ {S T K : Type 0} (x : ByteText S T K) where
   stand_word s (b ∷ bs) xs h = stand_word ((fold_of x).read b s) bs xs h.1
 
 module _ {S T K : Type 0} (x : ByteText S T K) (bounded : IsBounded x) where
-  -- what it comes to, and that nothing stands against it only where the values are small and as many as they may be
+  -- the state after the rest of a line, and that it has no fault only if the values are small and their number is
+  -- allowed
   values_come : (vs : List ℤ) (o : S) (m : Numeral) (ws : List ℤ)
       → come (fold_of x) (numbers_of x) (lined x bounded o m ws) (values_parts vs) ≡ behind x bounded o (ws ++ vs)
   values_come [] o m ws = ap (behind x bounded o) (sym (append-nil ws))
@@ -121,7 +122,7 @@ module _ {S T K : Type 0} (x : ByteText S T K) (bounded : IsBounded x) where
         ap (λ (us : List ℤ). x.against_line o (length us)) (sym (append_assoc ws (v ∷ []) vs)) ∙ r.2,
       )
 
--- what is said and then others
+-- bytes as parts, and then others
 says-append : (bs : List ℕ) (xs : List (Part ℕ Numbered)) → says bs [] ++ xs ≡ says bs xs
 says-append [] xs = refl
 says-append (b ∷ bs) xs = ap (λ (ys : List (Part ℕ Numbered)). Says b ∷ ys) (says-append bs xs)
@@ -147,7 +148,7 @@ module _ {S T K : Type 0} (x : ByteText S T K) (bounded : IsBounded x) (numbers 
         sym w.3 ∙ d.comes,
       )
 
-  -- a number below 0 that ends at a mark, from behind its `-` on
+  -- a number below 0 that ends at a mark, after its `-`
   ended_below : (v : Positive) (s t : Spelling S) (m : ℕ) (ps : List ℕ) → s.numeral.number ≡ 0
       → ComesTo (fold_of x) (numbers_of x) s t ps (says (v.plain.first ∷ v.plain.others) [] ++ Does m ∷ [])
       → (n : ℕ) × (k : ℕ) × (against_number x s (suc n) ≡ None) × (decimal (suc n) ≡ ps)
@@ -316,7 +317,7 @@ module _ {S T K : Type 0} (x : ByteText S T K) (bounded : IsBounded x) (numbers 
     ),
   )
 
-  -- what is left of a line of values
+  -- values for the rest of a line of values
   values_made : Making 7 values_rule
   values_made = (λ (v, (vs, u)). (v ∷ vs, refl), (λ u. ([], refl), tt))
 
@@ -370,7 +371,7 @@ module _ {S T K : Type 0} (x : ByteText S T K) (bounded : IsBounded x) (numbers 
       value_derived (fold_of x) (numbers_of x) (grammar_of x) (only x.letters) (ValueOf W own) (parts_of W own)
       (bytes_only x readable) n body a vs d
 
-  -- a nonterminal derives bytes that are said
+  -- a nonterminal derives these bytes
   abbrev DerivesBytes : ℕ → List ℕ → Type 0
   DerivesBytes n bs = Derives (grammar_of x) (Made n ∷ []) (events_of (fold_of x) (numbers_of x) (says bs []))
       (spelled (fold_of x) (numbers_of x) (says bs []))
@@ -424,7 +425,7 @@ module _ {S T K : Type 0} (x : ByteText S T K) (bounded : IsBounded x) (numbers 
         (positive_derived v.0, tt),
   )
 
-  -- bytes that are said before a mark
+  -- bytes before a mark
   marked : (n m : ℕ) (before : List (Event ℕ)) (start bs ds : List ℕ) → bs ≡ ds
       → Derives (grammar_of x) (Made n ∷ []) (before
       ++ events_of (fold_of x) (numbers_of x) (says bs [] ++ Does m ∷ []))
@@ -439,7 +440,7 @@ module _ {S T K : Type 0} (x : ByteText S T K) (bounded : IsBounded x) (numbers 
       (ap (spelled (fold_of x) (numbers_of x)) (says-append bs (Does m ∷ [])) ∙ spelled-says x bs
       (Does m ∷ []) ∙ append-nil bs ∙ e) d)
 
-  -- with nothing behind it
+  -- with nothing after it
   alone : (n : ℕ) (es : List (Event ℕ)) (ps : List ℕ) → Derives (grammar_of x) (Made n ∷ []) es ps
       → Derives (grammar_of x) (Made n ∷ []) (es ++ []) (ps ++ [])
   alone n es ps d =
@@ -475,7 +476,7 @@ module _ {S T K : Type 0} (x : ByteText S T K) (bounded : IsBounded x) (numbers 
       (by 2 (Mark 3 ∷ Made 3 ∷ Mark 2 ∷ []) (among_in x.rules 2 _ _ numbers.natural (inl refl)) (v.0, tt)
       (v.2, tt)))
 
-  -- what is left of a line of small values, and such a line
+  -- the rest of a line of small values, and such a line
   values_derived : (vs : List ℤ) → AreSmall vs → IsDerived 7 vs
   values_derived [] l =
       by 7 (Piece 5 ∷ Mark 5 ∷ []) (among_in x.rules 7 _ _ numbers.values (inr (inl refl))) tt tt
@@ -492,14 +493,14 @@ module _ {S T K : Type 0} (x : ByteText S T K) (bounded : IsBounded x) (numbers 
       (by 6 (Mark 4 ∷ Made 7 ∷ []) (among_in x.rules 6 _ _ numbers.line (inl refl)) (vs, tt)
       (values_derived vs l, tt))))
 
-  -- nothing stands against a text, and what it comes to
+  -- a text has no fault, and its end state
   abbrev pub TextStands : W 0 → Type 0
   TextStands w = Stand (fold_of x) (numbers_of x) (fold_of x).begun (own 0 w)
 
   abbrev pub tree_of : W 0 → T
   tree_of w = x.tree (come (fold_of x) (numbers_of x) (fold_of x).begun (own 0 w)).own
 
-  -- where a tree is answered, the bytes are what a text is spelled as, against which nothing stands
+  -- if a tree is answered, the bytes are the text of a value without faults
   pub answered : OwnAreMade x W own → IsLawful (texts_of x) → (bytes : List ℕ) (t : T)
       → answer (reader (texts_of x)) (length bytes) (tokens bytes) ≡ Stands t
       → (w : W 0) × (spelled (fold_of x) (numbers_of x) (own 0 w) ≡ bytes) × TextStands w × (tree_of w ≡ t)
@@ -515,7 +516,7 @@ module _ {S T K : Type 0} (x : ByteText S T K) (bounded : IsBounded x) (numbers 
         ap (λ (s : Spelling S). x.tree s.own) (d.1.comes ∙ sym (state_after (fold_of x) [] w.0)) ∙ w.2,
       )
 
-  -- and the other way round
+  -- if the bytes are the text of a value without faults, its tree is answered
   pub taken : IsLawful (texts_of x) → (w : W 0) → IsDerived 0 w → TextStands w → (bytes : List ℕ)
       → spelled (fold_of x) (numbers_of x) (own 0 w) ≡ bytes
       → answer (reader (texts_of x)) (length bytes) (tokens bytes) ≡ Stands (tree_of w)

@@ -46,7 +46,7 @@ placed (c ∷ cs) q p e = go (q == c) refl e (placed cs q p)
     go true k e ih = let same : c ≡ p = cc in eqb-true q c k ∙ same
     go false k e ih = ih e
 
--- and that position is at most their number
+-- the position of a byte among the letters is at most their number
 position_most : (cs : List ℕ) (b : ℕ) → position_of cs b ≤ length cs
 position_most [] b = omega arith
 position_most (c ∷ cs) b = go (b == c) (position_most cs b)
@@ -107,7 +107,7 @@ module _ (letters : List ℕ) where
   only_below (suc (suc (suc (suc (suc zero))))) p e = omega arith
   only_below (suc (suc (suc (suc (suc (suc k)))))) p e = let h = get_below letters k p e in omega (arith, h)
 
--- a refusal stands where it stands
+-- the refusals at a position are at this position
 refused_at : {K : Type 0} (o : Option K) (at : ℕ) (y : Fault K) → Among y (refusals o at) → y.at ≡ at
 refused_at None at y a = absurd a
 refused_at {K} (Some kind) at y (inl e) = ap (λ (z : Fault K). z.at) e

@@ -79,7 +79,7 @@ module _ {P : Type 0} (g : Grammar P) where
       join true b h e = e
       join false b h e = cc
 
-  -- where the entries of a row can be completed, so can what symbols that can lead to
+  -- where each entry of a row can be completed, so can the lead of symbols that can be completed
   pub led_completed : (c : ℕ) (row : List Lead) → ((n : ℕ) → is_completed_lead g (entry row n) ≡ true) → (ss : List Symbol) → is_completed g.classes (completed g) ss ≡ true → is_completed_lead g (lead c row ss) ≡ true
   led_completed c row h [] e = refl
   led_completed c row h (Piece d ∷ ss) e = go (d == c) (both (nat_lt d g.classes) _ e).1

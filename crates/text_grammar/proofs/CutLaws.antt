@@ -5,7 +5,7 @@ use Rattle.text_core.specs.Tokens.{Lexeme, Lexer, LexesWithin, token_then, token
 use Rattle.text_core.proofs.Lexing.{tokens_in-first}
 
 module _ {P M : Type 0} (lexer : Lexer P M) (within : (mode : M) → LexesWithin (lexer.lexeme_in mode)) where
-  -- the tokens of bytes, of so many in all, are that of what they begin with and those of what is behind it
+  -- the tokens of bytes at the end of a text of this length: that of the first lexeme, and those of the bytes after it
   cut_first : (len : ℕ) (mode : M) (text others rest : List ℕ) (b : ℕ) (l : Lexeme (Option P)) → text ≡ b ∷ others → l ≡ lexer.lexeme_in mode b others → rest ≡ drop l.len text → length text ≤ len
       → (tokens_in lexer mode (len - length text) 0 text ≡ token_then (len - length text) l.len l.piece (tokens_in lexer (lexer.mode_behind mode l.piece) (len - length rest) 0 rest))
       × (len - length text + l.len ≡ len - length rest)
@@ -30,7 +30,7 @@ module _ {P M : Type 0} (lexer : Lexer P M) (within : (mode : M) → LexesWithin
       ∙ ap (λ (n : ℕ). record { piece = p; at = len - length text; upto = n } ∷ tokens_in lexer (lexer.mode_behind mode l.piece) (len - length rest) 0 rest) c.1
       ∙ ap (λ (m : M). record { piece = p; at = len - length text; upto = len - length rest } ∷ tokens_in lexer m (len - length rest) 0 rest) (sym behind)
 
-  -- what is no piece is passed over
+  -- bytes that are no piece are skipped
   pub cut_passed : (len : ℕ) (mode next : M) (text others rest : List ℕ) (b : ℕ) (l : Lexeme (Option P)) → text ≡ b ∷ others → l ≡ lexer.lexeme_in mode b others → rest ≡ drop l.len text → length text ≤ len
       → next ≡ lexer.mode_behind mode l.piece → l.piece ≡ None
       → tokens_in lexer mode (len - length text) 0 text ≡ tokens_in lexer next (len - length rest) 0 rest

@@ -1,4 +1,4 @@
--- Marks before events, and derivations one behind the other.
+-- Marks before events, and derivations of appended symbols.
 use Rattle.std.proofs.Common.{◌≡◌, ℕ, List, [], ◌∷◌, ◌++◌, refl, ap, subst, append_assoc}
 use Rattle.text_core.specs.Readers.{onto}
 use Rattle.text_grammar.specs.declared.symbol.Symbol.{Symbol}
@@ -10,13 +10,13 @@ pub marked-append : {P : Type 0} (ms ns : List ℕ) (es : List (Event P)) → ma
 marked-append [] ns es = refl
 marked-append (m ∷ ms) ns es = ap (λ fs. Did m ∷ fs) (marked-append ms ns es)
 
--- what is done behind events, the last one first, comes before the rest
+-- marks done after events, the last one first, come before the rest
 pub onto-did : {P : Type 0} (es fs : List (Event P)) (ms : List ℕ) → onto (did es ms) fs ≡ onto es (marked ms fs)
 onto-did es fs [] = refl
 onto-did es fs (m ∷ ms) = onto-did (Did m ∷ es) fs ms
 
 module _ {P : Type 0} (g : Grammar P) where
-  -- what symbols and others derive, one behind the other, both derive together
+  -- derivations of two lists of symbols give one of the appended lists
   pub derived_both : {xs : List Symbol} {es : List (Event P)} {ps : List P} {ys : List Symbol} {fs : List (Event P)} {qs : List P} → Derives g xs es ps → Derives g ys fs qs → Derives g (xs ++ ys) (es ++ fs) (ps ++ qs)
   derived_both nothing e = e
   derived_both (piece p d) e = piece p (derived_both d e)

@@ -11,11 +11,11 @@ use Rattle.text_grammar.specs.Following.{first_of_two}
 abbrev before : ℕ → ℕ → ℕ → ℕ → Bool
 before a i b j = nat_lt a b || (nat_eq a b && nat_lt i j)
 
--- what comes before one that comes before another comes before that
+-- `before` is transitive
 before_on : (a i b j c k : ℕ) → before a i b j ≡ true → before b j c k ≡ true → before a i c k ≡ true
 before_on a i b j c k h g = grind (arith, nat_tests)
 
--- what doesn't come before one that doesn't come before another doesn't come before that
+-- `not before` is transitive
 not_before_on : (a i b j c k : ℕ) → before a i b j ≡ false → before b j c k ≡ false → before a i c k ≡ false
 not_before_on a i b j c k h g = grind (arith, nat_tests)
 

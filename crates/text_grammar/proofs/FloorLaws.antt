@@ -17,7 +17,7 @@ module _ {P T K : Type 0} (x : Text P T K) (lawful : IsLawful x) where
   floor_marks [] es at = omega arith
   floor_marks (m ∷ ms) es at = let a = lawful.floor_did es m at in let b = floor_marks ms (Did m ∷ es) at in omega (arith, a, b)
 
-  -- every fault from a front on is at the front's floor or behind it
+  -- every fault ahead of a state is at the state's floor or after it
   pub ahead_floor : (rest : List (Token P)) (n from : ℕ) (done : List (Token P)) (f : Front P) (y : Fault K) → AreInOrder from rest n → Ahead (reader x) n done (Some f) rest y
       → x.floor f.events (next_at n rest) ≤ y.at
   ahead_floor [] n from done f y o (inl a) = absurd a

@@ -13,7 +13,7 @@ pieces_read [] = []
 pieces_read (Did m ∷ es) = pieces_read es
 pieces_read (Read p ∷ es) = p ∷ pieces_read es
 
--- what is derived reads its pieces
+-- derived events read the derived pieces
 pub derived_reads : {P : Type 0} (g : Grammar P) {ss : List Symbol} {es : List (Event P)} {ps : List P}
     → Derives g ss es ps → pieces_read es ≡ ps
 derived_reads g nothing = refl
@@ -27,33 +27,33 @@ none_refused None at e = refl
 none_refused (Some kind) at e = cc
 
 module _ {P S T K : Type 0} (f : Fold P S T K) where
-  -- the state behind events and others
+  -- the state after appended events
   pub after_append : (s : S) (es fs : List (Event P)) → after f s (es ++ fs) ≡ after f (after f s es) fs
   after_append s [] fs = refl
   after_append s (Did m ∷ es) fs = after_append (f.done m s) es fs
   after_append s (Read p ∷ es) fs = after_append (f.read p s) es fs
 
-  -- what passes one behind the other
+  -- events that pass, and then others that pass from there, pass together
   pub passes_append : (s : S) (es fs : List (Event P)) → Passes f s es → Passes f (after f s es) fs
       → Passes f s (es ++ fs)
   passes_append s [] fs h k = k
   passes_append s (Did m ∷ es) fs h k = passes_append (f.done m s) es fs h k
   passes_append s (Read p ∷ es) fs h k = (h.0, passes_append (f.read p s) es fs h.1 k)
 
-  -- what passes comes apart
+  -- appended events that pass, pass one after the other
   pub passes_split : (s : S) (es fs : List (Event P)) → Passes f s (es ++ fs) → Passes f s es
       × Passes f (after f s es) fs
   passes_split s [] fs h = (tt, h)
   passes_split s (Did m ∷ es) fs h = passes_split (f.done m s) es fs h
   passes_split s (Read p ∷ es) fs h = let w = passes_split (f.read p s) es fs h.1 in ((h.0, w.0), w.1)
 
-  -- the state behind events is that of all of them
+  -- the state after events is that of all events up to there
   pub state_after : (before es : List (Event P)) → state f (onto es before) ≡ after f (state f before) es
   state_after before [] = refl
   state_after before (Did m ∷ es) = state_after (Did m ∷ before) es
   state_after before (Read p ∷ es) = state_after (Read p ∷ before) es
 
-  -- events are silent exactly where they pass
+  -- events are silent exactly if they pass
   pub silent_passes : (g : Grammar P) (before es : List (Event P)) (ts : List (Token P)) → pieces_read es ≡ pieces ts
       → IsSilent (folded f g) before es ts → Passes f (state f before) es
   silent_passes g before [] ts e s = tt

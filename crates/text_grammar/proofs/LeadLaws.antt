@@ -1,4 +1,4 @@
--- Leads say what symbols derive.
+-- Each lead is right about the derivations of its symbols.
 use Rattle.std.proofs.Common.{◌≡◌, ℕ, zero, suc, Bool, true, false, cond, List, [], ◌∷◌, ◌++◌, refl, ap, sym, subst}
 use Rattle.std.proofs.Common.{◌∙◌, inl, inr, append_assoc}
 use Rattle.std.specs.Prelude.{⊤, ◌==◌}
@@ -13,13 +13,13 @@ use Rattle.text_grammar.specs.Leads.{row_after}
 use Rattle.text_grammar.specs.Texts.{marked}
 use Rattle.text_grammar.proofs.Events.{marked-append}
 
--- behind no marks a lead is as it is
+-- a lead after no marks is unchanged
 pub behind-nothing : (l : Lead) → behind [] l ≡ l
 behind-nothing (Matches ms rest) = refl
 behind-nothing (Passes ms) = refl
 behind-nothing Stuck = refl
 
--- behind marks and then others
+-- a lead after marks and then others
 pub behind-append : (ms ns : List ℕ) (l : Lead) → behind ms (behind ns l) ≡ behind (ms ++ ns) l
 behind-append ms ns (Matches ks rest) = ap (λ ls. Matches ls rest) (sym (append_assoc ms ns ks))
 behind-append ms ns (Passes ks) = ap Passes (sym (append_assoc ms ns ks))
@@ -37,7 +37,7 @@ before-before (Matches ms body) xs ys k j = ap (Matches ms) (sym (append_assoc b
 before-before (Passes ms) xs ys k j = behind-before ms k ys j
 before-before Stuck xs ys k j = refl
 
--- the lead of symbols and then others
+-- the lead of appended symbols
 pub lead-append : (c : ℕ) (row : List Lead) (xs ys : List Symbol) → lead c row (xs ++ ys) ≡ before (lead c row xs) ys (lead c row ys)
 lead-append c row [] ys = sym (behind-nothing (lead c row ys))
 lead-append c row (Piece d ∷ xs) ys = go (d == c)
@@ -50,7 +50,8 @@ lead-append c row (Made n ∷ xs) ys =
     ap (before (entry row n) (xs ++ ys)) (lead-append c row xs ys) ∙ before-before (entry row n) xs ys (lead c row xs) (lead c row ys)
 
 module _ {P : Type 0} (g : Grammar P) where
-  -- a lead says what symbols derive: behind what it expects a piece of the class and the marks, and where it passes the marks
+  -- a lead is right about the derivations of symbols: where it matches, they derive the marks, a piece of the class
+  -- and what its rest derives; where it passes, they derive the marks alone
   abbrev pub Says : ℕ → Lead → List Symbol → Type 0
   Says c (Matches ms body) ss = (p : P) → g.class_of p ≡ c → (rest : List Symbol) (es : List (Event P)) (ps : List P) → Derives g (body ++ rest) es ps → Derives g (ss ++ rest) (marked ms (Read p ∷ es)) (p ∷ ps)
   Says c (Passes ms) ss = (rest : List Symbol) (es : List (Event P)) (ps : List P) → Derives g rest es ps → Derives g (ss ++ rest) (marked ms es) ps
@@ -73,7 +74,7 @@ module _ {P : Type 0} (g : Grammar P) where
   before_says c n (Passes ms) ss Stuck h i = tt
   before_says c n Stuck ss k h i = tt
 
-  -- where a row says what nonterminals derive, a lead says what symbols do
+  -- if a row is right about the nonterminals, a lead is right about symbols
   pub lead_says : (c : ℕ) (row : List Lead) → ((n : ℕ) → Says c (entry row n) (Made n ∷ [])) → (ss : List Symbol) → Says c (lead c row ss) ss
   lead_says c row h [] = λ rest es ps d. d
   lead_says c row h (Piece k ∷ ss) = go (k == c) refl
@@ -84,7 +85,7 @@ module _ {P : Type 0} (g : Grammar P) where
   lead_says c row h (Mark m ∷ ss) = behind_says c m (lead c row ss) ss (lead_says c row h ss)
   lead_says c row h (Made n ∷ ss) = before_says c n (entry row n) ss (lead c row ss) (h n) (lead_says c row h ss)
 
-  -- of two leads the better one says what both say
+  -- if two leads are right, so is the better one
   better_says : (c : ℕ) (l k : Lead) (ss : List Symbol) → Says c l ss → Says c k ss → Says c (better l k) ss
   better_says c (Matches ms rest) k ss h i = h
   better_says c (Passes ms) (Matches ns rest) ss h i = i
@@ -92,13 +93,13 @@ module _ {P : Type 0} (g : Grammar P) where
   better_says c (Passes ms) Stuck ss h i = h
   better_says c Stuck k ss h i = i
 
-  -- what an alternative derives its nonterminal does
+  -- a lead that is right about an alternative is right about its nonterminal
   made_says : (c n : ℕ) (l : Lead) (body : List Symbol) → Among body (alternatives g.rules n) → Says c l body → Says c l (Made n ∷ [])
   made_says c n (Matches ms rest) body a h = λ p e more es ps d. made n body a (h p e more es ps d)
   made_says c n (Passes ms) body a h = λ more es ps d. made n body a (h more es ps d)
   made_says c n Stuck body a h = tt
 
-  -- so the lead among alternatives says what their nonterminal derives
+  -- the lead among alternatives is right about their nonterminal
   among_says : (c n : ℕ) (row : List Lead) → ((n : ℕ) → Says c (entry row n) (Made n ∷ [])) → (bodies : List (List Symbol)) → ((body : List Symbol) → Among body bodies → Among body (alternatives g.rules n))
       → Says c (lead_among c row bodies) (Made n ∷ [])
   among_says c n row h [] a = tt
@@ -106,7 +107,7 @@ module _ {P : Type 0} (g : Grammar P) where
       better_says c (lead c row body) (lead_among c row bodies) (Made n ∷ []) (made_says c n (lead c row body) body (a body (inl refl)) (lead_says c row h body))
       (among_says c n row h bodies (λ b i. a b (inr i)))
 
-  -- the row after some rounds says what nonterminals derive
+  -- the row after so many rounds is right about the nonterminals
   pub row_says : (c k n : ℕ) → Says c (entry (row_after g.rules c k) n) (Made n ∷ [])
   row_says c zero n = tt
   row_says c (suc k) n =

@@ -53,7 +53,7 @@ above b l f = go (b - 48) refl
     go zero e = absurd (f (omega (arith, l, e)))
     go (suc n) e = omega arith
 
--- they are its decimal
+-- digits without a leading zero are the decimal of their number
 pub decimal_of : (v : Plain) → number_of v < 2 ^ 64 → decimal (number_of v) ≡ v.first ∷ v.others
 decimal_of v small =
     let d = digit_below v.first v.low v.high in
@@ -94,7 +94,7 @@ positive_of n some small =
 pub some_none : {K : Type 0} (kind : K) → Some kind ≡ None → ⊥
 some_none kind e = cc
 
--- no refusal comes where a test fails, and only there
+-- there is no refusal only if the test fails
 pub none_when : {K : Type 0} (test : Bool) (kind : K) → when test kind ≡ None → test ≡ false
 none_when true kind e = cc
 none_when false kind e = refl
@@ -120,7 +120,7 @@ room limit n h = grind (arith, nat_tests)
 pub has_room : (limit n : ℕ) → n + 1 ≤ limit → nat_le limit n ≡ false
 has_room limit n h = grind (arith, nat_tests)
 
--- a value is small exactly where it isn't too large
+-- a value is small exactly if it isn't too large
 pub small_value : (n : ℕ) → nat_lt line_value_limit n ≡ false → n ≤ line_value_limit
 small_value n h = grind (arith, nat_tests)
 
@@ -135,7 +135,7 @@ module _ {S T K : Type 0} (x : ByteText S T K) where
   bytes_stand o (negsuc n ∷ vs) minus blank = (blank, minus, bytes_stand o vs minus blank)
 
 module _ {S T K : Type 0} (x : ByteText S T K) (h : IsBounded x) where
-  -- a number against which nothing stands is below 2^64
+  -- a number without a fault is below 2^64
   pub small : (s : Spelling S) (n : ℕ) → against_number x s n ≡ None → n < 2 ^ 64
   small s n e = go s.within e
     where
@@ -145,7 +145,7 @@ module _ {S T K : Type 0} (x : ByteText S T K) (h : IsBounded x) where
       go InLine e = let l = small_value n (none_when (nat_lt line_value_limit n) x.too_large e) in omega (arith, l)
       go Words e = let l = small_value n (none_when (nat_lt line_value_limit n) x.too_large e) in omega (arith, l)
 
-  -- and nothing stands against lesser ones from 1 on
+  -- if a number has no fault, no smaller one from 1 on has one
   below : (s : Spelling S) (m n : ℕ) → 1 ≤ m → m ≤ n → against_number x s n ≡ None → against_number x s m ≡ None
   below s m n some l e = go s.within e
     where
@@ -165,7 +165,7 @@ module _ {S T K : Type 0} (x : ByteText S T K) (h : IsBounded x) where
   abbrev pub with : Spelling S → ℕ → ℕ → Spelling S
   with s n k = record s { numeral = record s.numeral { number = n; spelled = k } }
 
-  -- what stands against a digit stands against its number
+  -- the fault of a digit is that of the number with it
   digit_against : (s : Spelling S) (b : ℕ) → is_ascii_digit b ≡ true
       → against_next x s b ≡ against_number x s (s.numeral.number * 10 + (b - 48))
   digit_against s b d =
@@ -199,7 +199,7 @@ module _ {S T K : Type 0} (x : ByteText S T K) (h : IsBounded x) where
         digit_read s b d (omega (arith, e, l)) ∙ ap (λ (m : ℕ). with s m (one_more s.numeral.spelled)) e,
       )
 
-  -- digits behind a number from 1 on
+  -- digits after a number from 1 on pass, if the number with them has no fault
   digits_pass : (ds : List ℕ) (s : Spelling S) → AllDigits 10 ds → 1 ≤ s.numeral.number
       → against_number x s (digits_value_after 10 s.numeral.number ds) ≡ None
       → (k : ℕ) × Passes (fold_of x) s (reads ds) ×
@@ -244,7 +244,7 @@ module _ {S T K : Type 0} (x : ByteText S T K) (h : IsBounded x) where
                 (λ (t : Spelling S). after (fold_of x) t (reads (c ∷ ds))) one.1 ∙ w.2,
           )
 
-  -- digits against which nothing stands, and parts behind them
+  -- digits without a fault, and parts after them
   digits_stand : (ds : List ℕ) (s : Spelling S) (xs : List (Part ℕ Numbered)) → AllDigits 10 ds
       → against_number x s s.numeral.number ≡ None → Stand (fold_of x) (numbers_of x) s (says ds xs)
       → (k : ℕ) × (against_number x s (digits_value_after 10 s.numeral.number ds) ≡ None)
@@ -264,7 +264,7 @@ module _ {S T K : Type 0} (x : ByteText S T K) (h : IsBounded x) where
       (subst (λ (t : Spelling S). Stand (fold_of x) (numbers_of x) t (says ds xs)) one.1 stands.1) in
       (w.0, w.1, w.2, ap (λ (t : Spelling S). come (fold_of x) (numbers_of x) t (says ds xs)) one.1 ∙ w.3)
 
-  -- the same from the beginning of a number
+  -- digits without a fault at the beginning of a number, and parts after them
   pub plain_stands : (v : Plain) (s : Spelling S) (xs : List (Part ℕ Numbered)) → s.numeral.number ≡ 0
       → Stand (fold_of x) (numbers_of x) s (says (v.first ∷ v.others) xs)
       → (k : ℕ) × (against_number x s (number_of v) ≡ None)
@@ -326,7 +326,7 @@ module _ {S T K : Type 0} (x : ByteText S T K) (h : IsBounded x) where
       let e = ended begun _ (put_number x (Value (negsuc n)) s) (decimal (suc n)) 1 w.1 w.2 refl in
       ((k.0, e.0), e.1)
 
-  -- and so is a signed number
+  -- the events of a signed number that stands pass, and put the number
   signed_put : (s : Spelling S) (z : ℤ) → NumberStands x s (Signed z) → Passes (fold_of x) s (number_events (Signed z))
       × (after (fold_of x) s (number_events (Signed z)) ≡ put_number x (Signed z) s)
   signed_put s (pos n) k =
@@ -339,14 +339,14 @@ module _ {S T K : Type 0} (x : ByteText S T K) (h : IsBounded x) where
       let e = ended begun _ (put_number x (Signed (negsuc n)) s) (decimal (suc n)) 7 w.1 w.2 refl in
       ((k.0, e.0), e.1)
 
-  -- within a line of values, and behind it
+  -- the state within a line of values, and the state after it
   abbrev pub lined : S → Numeral → List ℤ → Spelling S
   lined o m vs = record { own = o; numeral = m; within = InLine; values = vs }
 
   abbrev pub behind : S → List ℤ → Spelling S
   behind o vs = record { own = x.line vs o; numeral = fresh; within = Words; values = [] }
 
-  -- nothing stands against a value in a line exactly where it is small
+  -- a value in a line has no fault exactly if it is small
   small_stands : (o : S) (ws : List ℤ) (v : ℤ) → unsigned_abs v ≤ line_value_limit
       → against_value x (lined o fresh ws) v ≡ None
   small_stands o ws (pos n) l = when_none (nat_lt line_value_limit n) x.too_large (value_small n l)
@@ -357,7 +357,7 @@ module _ {S T K : Type 0} (x : ByteText S T K) (h : IsBounded x) where
   stands_small o m ws (pos n) e = small_value n (none_when (nat_lt line_value_limit n) x.too_large e)
   stands_small o m ws (negsuc n) e = small_value (suc n) (none_when (nat_lt line_value_limit (suc n)) x.too_large e)
 
-  -- what is left of a line of values is put by its events
+  -- the events of the rest of a line of values pass, and lead to the state after it
   values_put : (vs : List ℤ) (o : S) (m : Numeral) (ws : List ℤ) → AreSmall vs → BytesStand x o vs
       → x.against_line o (length (ws ++ vs)) ≡ None → Passes (fold_of x) (lined o m ws) (values_events vs)
       × (after (fold_of x) (lined o m ws) (values_events vs) ≡ behind o (ws ++ vs))
@@ -381,7 +381,7 @@ module _ {S T K : Type 0} (x : ByteText S T K) (h : IsBounded x) where
             ∙ ap (behind o) (append_assoc ws (v ∷ []) vs),
       )
 
-  -- what is put is put by its events
+  -- numbers and lines are printed by their events
   pub numbers_put : IsPut (fold_of x) (numbers_of x)
   numbers_put = record { each = go }
     where

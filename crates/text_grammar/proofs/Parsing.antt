@@ -1,4 +1,4 @@
--- What a grammar derives leads along its table.
+-- The derivations of a grammar follow its table.
 use Rattle.std.proofs.Common.{◌≡◌, ℕ, ◌<◌, ◌≤◌, Bool, true, cond, not, ◌&&◌, ◌||◌, List, [], ◌∷◌, ◌++◌, refl, ap, sym}
 use Rattle.std.proofs.Common.{subst, ◌∙◌, arith}
 use Rattle.std.specs.Prelude.{⊤, ◌==◌}
@@ -15,22 +15,22 @@ use Rattle.text_grammar.proofs.LeadLaws.{lead-append}
 use Rattle.text_grammar.proofs.Readable.{Agrees, Readable}
 
 module _ {P : Type 0} (g : Grammar P) where
-  -- whether a class, or the end of the text, goes on with a lead
+  -- whether a lead accepts a class, or the end of the text
   abbrev pub takes : ℕ → Lead → Bool
   takes c l = matches l || (passes l && (c == g.classes))
 
-  -- what can come behind a nonterminal where these symbols are expected then is among what follows it
+  -- a class that these expected symbols accept is flagged as one that can follow nonterminal n
   abbrev pub Behind : ℕ → List Symbol → Type 0
   Behind n rest = (c : ℕ) → c ≤ g.classes → takes c (lead c (row_of g c) rest) ≡ true → is_flagged (follows g c) n ≡ true
 
-  -- the same for each nonterminal that is expected
+  -- this holds for each nonterminal that is expected
   abbrev pub Fits : List Symbol → Type 0
   Fits [] = ⊤
   Fits (Piece c ∷ rest) = Fits rest
   Fits (Mark m ∷ rest) = Fits rest
   Fits (Made n ∷ rest) = Behind n rest × Fits rest
 
-  -- marks change nothing about what goes on
+  -- marks before a lead don't change which classes it accepts
   takes-behind : (c : ℕ) (ms : List ℕ) (l : Lead) → takes c (behind ms l) ≡ takes c l
   takes-behind c ms (Matches ns rest) = refl
   takes-behind c ms (Passes ns) = refl
@@ -54,7 +54,7 @@ module _ {P : Type 0} (g : Grammar P) where
       flagged c l (Passes ms) h t = implied (is_flagged (follows g c) n) (is_flagged (follows g c) m) h (b c l (sym (takes-behind c ms (lead c (row_of g c) rest)) ∙ t))
       flagged c l Stuck h t = cc
 
-  -- where a class goes on with an alternative, its nonterminal leads where the alternative does
+  -- if a class is accepted by an alternative, the lead of its nonterminal is that of the alternative
   chosen : (c n : ℕ) (body rest : List Symbol) → c ≤ g.classes → Agrees g c → Among body (alternatives g.rules n) → Behind n rest → takes c (lead c (row_of g c) (body ++ rest)) ≡ true
       → lead c (row_of g c) (Made n ∷ rest) ≡ lead c (row_of g c) (body ++ rest)
   chosen c n body rest l agree a b t =
@@ -67,7 +67,7 @@ module _ {P : Type 0} (g : Grammar P) where
           (sym (same_lead (Passes ms) (entry (row_of g c) n) (implied (is_flagged (follows g c) n) _ h (b c l (sym (takes-behind c ms (lead c (row_of g c) rest)) ∙ t)))))
       go Stuck h t = cc
 
-  -- symbols lead behind a piece: marks are done, the piece is read, and the rest derives what is behind it
+  -- symbols accept a piece: marks are done, the piece is read, and the rest derives the pieces after it
   pub record Led (ss : List Symbol) (es : List (Event P)) (p : P) (ps : List P) : Type 0 where
     pub marks : List ℕ
     pub rest : List Symbol
@@ -77,7 +77,7 @@ module _ {P : Type 0} (g : Grammar P) where
     pub derived : Derives g rest events ps
     pub fits : Fits rest
 
-  -- symbols lead to the end: marks are done
+  -- symbols accept the end: marks are done
   pub record LedToEnd (ss : List Symbol) (es : List (Event P)) : Type 0 where
     pub marks : List ℕ
     pub leads : lead g.classes (row_of g g.classes) ss ≡ Passes marks
@@ -91,7 +91,7 @@ module _ {P : Type 0} (g : Grammar P) where
     placed : (n : ℕ) (body rest : List Symbol) → Among body (alternatives g.rules n) → Behind n rest × Fits rest → Fits (body ++ rest)
     placed n body rest a f = fits_body n rest f.0 f.1 body (λ c l. (readable.agree c l).followed n body a)
 
-    -- what symbols derive that begins with a piece leads behind it
+    -- symbols that derive pieces accept the first of them
     pub derived_led : {ss : List Symbol} {es : List (Event P)} {ps : List P} → Derives g ss es ps → Fits ss → (p : P) (qs : List P) → ps ≡ p ∷ qs → Led ss es p qs
     derived_led nothing f p qs e = cc
     derived_led (piece q {rest} {es} {ps} d) f p qs e =
@@ -123,7 +123,7 @@ module _ {P : Type 0} (g : Grammar P) where
       fits = h.fits;
     }
 
-    -- what symbols derive that is nothing leads to the end
+    -- symbols that derive no piece accept the end
     pub derived_ends : {ss : List Symbol} {es : List (Event P)} {ps : List P} → Derives g ss es ps → Fits ss → ps ≡ [] → LedToEnd ss es
     derived_ends nothing f e = record { marks = []; leads = refl; parts = refl }
     derived_ends (piece q d) f e = cc

@@ -1,5 +1,5 @@
--- Derivations and values of nonterminals: what is derived with nothing against it is what the parts of a value spell,
--- and the other way round, for every grammar whose alternatives do so.
+-- Derivations and values of nonterminals: derived events without a fault are those of a value's parts, and the other
+-- way round, for every grammar whose alternatives give values.
 use Rattle.std.proofs.Common.{◌≡◌, ℕ, List, [], ◌∷◌, ◌++◌, refl, ap, sym, subst, ◌∙◌, append_assoc, append-nil, Option}
 use Rattle.std.proofs.Common.{Some, None, inl, inr}
 use Rattle.text_core.specs.Faults.{Among}
@@ -15,7 +15,7 @@ use Rattle.text_grammar.proofs.FoldLaws.{after_append, passes_append, passes_spl
 use Rattle.text_grammar.proofs.Induction.{StandsAlong, derived_stands}
 
 module _ {P S T K A : Type 0} (f : Fold P S T K) (a : Wholes P S A) where
-  -- parts one behind the other
+  -- the events of appended parts
   pub events-append : (xs ys : List (Part P A)) → events_of f a (xs ++ ys) ≡ events_of f a xs ++ events_of f a ys
   events-append [] ys = refl
   events-append (Says p ∷ xs) ys = ap (λ (es : List (Event P)). Read p ∷ es) (events-append xs ys)
@@ -52,7 +52,7 @@ module _ {P S T K A : Type 0} (f : Fold P S T K) (a : Wholes P S A) where
   stand_split s (Does m ∷ xs) ys h = stand_split (f.done m s) xs ys h
   stand_split s (Puts z ∷ xs) ys h = let w = stand_split (a.put z s) xs ys h.1 in ((h.0, w.0), w.1)
 
-  -- parts without faults do what their events do
+  -- the events of parts without faults pass, and lead to the same state
   pub events_pass : IsPut f a → (s : S) (xs : List (Part P A)) → Stand f a s xs → Passes f s (events_of f a xs)
       × (after f s (events_of f a xs) ≡ come f a s xs)
   events_pass h s [] k = (tt, refl)
@@ -88,7 +88,7 @@ module _ {P S T K A : Type 0} (f : Fold P S T K) (a : Wholes P S A) where
     abbrev NumberContext : List Symbol → S → S → List P → Type 0
     NumberContext ss s t ps = (vs : Values g only V parts ss) × ComesTo f a s t ps (body_parts g only V parts ss vs)
 
-    -- a piece, and values behind it
+    -- a piece before the values of the remaining symbols
     within_piece : IsOnly g only → (c : ℕ) (ss : List Symbol) (p : P) (s t : S) (ps : List P) → g.class_of p ≡ c
         → f.against s p ≡ None → NumberContext ss (f.read p s) t ps → NumberContext (Piece c ∷ ss) s t (p ∷ ps)
     within_piece h c ss p s t ps k n w = go (only c) refl
@@ -143,7 +143,7 @@ module _ {P S T K A : Type 0} (f : Fold P S T K) (a : Wholes P S A) where
               (after_append f s ds fs) ∙ ap (after f s) (sym e);
         } in ((v.0, r.0), subst (ComesTo f a s (after f s es) ps) (sym (parts_made n ss v.0 r.0)) whole)
 
-    -- what is derived with nothing against it is a value
+    -- derived events without a fault come from a value
     pub derived_value : IsOnly g only → AreMade f a g only V parts → (n : ℕ) {es : List (Event P)} {ps : List P}
         → Derives g (Made n ∷ []) es ps → StandsFor f a g only V parts n es ps
     derived_value h k n {es} {ps} d s passes =
@@ -153,7 +153,7 @@ module _ {P S T K A : Type 0} (f : Fold P S T K) (a : Wholes P S A) where
         (alternatives g.rules m) (k.each m) body among r.0 t (after f t fs) qs r.1) d) s passes in
         (w.0.0, w.1)
 
-    -- and so are the symbols
+    -- the events of the parts of symbols' values are derived from the symbols
     body_derived : IsOnly g only → (ss : List Symbol) (vs : Values g only V parts ss) → AreDerived f a g only V parts ss vs
         → Derives g ss (events_of f a (body_parts g only V parts ss vs)) (spelled f a (body_parts g only V parts ss vs))
     body_derived h [] u d = nothing

@@ -1,4 +1,4 @@
--- What a grammar's test says.
+-- What a grammar satisfies if the test of it is true.
 use Rattle.std.proofs.Common.{◌≡◌, ℕ, suc, ◌<◌, ◌≤◌, true, ◌&&◌, List, [], refl, arith}
 use Rattle.std.specs.Prelude.{◌==◌}
 use Rattle.std.specs.List.{list_all}
@@ -12,7 +12,7 @@ use Rattle.text_grammar.specs.Sounding.{completed, agrees, is_readable}
 use Rattle.text_grammar.proofs.Tests.{both, each_at, each_below_at, all_among, all_at}
 
 module _ {P : Type 0} (g : Grammar P) where
-  -- alternatives agree with the entries of a class and with what follows
+  -- alternatives agree with the entries of a class and with the pieces that can follow
   pub record Agrees (c : ℕ) : Type 0 where
     pub entered : (n : ℕ) (body : List Symbol) → Among body (alternatives g.rules n) → is_entry (lead c (row_of g c) body) (entry (row_of g c) n) (is_flagged (follows g c) n) ≡ true
     pub followed : (n : ℕ) (body : List Symbol) → Among body (alternatives g.rules n) → has_follows c (row_of g c) (follows g c) (is_flagged (follows g c) n) body ≡ true
@@ -25,7 +25,7 @@ module _ {P : Type 0} (g : Grammar P) where
     pub completes : is_flagged (completed g) 0 ≡ true
     pub sampled : (c : ℕ) → c < g.classes → g.class_of (g.sample c) ≡ c
 
-  -- what the test of a class says
+  -- if the test of a class is true, its alternatives agree
   agreed : (c : ℕ) → agrees g c ≡ true → Agrees c
   agreed c h =
       let b = both (each (λ n bodies. list_all (λ body. is_entry (lead c (row_of g c) body) (entry (row_of g c) n) (is_flagged (follows g c) n)
@@ -38,7 +38,7 @@ module _ {P : Type 0} (g : Grammar P) where
         completed_lead = all_at (is_completed_lead g) (row_of g c) Stuck b.1 refl;
       }
 
-  -- the test says so
+  -- if the test is true, the grammar can be parsed
   pub readable_if : is_readable g ≡ true → Readable
   readable_if h =
       let a = both ((each_below (suc g.classes) (agrees g) && is_flagged (follows g g.classes) 0) && is_flagged (completed g) 0) _ h in

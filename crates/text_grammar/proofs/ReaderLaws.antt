@@ -22,7 +22,8 @@ module _ {P T K : Type 0} (x : Text P T K) (lawful : IsLawful x) where
   pub readable : Readable x.grammar
   readable = readable_if x.grammar lawful.readable
 
-  -- what pieces lead to: the text derives what has been read and what is expected then, which can be completed
+  -- the invariant of a parser state that pieces reach: the text derives what was read and then what is expected, which
+  -- can be completed
   pub record IsAt (done : List P) (f : Front P) : Type 0 where
     pub derives : (es : List (Event P)) (ps : List P) → Derives x.grammar f.expected es ps → Derives x.grammar (Made 0 ∷ []) (onto f.events es) (onto done ps)
     pub completed : is_completed x.grammar.classes (completed x.grammar) f.expected ≡ true
@@ -45,7 +46,7 @@ module _ {P T K : Type 0} (x : Text P T K) (lawful : IsLawful x) where
       go (Passes ms) k s = cc
       go Stuck k s = cc
 
-  -- what pieces lead to is so
+  -- every reached state satisfies the invariant
   pub reached_at : (done : List P) (f : Front P) → reached (reader x) done ≡ Some f → IsAt done f
   reached_at [] f e = subst (IsAt []) (let same : record { events = []; expected = Made 0 ∷ [] } ≡ f = cc in same) record {
     derives = λ es ps d. d;
@@ -57,7 +58,7 @@ module _ {P T K : Type 0} (x : Text P T K) (lawful : IsLawful x) where
       go None k s ih = cc
       go (Some g) k s ih = at_next done g f p (ih g k) s
 
-  -- a text goes on from each front that pieces lead to
+  -- each state that pieces reach can be completed to a whole text
   goes_on : (done : List P) (f : Front P) → reached (reader x) done ≡ Some f → IsBeginning (reader x) done
   goes_on done f e =
       let h = reached_at done f e in
@@ -82,7 +83,7 @@ module _ {P T K : Type 0} (x : Text P T K) (lawful : IsLawful x) where
       go (Matches ms rest) k s = cc
       go Stuck k s = cc
 
-  -- what is derived is read, behind what has been read
+  -- derived pieces are accepted from a state that expects their symbols
   pub derived_read : (ps : List P) (f : Front P) (es : List (Event P)) → Derives x.grammar f.expected es ps → Fits x.grammar f.expected
       → (g : Front P) × (walk (reader x).step (Some f) ps ≡ Some g) × ((reader x).finish g ≡ Some (x.value (onto f.events es)))
   derived_read [] f es d fits =
@@ -103,7 +104,7 @@ module _ {P T K : Type 0} (x : Text P T K) (lawful : IsLawful x) where
       behind : (c : ℕ) → c ≤ x.grammar.classes → ((c == x.grammar.classes) ≡ true) → is_flagged (follows x.grammar c) 0 ≡ true
       behind c l h = subst (λ (k : ℕ). is_flagged (follows x.grammar k) 0 ≡ true) (sym (eqb-true c x.grammar.classes h)) readable.ends
 
-  -- the pieces of a tree lead to it
+  -- the pieces of a tree lead to a state that ends with this tree
   reads : (t : T) (ps : List P) → Writes x t ps → (f : Front P) × (walk (reader x).step (Some (reader x).beginning) ps ≡ Some f) × ((reader x).finish f ≡ Some t)
   reads t ps (es, d, e) = let r = derived_read ps (record { events = []; expected = Made 0 ∷ [] }) es d text_fits in (r.0, r.1, r.2 ∙ ap Some e)
 

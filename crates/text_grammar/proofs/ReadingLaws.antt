@@ -1,4 +1,4 @@
--- What has been read decides the answer with what is left.
+-- The state after some tokens decides the answer together with the remaining tokens.
 use Rattle.std.proofs.Common.{◌≡◌, ℕ, ◌<◌, List, [], ◌∷◌, Option, Some, None, refl, ap, sym, subst, ◌∙◌}
 use Rattle.text_core.specs.Tokens.{Token, pieces, AreInOrder}
 use Rattle.text_core.specs.Readers.{Fault, next, reached}
@@ -17,8 +17,8 @@ use Rattle.text_grammar.proofs.FloorLaws.{floor_settles}
 use Rattle.text_grammar.proofs.FirstLaws.{first_among-two}
 
 module _ {P T K : Type 0} (x : Text P T K) where
-  -- events that are known, and the tokens before, lead to what is expected; and reading on from there, with the refusal so
-  -- far, answers what all does
+  -- the events so far, with the tokens before, lead to the expected symbols; and reading from there, with the refusal
+  -- so far, gives the answer to the whole text
   pub record Decides (n : ℕ) (all : Answer T K) (Knows : List (Event P) → Type 0) (best : Option (Fault K)) (expected : List Symbol) (left : List (Token P)) : Type 0 where
     pub events : List (Event P)
     pub done : List (Token P)
@@ -101,7 +101,7 @@ module _ {P T K : Type 0} (x : Text P T K) where
       go d = sym d.decides ∙ ap (λ (o : Option (Fault K)). run (reader x) n (Going o d.done (record { events = d.events; expected = expected })) (t ∷ left)) is
           ∙ floor_settles x lawful n d.from d.done (t ∷ left) (record { events = d.events; expected = expected }) y d.led d.ordered (before d.events d.known)
 
--- the same where the text and what the token came to are known by equations
+-- one more token, where the text and the token's effect are known by equations
 pub decides_next : {P T K : Type 0} (x before after : Text P T K) (n : ℕ) (all : Answer T K) (Knows Now : List (Event P) → Type 0) (best following : Option (Fault K)) (expected rest : List Symbol) (t : Token P) (left old : List (Token P))
     (came : code.Advance K) (shown : Option (code_fault.Fault K)) → Decides x n all Knows best expected old → before ≡ x → after ≡ before → old ≡ t ∷ left
     → ((es : List (Event P)) → Knows es → Follows before Now es t (lead_at before (record { events = es; expected = expected }) t.piece) rest came) → came ≡ Led shown → following ≡ first_of_two after best (fault_of shown)

@@ -1,4 +1,4 @@
--- What a result says of the answer to a text in bytes is right, and follows from what reading says.
+-- A result that agrees with the answer to a text in bytes is right, and the result of reading agrees with the answer.
 use Rattle.std.proofs.Common.{◌≡◌, ℕ, List, length, Ok, Err, refl, sym, subst, ◌∙◌, Option, Some, None}
 use Rattle.std.specs.Prelude.{Result, IfSome}
 use Rattle.text_core.specs.Readers.{Fault}
@@ -15,7 +15,7 @@ use Rattle.text_grammar.specs.Results.{Tells, IsRight, Yields, refused_in}
 use Rattle.text_grammar.proofs.ReaderLaws.{reader_laws}
 
 module _ {T K Made E : Type 0} (x : Text ℕ T K) (tree_in : Made → T) (refusal_in : E → Option (Fault K)) where
-  -- a result that says what the answer is is right, where the trees that are answered are meant
+  -- a result that agrees with the answer is right, if the answered trees are meant
   pub tells_right : IsLawful x → (Meant : T → Type 0) (bytes : List ℕ)
       → ((t : T) → answer (reader x) (length bytes) (tokens bytes) ≡ Stands t → Meant t) → (result : Result Made E)
       → Tells tree_in refusal_in (answer (reader x) (length bytes) (tokens bytes)) result
@@ -38,7 +38,7 @@ module _ {T K Made E : Type 0} (x : Text ℕ T K) (tree_in : Made → T) (refusa
       go (Refused y) e i (Ok made) s = absurd s
       go (Refused y) e i (Err error) s = first y i (refusal_in error) s
 
-  -- and it is the tree that is answered
+  -- if a tree is answered, a result that agrees with the answer gives this tree
   pub tells_yields : (bytes : List ℕ) (t : T) → answer (reader x) (length bytes) (tokens bytes) ≡ Stands t
       → (result : Result Made E) → Tells tree_in refusal_in (answer (reader x) (length bytes) (tokens bytes)) result
       → Yields tree_in refusal_in t result
@@ -49,7 +49,7 @@ module _ {T K Made E : Type 0} (x : Text ℕ T K) (tree_in : Made → T) (refusa
       go (Ok made) s = s
       go (Err error) s = s
 
--- what reading says of an answer, the result says that makes its tree
+-- a result that represents the tree of an answer agrees with it
 pub says_tells : {T K Made : Type 0} (tree_in : Made → T) (a : Answer T K) (result : Result Made (Refusal K))
     → Says (λ made t. tree_in made ≡ t) a result → Tells tree_in refused_in a result
 says_tells tree_in (Stands t) (Ok made) s = s
@@ -59,14 +59,14 @@ says_tells tree_in (Refused z) (Ok made) s = absurd s
 says_tells tree_in (Refused z) (Err (Refuses y)) s = s
 says_tells tree_in (Refused z) (Err Memory) s = tt
 
--- and so does an error that stands for the same refusal
+-- an error agrees with an answer, if another error of the same refusal does
 pub tells_error : {T K Made E F : Type 0} (tree_in : Made → T) (one : E → Option (Fault K)) (other : F → Option (Fault K))
     (a : Answer T K) (e : E) (f : F) → other f ≡ one e → Tells tree_in one a (Err e) → Tells tree_in other a (Err f)
 tells_error tree_in one other (Stands t) e f same s = same ∙ s
 tells_error {K = K} tree_in one other (Refused x) e f same s =
     subst (λ (o : Option (Fault K)). IfSome o (λ y. y ≡ x)) (sym same) s
 
--- a tree that is made says the same whatever errors stand for
+-- a tree agrees with an answer, however errors are read
 pub tells_made : {T K Made E F : Type 0} (tree_in : Made → T) (one : E → Option (Fault K)) (other : F → Option (Fault K))
     (a : Answer T K) (made : Made) → Tells tree_in one a (Ok made) → Tells tree_in other a (Ok made)
 tells_made tree_in one other (Stands t) made s = s

@@ -21,7 +21,7 @@ has_end (AMark m ∷ items) = has_end items
 has_end (Or ∷ items) = has_end items
 has_end (End ∷ items) = true
 
--- the items behind the first rule
+-- the items after the first rule
 abbrev pub after_end : List Item → List Item
 after_end [] = []
 after_end (APiece c ∷ items) = after_end items
@@ -30,7 +30,8 @@ after_end (AMark m ∷ items) = after_end items
 after_end (Or ∷ items) = after_end items
 after_end (End ∷ items) = items
 
--- alternatives and symbols that have been read, and then items: the rule that ends in them, and the rules behind it
+-- the rules that items denote after alternatives and symbols that were read: the rule that ends in them, and the rules
+-- after it
 abbrev behind_read : (bodies : List (List Symbol)) (body : List Symbol) (items : List Item) → List (List (List Symbol))
 behind_read bodies body items = cond (has_end items) ((bodies ++ (body ++ body_of items) ∷ others_of items) ∷ rules_of (after_end items)) []
 
@@ -45,7 +46,7 @@ rules_read bodies body (Or ∷ items) =
     ∙ ap (λ b. cond (has_end items) ((bodies ++ b ∷ body_of items ∷ others_of items) ∷ rules_of (after_end items)) []) (sym (append-nil body))
 rules_read bodies body (End ∷ items) = ap (λ b. (bodies ++ b ∷ []) ∷ rules_of items) (sym (append-nil body))
 
--- items that spell a rule and others behind it
+-- items denote a first rule and the others after it
 pub first_rule : (items : List Item) → has_end items ≡ true → rules_of items ≡ alternatives_of items ∷ rules_of (after_end items)
 first_rule items h = rules_read [] [] items ∙ ap (λ b. cond b (alternatives_of items ∷ rules_of (after_end items)) []) h
 
@@ -62,7 +63,7 @@ more_rules done rule left after items all ends behind is =
     ∙ ap (λ rs. done ++ rs) (sym (first_rule rule (ends ∙ ap has_end is)))
     ∙ all
 
--- and where none is left
+-- if no items are left, the rules read so far are all
 pub all_rules : (done : List (List (List Symbol))) (rule left items : List Item) → done ++ rules_of rule ≡ rules_of items → has_end rule ≡ has_end left → length left ≡ 0 → done ≡ rules_of items
 all_rules done rule left items all ends none = sym (append-nil done) ∙ ap (λ rs. done ++ rs) (sym (no_rule rule (ends ∙ ap has_end (empty left none)))) ∙ all
   where
@@ -70,7 +71,7 @@ all_rules done rule left items all ends none = sym (append-nil done) ∙ ap (λ 
     empty [] h = refl
     empty (x ∷ xs) h = cc
 
--- the alternatives of a nonterminal, and of what is none
+-- the alternatives of a nonterminal, and none where there is no such nonterminal
 pub rule_at : (rules : List (Bor (List Item))) (n : ℕ) (rule : Bor (List Item)) → n < length rules → rule ≡ slice_index_or rules n rule → alternatives (rules_view rules) n ≡ alternatives_of rule.now
 rule_at rules n rule l is = get_or-map (λ (r : Bor (List Item)). alternatives_of r.now) rules n rule [] l ∙ ap (λ (r : Bor (List Item)). alternatives_of r.now) (sym is)
 

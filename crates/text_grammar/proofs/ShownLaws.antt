@@ -1,4 +1,4 @@
--- A refusal is shown at a token exactly where it is a fault of the token behind derived events.
+-- A refusal is shown at a token exactly if it is a fault of the token after derived events.
 use Rattle.std.proofs.Common.{◌≡◌, ℕ, List, [], ◌∷◌, ◌++◌, Option, Some, None, refl, ap, sym, subst, ◌∙◌, inl, inr}
 use Rattle.std.specs.Prelude.{◌⊎◌}
 use Rattle.std.proofs.lemmas.List.{append-nil}
@@ -17,18 +17,18 @@ use Rattle.text_grammar.proofs.Parsing.{Fits, Led, derived_led}
 use Rattle.text_grammar.proofs.ReaderLaws.{readable, at_next, reached_at, text_fits}
 use Rattle.text_grammar.proofs.SilenceLaws.{stepped_to}
 
--- what comes before what comes before, and then the rest
+-- `onto` of a list that is itself built by `onto`
 onto-onto : {X : Type 0} (xs ys zs : List X) → onto (onto xs ys) zs ≡ onto ys (xs ++ zs)
 onto-onto [] ys zs = refl
 onto-onto (x ∷ xs) ys zs = onto-onto xs (x ∷ ys) zs
 
 module _ {P : Type 0} where
-  -- marks before events are done behind those before them
+  -- marks before events, after other events
   onto-marked : (ms : List ℕ) (es before : List (Event P)) → onto (marked ms es) before ≡ onto es (did before ms)
   onto-marked [] es before = refl
   onto-marked (m ∷ ms) es before = onto-marked ms es (Did m ∷ before)
 
-  -- marks read no piece, before events and behind them
+  -- marks read no piece
   read_in-marked : (ms : List ℕ) (es : List (Event P)) → read_in (marked ms es) ≡ read_in es
   read_in-marked [] es = refl
   read_in-marked (m ∷ ms) es = read_in-marked ms es
@@ -43,7 +43,7 @@ module _ {P : Type 0} where
   read_in-onto (Read p ∷ es) fs = read_in-onto es (Read p ∷ fs)
   read_in-onto (Did m ∷ es) fs = read_in-onto es (Did m ∷ fs)
 
-  -- events before a piece are the marks before the first piece that is read, or go on behind it
+  -- the events before a piece are some marks only, if it is the first piece; or they continue after the first piece
   split : (ms : List ℕ) (es : List (Event P)) (p q : P) (later events : List (Event P)) → es ++ Read p ∷ later ≡ marked ms (Read q ∷ events)
       → (es ≡ marked ms []) ⊎ ((fs : List (Event P)) × (es ≡ marked ms (Read q ∷ fs)) × (fs ++ Read p ∷ later ≡ events))
   split [] [] p q later events e = inl refl
@@ -61,7 +61,7 @@ module _ {P : Type 0} where
       go same (inr w) = inr (w.0, (let e = w.1 in cc), w.2)
 
 module _ {P T K : Type 0} (x : Text P T K) (lawful : IsLawful x) where
-  -- the events of a front read the pieces that lead to it
+  -- the events of a state read the pieces that lead to it
   front_reads : (done : List P) (f : Front P) → reached (reader x) done ≡ Some f → read_in f.events ≡ done
   front_reads [] f e = subst (λ (f : Front P). read_in f.events ≡ []) (let same : record { events = []; expected = Made 0 ∷ [] } ≡ f = cc in same) refl
   front_reads (p ∷ done) f e = go (reached (reader x) done) refl e (λ g k. front_reads done g k)
@@ -97,7 +97,7 @@ module _ {P T K : Type 0} (x : Text P T K) (lawful : IsLawful x) where
       go (Passes ms) k a = absurd a
       go Stuck k a = absurd a
 
-  -- pieces lead from a front to one where a piece is met behind events
+  -- pieces lead from a state to one where a piece is accepted after events
   record Met (f : Front P) (es : List (Event P)) (qs : List P) (p : P) : Type 0 where
     front : Front P
     marks : List ℕ
@@ -152,7 +152,7 @@ module _ {P T K : Type 0} (x : Text P T K) (lawful : IsLawful x) where
         subst (Among y) (sym (ap (shown_by x m.front.events t) m.leads ∙ ap (λ (fs : List (Event P)). x.faults fs t) m.same)) s.stands,
       )
 
-  -- hence refusals are shown exactly where they are faults of what is derived
+  -- refusals are shown exactly if they are faults of derived tokens
   pub shown_where_derived : ShownWhereDerived x
   shown_where_derived = record {
     shown = λ n done rest f t y e a. shown_stands done f t y e a;

@@ -1,4 +1,4 @@
--- A text is accepted exactly where it is derived and its tokens have no fault.
+-- A text is accepted exactly if it is derived and its tokens have no fault.
 use Rattle.std.proofs.Common.{◌≡◌, ℕ, List, [], ◌∷◌, Option, Some, refl, ap, sym, subst, ◌∙◌, inl, inr}
 use Rattle.text_core.specs.Tokens.{Token, pieces}
 use Rattle.text_core.specs.Readers.{Fault, onto, next, reached}
@@ -30,7 +30,7 @@ module _ {P T K : Type 0} (x : Text P T K) where
   silent_nothing before (Read p ∷ es) = tt
 
   module _ (lawful : IsLawful x) where
-    -- where symbols lead behind a token, the front does
+    -- where the expected symbols accept a token, the state steps
     pub stepped_to : (f : Front P) (es : List (Event P)) (p : P) (ps : List P) → (h : Led x.grammar f.expected es p ps) → (reader x).step f p ≡ Some (record { events = Read p ∷ did f.events h.marks; expected = h.rest })
     stepped_to f es p ps h = ap (stepped f.events p) h.leads
 
@@ -69,7 +69,7 @@ module _ {P T K : Type 0} (x : Text P T K) where
               (λ y a. none y (inr (subst (λ (o : Option (Front P)). Ahead (reader x) n (t ∷ done) o ts y) (sym (stepped_to f es t.piece (pieces ts) h)) a))),
         ))
 
-    -- a tree is answered exactly where it is derived in silence
+    -- a tree is answered exactly if it is derived in silence
     pub stands_where_silent : StandsWhereSilent x
     stands_where_silent = record {
       stands = λ n ts t e. told n ts t (subst (Answers (reader x) n ts) e (answer_is (reader x) (reader_laws x lawful) n ts));

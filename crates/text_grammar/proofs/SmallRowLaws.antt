@@ -89,20 +89,20 @@ text_derived rows l =
     by rows_bytes rows_bounded rows_numbers rows_readable RowsValue own_parts 0 _ (inl refl) (rows, tt)
     (rows_derived rows l, tt)
 
--- they spell their text
+-- the parts of rows spell the text of the rows
 rows_spell : (rows : Rows) → spelled (fold_of rows_bytes) (numbers_of rows_bytes) (rows_parts rows) ≡ rows_text rows
 rows_spell [] = refl
 rows_spell (r ∷ rs) =
     ap (λ (bs : List ℕ). codes "row " ++ (decimal r.number ++ (line_text r.values ++ bs))) (rows_spell rs)
 
--- between rows, and behind one
+-- the state between rows
 abbrev at : State → Spelling State
 at s = record { own = s; numeral = fresh; within = Words; values = [] }
 
 abbrev behind_row : State → Row → State
 behind_row s r = record { rows = s.rows ++ r ∷ []; number = r.number; values = r.values }
 
--- nothing stands against rows exactly where each is numbered and there are at most three
+-- rows have no fault exactly if each has an allowed number and as many values, and there are at most three
 rows_stand : (rows : Rows) (s : State) → AreNumbered rows → length s.rows + length rows ≤ 3
     → Stand (fold_of rows_bytes) (numbers_of rows_bytes) (at s) (rows_parts rows)
 rows_stand [] s l few = (refl, (refl, (refl, (refl, tt))))
@@ -138,13 +138,13 @@ stand_rows (r ∷ rs) s h =
       λ l. (let m = w.1 (omega (arith, count, one)) in omega (arith, count, m)),
     )
 
--- and they come to those before and them
+-- the state after rows has those before and these
 rows_come : (rows : Rows) (s : State)
     → (come (fold_of rows_bytes) (numbers_of rows_bytes) (at s) (rows_parts rows)).own.rows ≡ s.rows ++ rows
 rows_come [] s = sym (append-nil s.rows)
 rows_come (r ∷ rs) s = rows_come rs (behind_row s r) ∙ append_assoc s.rows (r ∷ []) rs
 
--- so what is printed is read, and what is read is printed
+-- printed rows are read back, and every text that is read is that of rows
 pub rows_read : RowsAreRead
 rows_read = record {
   printed = λ rows l.

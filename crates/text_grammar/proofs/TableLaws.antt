@@ -15,7 +15,7 @@ use Rattle.text_grammar.specs.Leads.{Lead, Matches, Passes, Stuck, better, entry
 use Rattle.text_grammar.specs.Tabled.{IsSound, Remains, HasPut, kept_row, row_in}
 use Rattle.text_grammar.specs.Views.{lead_of, leads_of}
 
--- of three leads the better one, either way
+-- `better` is associative
 pub better-better : (l k j : Lead) → better (better l k) j ≡ better l (better k j)
 better-better (Matches ms rest) k j = refl
 better-better (Passes ms) (Matches ns rest) j = refl
@@ -25,20 +25,20 @@ better-better (Passes ms) (Passes ns) Stuck = refl
 better-better (Passes ms) Stuck j = refl
 better-better Stuck k j = refl
 
--- a lead is better than none
+-- a lead is better than being stuck
 pub better-none : (l : Lead) → better l Stuck ≡ l
 better-none (Matches ms rest) = refl
 better-none (Passes ms) = refl
 better-none Stuck = refl
 
--- one more that is stuck changes no lead of a row
+-- a further stuck entry changes no lead of a row
 pub entry-longer : (row : List Lead) (n : ℕ) → entry (row ++ Stuck ∷ []) n ≡ entry row n
 entry-longer [] zero = refl
 entry-longer [] (suc n) = refl
 entry-longer (l ∷ row) zero = refl
 entry-longer (l ∷ row) (suc n) = entry-longer row n
 
--- a lead of a row after a round: its alternatives are led by the row of the round before
+-- an entry after a round is computed from the alternatives by the row of the round before
 pub entry-after : (rules : List (List (List Symbol))) (c k n : ℕ) → k ≢ 0 → entry (row_after rules c k) n ≡ lead_among c (row_after rules c (k - 1)) (alternatives rules n)
 entry-after rules c k n h = ap (λ (j : ℕ). entry (row_after rules c j) n) (stepped k h) ∙ of_lists.get_or-map (lead_among c (row_after rules c (k - 1))) rules n []
   where
@@ -74,11 +74,11 @@ module _ (t : Tables) (c : ℕ) (row : Vec code.Entry Global) (sound : IsSound t
       ap (λ rs. slice_index_or rs k []) (map-set (λ (r : Vec code.Entry Global). leads_of r.items) t.rows.items c row)
       ∙ get_or-set_other (map (λ (r : Vec code.Entry Global). leads_of r.items) t.rows.items) c k (leads_of row.items) [] h
 
-  -- keeps the lead that is put in the row
+  -- the lead that is stored in the row is that of the rules
   pub put_kept : (n : ℕ) (l : Lead) (old : List Lead) → HasPut old n l (leads_of row.items) → l ≡ entry (row_in t c) n → entry (kept_row next c) n ≡ entry (row_in t c) n
   put_kept n l old has is = ap (λ r. entry r n) row_there ∙ has.put ∙ is
 
-  -- and remains where the rules have that lead
+  -- storing a lead of the rules keeps the table sound
   pub put_remains : (n : ℕ) (l : Lead) (old : List Lead) → old ≡ kept_row t c → HasPut old n l (leads_of row.items) → l ≡ entry (row_in t c) n → Remains t next
   put_remains n l old was has is = record {
     rules = refl;

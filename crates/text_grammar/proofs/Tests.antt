@@ -1,4 +1,4 @@
--- What tests say where they are true.
+-- What holds where the tests are true.
 use Rattle.std.proofs.Common.{◌≡◌, ℕ, zero, suc, ◌<◌, Bool, true, false, not, ◌&&◌, ◌||◌, List, [], ◌∷◌, refl, ap, ◌∙◌}
 use Rattle.std.proofs.Common.{inl, inr, arith}
 use Rattle.std.specs.Prelude.{◌⊎◌, slice_index_or}
@@ -25,13 +25,13 @@ pub implied : (a b : Bool) → not a || b ≡ true → a ≡ true → b ≡ true
 implied true b h e = h
 implied false b h e = cc
 
--- what holds of each element holds at each place, if it does where there is none
+-- a test that holds of each element holds at each place, if it holds of the default
 pub each_at : {X : Type 0} (test : ℕ → X → Bool) (xs : List X) (d : X) → each test xs ≡ true → ((n : ℕ) → test n d ≡ true) → (n : ℕ) → test n (slice_index_or xs n d) ≡ true
 each_at test [] d h none n = none n
 each_at test (x ∷ xs) d h none zero = (both (test 0 x) _ h).0
 each_at test (x ∷ xs) d h none (suc n) = each_at (λ k. test (suc k)) xs d (both (test 0 x) _ h).1 (λ k. none (suc k)) n
 
--- what holds below a limit holds of each number there
+-- a test that holds below a limit holds of each number there
 pub each_below_at : (limit : ℕ) (test : ℕ → Bool) → each_below limit test ≡ true → (n : ℕ) → n < limit → test n ≡ true
 each_below_at zero test h n l = absurd (omega (arith, l))
 each_below_at (suc k) test h n l = go (both (test k) _ h) (below k n l) (λ b m. each_below_at k test b n m)
@@ -43,13 +43,13 @@ each_below_at (suc k) test h n l = go (both (test k) _ h) (below k n l) (λ b m.
     go h (inl e) ih = ap test e ∙ h.0
     go h (inr m) ih = ih h.1 m
 
--- what holds of all elements holds of each
+-- a test that holds of all elements holds of each
 pub all_among : {X : Type 0} (test : X → Bool) (xs : List X) (x : X) → list_all test xs ≡ true → Among x xs → test x ≡ true
 all_among test [] x h a = absurd a
 all_among test (y ∷ xs) x h (inl e) = ap test e ∙ (both (test y) _ h).0
 all_among test (y ∷ xs) x h (inr a) = all_among test xs x (both (test y) _ h).1 a
 
--- what holds of all elements holds at each place, if it does where there is none
+-- a test that holds of all elements holds at each place, if it holds of the default
 pub all_at : {X : Type 0} (test : X → Bool) (xs : List X) (d : X) → list_all test xs ≡ true → test d ≡ true → (n : ℕ) → test (slice_index_or xs n d) ≡ true
 all_at test [] d h none n = none
 all_at test (x ∷ xs) d h none zero = (both (test x) _ h).0
@@ -64,11 +64,11 @@ any_among test (y ∷ xs) h = go (either (test y) _ h) (λ k. any_among test xs 
     go (inl e) ih = (y, inl refl, e)
     go (inr k) ih = let w = ih k in (w.0, inr w.1, w.2)
 
--- numbers that are the same are one
+-- numbers that the test calls the same are equal
 pub same_number : (m n : ℕ) → is_same_number m n ≡ true → m ≡ n
 same_number m n h = eqb-true m n h
 
--- symbols that are the same are one
+-- symbols that the test calls the same are equal
 pub same_symbol : (s t : Symbol) → is_same_symbol s t ≡ true → s ≡ t
 same_symbol (Piece c) (Piece d) h = ap Piece (eqb-true c d h)
 same_symbol (Made c) (Made d) h = ap Made (eqb-true c d h)
@@ -80,7 +80,7 @@ same_symbol (Made c) (Mark d) h = cc
 same_symbol (Mark c) (Piece d) h = cc
 same_symbol (Mark c) (Made d) h = cc
 
--- lists whose elements are the same are one
+-- lists whose elements are pairwise the same are equal
 pub same_lists : {X : Type 0} (same : X → X → Bool) → ((x y : X) → same x y ≡ true → x ≡ y) → (xs ys : List X) → are_same same xs ys ≡ true → xs ≡ ys
 same_lists same one [] [] h = refl
 same_lists same one [] (y ∷ ys) h = cc
@@ -88,7 +88,7 @@ same_lists same one (x ∷ xs) [] h = cc
 same_lists same one (x ∷ xs) (y ∷ ys) h =
     let b = both (same x y) _ h in let e = one x y b.0 in let f = same_lists same one xs ys b.1 in cc
 
--- leads that are the same are one
+-- leads that the test calls the same are equal
 pub same_lead : (l k : Lead) → is_same_lead l k ≡ true → l ≡ k
 same_lead (Matches ms xs) (Matches ns ys) h =
     let b = both (are_same is_same_number ms ns) _ h in

@@ -52,7 +52,7 @@ classed p = go (p == 0) (p == 1)
     go false true = lit< tt
     go false false = lit< tt
 
--- the faults of a piece are at its position or behind it
+-- the faults of a piece are at its position or after it
 behind_it : (es : List (Event ℕ)) (t : Token ℕ) (y : Fault ℕ) → Among y (against es t) → t.at ≤ y.at
 behind_it es t y a = go ((length es == 2) && (t.piece == 0)) ((length es == 3) && (t.piece == 1)) a
   where

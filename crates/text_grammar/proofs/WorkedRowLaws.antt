@@ -21,7 +21,7 @@ numerals_worked = record {
   long_below = λ h. let l = h.1.0 in omega (arith, l);
 }
 
--- the byte `1` isn't the byte `2`, nor a 2 a 1
+-- two bytes, and two numbers, that differ
 bytes_differ : ◌≡◌ {A = List ℕ} (32 ∷ 49 ∷ 10 ∷ []) (32 ∷ 50 ∷ 10 ∷ []) → ⊥
 bytes_differ e = let f : ◌≡◌ {A = ℕ} 49 50 = cc in omega (arith, f)
 
@@ -53,7 +53,7 @@ parts_worked = record {
   none_comes = λ h. let l = h.stands.0.0.0 in omega (arith, l);
 }
 
--- no rules aren't those of values, and of the rules of a line and of what is left of it neither is the other
+-- the empty rules aren't those of values, nor those of the rest of a line, and the latter aren't those of a line
 no_rules : ([] ≡ value_rule) → ⊥
 no_rules e = cc
 

@@ -20,18 +20,18 @@ pub record Plain : Type 0 where
   pub digits : AllDigits 10 others
   pub lead : first ≡ 48 → others ≡ []
 
--- and not 0
+-- such a number that isn't 0
 pub record Positive : Type 0 where
   pub plain : Plain
   pub some : 49 ≤ plain.first
 
--- their number
+-- the number that digits without a leading zero write
 abbrev pub number_of : Plain → ℕ
 number_of v = digits_value_after 10 (v.first - 48) v.others
 
 module _ (W : ℕ → Type 0) (own : (n : ℕ) → W n → List (Part ℕ Numbered)) where
-  -- what the nonterminals stand for: the text, numbers, lines of values and what is left of them, signed numbers, and
-  -- then the others of the text's own
+  -- the values of the nonterminals: of the text; numbers, lines of values and the rest of such a line, and signed
+  -- numbers; and those of the text's other nonterminals
   abbrev pub ValueOf : ℕ → Type 0
   ValueOf zero = W 0
   ValueOf (suc zero) = ℤ

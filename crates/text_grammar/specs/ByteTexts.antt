@@ -33,13 +33,12 @@ bytes_within mode = record { each = λ b bytes. (lit< tt, omega arith) }
 abbrev pub tokens : List ℕ → List (Token ℕ)
 tokens bytes = tokens_of byte_at bytes
 
--- where a byte stands among others, and behind the last where it isn't there
+-- the position of a byte in a list, or the list's length if it isn't in it
 abbrev pub position_of : List ℕ → ℕ → ℕ
 position_of [] b = 0
 position_of (c ∷ cs) b = if b == c then 0 else suc (position_of cs b)
 
--- the class of a byte: `0`, `1`, `2` to `9`, `-`, a blank, a line feed, the letters of the words one by one, and any
--- other
+-- the class of a byte: `0`, `1`, `2` to `9`, `-`, a blank, a line feed, each letter of the words, and any other byte
 abbrev pub class_of : List ℕ → ℕ → ℕ
 class_of letters b =
     if b == 48 then 0 else if b == 49 then 1 else if is_ascii_digit b then 2 else if b == 45 then 3
@@ -95,11 +94,11 @@ line_rule = (Mark 4 ∷ Made 7 ∷ []) ∷ []
 abbrev pub values_rule : List (List Symbol)
 values_rule = (Piece 4 ∷ Made 1 ∷ Made 7 ∷ []) ∷ (Piece 5 ∷ Mark 5 ∷ []) ∷ []
 
--- and that of a number with a sign that comes to the text by itself
+-- the rule of a signed number by itself, outside a line of values
 abbrev pub signed_rule : List (List Symbol)
 signed_rule = (Mark 6 ∷ Piece 3 ∷ Made 4 ∷ Mark 7 ∷ []) ∷ (Mark 6 ∷ Made 3 ∷ Mark 7 ∷ []) ∷ []
 
--- they stand behind that of the text
+-- the rules of numbers come after that of the text
 pub record HasNumbers (rules : List (List (List Symbol))) : Type 0 where
   pub value : alternatives rules 1 ≡ value_rule
   pub natural : alternatives rules 2 ≡ natural_rule
@@ -124,7 +123,7 @@ fresh = record { negative = false; number = 0; spelled = 0 }
 abbrev pub one_more : ℕ → ℕ
 one_more n = min (n + 1) (2 ^ 64 - 1)
 
--- a byte is read: digits and `-` are of a number, and behind others a new one begins
+-- the number being spelled after one more byte: digits and `-` belong to it, and at any other byte a new one begins
 abbrev pub with_byte : ℕ → Numeral → Numeral
 with_byte b m =
     if is_ascii_digit b then record m { number = min (m.number * 10 + (b - 48)) (2 ^ 64); spelled = one_more m.spelled }
@@ -157,11 +156,10 @@ abbrev pub line_text : List ℤ → List ℕ
 line_text [] = 10 ∷ []
 line_text (v ∷ vs) = 32 ∷ (signed_decimal v ++ line_text vs)
 
--- a text in bytes: the letters of its words, its rules and the rounds of its table; what is remembered of it, which
--- natural numbers, signed numbers, lines of values and marks change; what stands against a natural number and against
--- a signed number at its first byte, against a line of so many values at its line feed, and against another byte; the
--- tree at the end; and kinds, of which one is that of a byte that can't follow and one that of a value that is too
--- large
+-- a text in bytes: the letters of its words, its rules and the rounds of its table; its state, and how natural
+-- numbers, signed numbers, lines of values and its own marks change it; the fault of a natural number, of a signed
+-- number, of a line with so many values (at its line feed), and of another byte; the tree at the end; and the order of
+-- the kinds of faults, with the kinds of a byte that can't follow and of a value that is too large
 pub record ByteText (S T K : Type 0) : Type 0 where
   pub letters : List ℕ
   pub rules : List (List (List Symbol))
@@ -180,14 +178,14 @@ pub record ByteText (S T K : Type 0) : Type 0 where
   pub syntax : K
   pub too_large : K
 
--- what is remembered, the number that is being spelled, within what that is, and the values of the line so far
+-- the state of reading: the text's own state, the number being spelled, its context, and the values of the line so far
 pub record Spelling (S : Type 0) : Type 0 where
   pub own : S
   pub numeral : Numeral
   pub within : NumberContext
   pub values : List ℤ
 
--- what is put is a value, a natural number, a signed number or a line of values
+-- what a part prints as a whole: a value, a natural number, a signed number or a line of values
 pub data Numbered : Type 0 where
   Value : ℤ → Numbered
   Natural : ℕ → Numbered
@@ -204,12 +202,12 @@ abbrev pub says : List ℕ → List (Part ℕ Numbered) → List (Part ℕ Numbe
 says [] xs = xs
 says (b ∷ bytes) xs = Says b ∷ says bytes xs
 
--- a line of values as parts, behind its beginning
+-- the parts of a line of values after its begin mark
 abbrev pub values_parts : List ℤ → List (Part ℕ Numbered)
 values_parts [] = Says 10 ∷ Does 5 ∷ []
 values_parts (v ∷ vs) = Says 32 ∷ Puts (Value v) ∷ values_parts vs
 
--- the events of a value, and of a line of values behind its beginning
+-- the events of a value, and of a line of values after its begin mark
 abbrev pub value_events : ℤ → List (Event ℕ)
 value_events z = Did 0 ∷ (reads (signed_decimal z) ++ Did 1 ∷ [])
 
@@ -217,7 +215,7 @@ abbrev pub values_events : List ℤ → List (Event ℕ)
 values_events [] = Read 10 ∷ Did 5 ∷ []
 values_events (v ∷ vs) = Read 32 ∷ (value_events v ++ values_events vs)
 
--- what is put, as events and as text
+-- the events of such a part, and its text
 abbrev pub number_events : Numbered → List (Event ℕ)
 number_events (Value z) = value_events z
 number_events (Natural n) = Did 3 ∷ (reads (decimal n) ++ Did 2 ∷ [])
@@ -245,8 +243,7 @@ module _ {S T K : Type 0} (x : ByteText S T K) where
       else if m == 7 then record s { own = x.signed (signed s.numeral) s.own; numeral = fresh; within = Words }
       else record s { own = x.done m s.own }
 
-  -- what stands against a number: against a natural one, against a signed one with its sign, or against a value that is
-  -- too large
+  -- the fault of a number: of a natural one, of a signed one, or of a value, which can be too large
   abbrev pub against_in : NumberContext → S → Bool → ℕ → Option K
   against_in InNatural s negative n = x.against_natural s n
   against_in InSigned s negative n = x.against_signed s (with_sign negative n)
@@ -256,7 +253,7 @@ module _ {S T K : Type 0} (x : ByteText S T K) where
   abbrev pub against_number : Spelling S → ℕ → Option K
   against_number s n = against_in s.within s.own s.numeral.negative n
 
-  -- what stands against a line feed: against the line that it ends, or against the byte
+  -- the fault of a line feed: that of the line which it ends, or that of the byte
   abbrev pub against_feed : NumberContext → S → ℕ → Option K
   against_feed InLine s n = x.against_line s n
   against_feed InNatural s n = x.against_byte s 10
@@ -266,7 +263,7 @@ module _ {S T K : Type 0} (x : ByteText S T K) where
   abbrev pub against_other : NumberContext → S → ℕ → ℕ → Option K
   against_other w s n b = if b == 10 then against_feed w s n else x.against_byte s b
 
-  -- what stands against a byte: against a number with one digit more, a line, or another byte
+  -- the fault of a byte: that of the number with one more digit, that of a line, or that of another byte
   abbrev pub against_next : Spelling S → ℕ → Option K
   against_next s b =
       if is_ascii_digit b then against_number s (s.numeral.number * 10 + (b - 48))
@@ -293,30 +290,30 @@ module _ {S T K : Type 0} (x : ByteText S T K) where
   abbrev pub texts_of : Text ℕ T K
   texts_of = folded fold_of grammar_of
 
-  -- nothing stands against the `-` of a number, where it has one
+  -- the `-` of a number below 0 has no fault
   abbrev pub MinusStands : S → ℤ → Type 0
   MinusStands s (pos n) = ⊤
   MinusStands s (negsuc n) = x.against_byte s 45 ≡ None
 
-  -- nor against the blank and the `-` of each value of a line
+  -- the blank before each value of a line, and its `-` if it is below 0, have no fault
   abbrev pub BytesStand : S → List ℤ → Type 0
   BytesStand s [] = ⊤
   BytesStand s (v ∷ vs) = (x.against_byte s 32 ≡ None) × MinusStands s v × BytesStand s vs
 
-  -- what stands against a value within what it is spelled, behind its `-`
+  -- the fault of a value in its context, without that of its `-`
   abbrev pub against_value : Spelling S → ℤ → Option K
   against_value s (pos n) = against_in s.within s.own false n
   against_value s (negsuc n) = against_in s.within s.own true (suc n)
 
-  -- when nothing stands against what is put: a value is small, nothing stands against a natural or a signed number, and
-  -- the values of a line are small and as many as they may be; nor against any `-` or blank in them
+  -- a part printed as a whole has no fault: a value is small, a natural or signed number has no fault, and the values
+  -- of a line are small and their number has no fault; no `-` and no blank in it has a fault
   abbrev pub NumberStands : Spelling S → Numbered → Type 0
   NumberStands s (Value z) = MinusStands s.own z × (against_value s z ≡ None)
   NumberStands s (Natural n) = x.against_natural s.own n ≡ None
   NumberStands s (Signed z) = MinusStands s.own z × (x.against_signed s.own z ≡ None)
   NumberStands s (Line vs) = AreSmall vs × BytesStand s.own vs × (x.against_line s.own (length vs) ≡ None)
 
-  -- what it does
+  -- the state after such a part
   abbrev pub put_number : Numbered → Spelling S → Spelling S
   put_number (Value z) s = record s { numeral = fresh; values = s.values ++ z ∷ [] }
   put_number (Natural n) s = record s { own = x.natural n s.own; numeral = fresh; within = Words }
@@ -326,8 +323,8 @@ module _ {S T K : Type 0} (x : ByteText S T K) where
   abbrev pub numbers_of : Wholes ℕ (Spelling S) Numbered
   numbers_of = record { events = number_events; text = number_text; Fine = NumberStands; put = put_number }
 
-  -- a natural number against which nothing stands is below 2^64, and nothing stands against lesser ones from 1 on; so
-  -- it is with signed numbers in absolute value, those of each sign by themselves
+  -- a natural number without a fault is below 2^64, and every smaller one from 1 on has no fault; the same holds of
+  -- the absolute values of signed numbers of one sign
   pub record IsBounded : Type 0 where
     pub small : (s : S) (n : ℕ) → x.against_natural s n ≡ None → n < 2 ^ 64
     pub below : (s : S) (m n : ℕ) → 1 ≤ m → m ≤ n → x.against_natural s n ≡ None → x.against_natural s m ≡ None

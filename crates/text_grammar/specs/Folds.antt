@@ -1,13 +1,13 @@
--- Texts whose events are folded one by one, with at most one fault for each token.
+-- Texts that fold over their events, with at most one fault for each token.
 use Rattle.std.specs.Prelude.{◌≡◌, ℕ, List, [], ◌∷◌, Option, Some, None, ⊤}
 use Rattle.text_core.specs.Tokens.{Token}
 use Rattle.text_core.specs.Readers.{Fault, onto}
 use Rattle.text_grammar.specs.Grammars.{Grammar, Event, Read, Did}
 use Rattle.text_grammar.specs.Texts.{Text}
 
--- a fold over events: its state before the first event, behind a piece and behind a mark; the kind and the position of
--- the fault of a piece that can follow; the floor (no later fault is before it); the tree at the end; and the order of
--- kinds
+-- a fold over events: the state before the first event, the state after a piece (`read`) and after a mark (`done`);
+-- the kind and the position of the fault of a piece that can follow; the floor, before which no later fault is; the
+-- tree at the end; the order of the kinds; and the kind where the text breaks off (`off`)
 pub record Fold (P S T K : Type 0) : Type 0 where
   pub begun : S
   pub read : P → S → S
@@ -25,7 +25,7 @@ refusals None at = []
 refusals (Some kind) at = record { kind = kind; at = at } ∷ []
 
 module _ {P S T K : Type 0} (f : Fold P S T K) where
-  -- what is remembered behind events, the last one first
+  -- the state after events, of which the last one is first
   abbrev pub state : List (Event P) → S
   state [] = f.begun
   state (Read p ∷ es) = f.read p (state es)
@@ -42,7 +42,7 @@ module _ {P S T K : Type 0} (f : Fold P S T K) where
     off = f.off;
   }
 
-  -- what is remembered behind events from a state on
+  -- the state after events, from a state s
   abbrev pub after : S → List (Event P) → S
   after s [] = s
   after s (Did m ∷ es) = after (f.done m s) es

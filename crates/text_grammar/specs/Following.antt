@@ -20,8 +20,8 @@ module _ {P T K : Type 0} (x : Text P T K) where
   first_of_two (Some a) None = Some a
   first_of_two (Some a) (Some b) = Some (first_of (reader x) (Some a) b)
 
-  -- what a token with this lead does: it is read after its marks, the rest of the symbols is expected then, and the
-  -- first fault of the token is reported; or it can't follow
+  -- the effect of a token with this lead: its marks are done, it is read, the rest of the symbols is expected, and its
+  -- first fault is reported; or it can't follow
   abbrev pub Follows : (List (Event P) → Type 0) → List (Event P) → Token P → Lead → List Symbol → code.Advance K
       → Type 0
   Follows Knows es t (Matches ms rest) expected (Led shown) =
@@ -33,7 +33,7 @@ module _ {P T K : Type 0} (x : Text P T K) where
   Follows Knows es t Stuck expected (Led shown) = ⊥
   Follows Knows es t Stuck expected Off = ⊤
 
--- a result says what an answer is, or that memory ran out
+-- a result agrees with an answer, or memory ran out
 abbrev pub Says : {T K Made : Type 0} → (Made → T → Type 0) → Answer T K → Result Made (code_refusal.Refusal K) → Type 0
 Says Makes (Stands t) (Ok made) = Makes made t
 Says Makes (Stands t) (Err (Refuses y)) = ⊥

@@ -6,8 +6,8 @@ use Rattle.text_grammar.specs.declared.symbol.Symbol.TheVariants.{Piece, Made, M
 use Rattle.text_grammar.specs.declared.symbol.Item.{Item}
 use Rattle.text_grammar.specs.declared.symbol.Item.TheVariants.{APiece, AMade, AMark, Or, End}
 
--- the alternatives of each nonterminal, of which number 0 is the text; which of so many classes a piece belongs to, and
--- a piece of each; and after how many rounds the rows of its table are what they stay
+-- a grammar: the alternatives of each nonterminal, of which number 0 is the text; the number of classes, the class of
+-- each piece and a piece of each class; and the number of rounds after which the rows of its table no longer change
 pub record Grammar (P : Type 0) : Type 0 where
   pub rules : List (List (List Symbol))
   pub classes : ℕ
@@ -15,7 +15,7 @@ pub record Grammar (P : Type 0) : Type 0 where
   pub sample : ℕ → P
   pub rounds : ℕ
 
--- what happens along a text: a piece is read, or what a mark stands for is done
+-- the events of a parse: a piece is read, or a mark (an action) is done
 pub data Event (P : Type 0) : Type 0 where
   Read : P → Event P
   Did : ℕ → Event P
@@ -25,8 +25,8 @@ abbrev pub alternatives : List (List (List Symbol)) → ℕ → List (List Symbo
 alternatives rules n = slice_index_or rules n []
 
 module _ {P : Type 0} (g : Grammar P) where
-  -- symbols derive events and pieces: nothing derives nothing; a class derives a piece of it, which is read; a mark
-  -- derives no piece, and is done; and a nonterminal derives what one of its alternatives does in its place
+  -- symbols derive events and pieces: the empty list derives none; a class derives one of its pieces, which is read; a
+  -- mark derives no piece, and is done; and a nonterminal derives what one of its alternatives derives
   pub data Derives : List Symbol → List (Event P) → List P → Type 0 where
     nothing : Derives [] [] []
     piece : (p : P) {rest : List Symbol} {es : List (Event P)} {ps : List P} → Derives rest es ps
@@ -36,7 +36,7 @@ module _ {P : Type 0} (g : Grammar P) where
     made : (n : ℕ) (body : List Symbol) {rest : List Symbol} {es : List (Event P)} {ps : List P}
         → Among body (alternatives g.rules n) → Derives (body ++ rest) es ps → Derives (Made n ∷ rest) es ps
 
--- the rules that items spell, behind alternatives and symbols of the first one that have been read
+-- the rules that items denote, after the alternatives and the symbols of the first rule that were read
 abbrev pub rules_behind : List (List Symbol) → List Symbol → List Item → List (List (List Symbol))
 rules_behind bodies body [] = []
 rules_behind bodies body (APiece c ∷ items) = rules_behind bodies (body ++ Piece c ∷ []) items

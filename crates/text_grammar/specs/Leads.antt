@@ -1,40 +1,40 @@
--- What symbols lead to at a class of pieces (the entries of an LL(1) table).
+-- The lead of symbols at a class of pieces: the entries of an LL(1) table.
 use Rattle.std.specs.Prelude.{ℕ, zero, suc, ◌==◌, if◌then◌else◌, List, [], ◌∷◌, ◌++◌, map, slice_index_or}
 use Rattle.text_grammar.specs.declared.symbol.Symbol.{Symbol}
 use Rattle.text_grammar.specs.declared.symbol.Symbol.TheVariants.{Piece, Made, Mark}
 use Rattle.text_grammar.specs.Grammars.{Grammar}
 
--- behind some marks a piece of the class is matched, and symbols are expected then; or all that is expected derives
--- marks alone; or no such piece can follow
+-- at a piece of the class, after some marks, either the piece is matched and symbols are expected next; or all
+-- expected symbols derive marks alone; or the piece can't follow
 pub data Lead : Type 0 where
   Matches : List ℕ → List Symbol → Lead
   Passes : List ℕ → Lead
   Stuck : Lead
 
--- the lead behind some marks
+-- the lead after some more marks
 abbrev pub behind : List ℕ → Lead → Lead
 behind ms (Matches ns rest) = Matches (ms ++ ns) rest
 behind ms (Passes ns) = Passes (ms ++ ns)
 behind ms Stuck = Stuck
 
--- the lead of symbols before others, which have a lead of their own
+-- the lead of symbols followed by others with a lead of their own
 abbrev pub before : Lead → List Symbol → Lead → Lead
 before (Matches ms body) rest l = Matches ms (body ++ rest)
 before (Passes ms) rest l = behind ms l
 before Stuck rest l = Stuck
 
--- the lead of a nonterminal in a row of a table
+-- the lead of nonterminal n in a row of the table
 abbrev pub entry : List Lead → ℕ → Lead
 entry row n = slice_index_or row n Stuck
 
--- what symbols lead to at a class, by the row of the class
+-- the lead of symbols at a class, by the row of the class
 abbrev pub lead : ℕ → List Lead → List Symbol → Lead
 lead c row [] = Passes []
 lead c row (Piece d ∷ rest) = if d == c then Matches [] rest else Stuck
 lead c row (Mark m ∷ rest) = behind (m ∷ []) (lead c row rest)
 lead c row (Made n ∷ rest) = before (entry row n) rest (lead c row rest)
 
--- of two leads the one that matches, else the one that passes, else none
+-- of two leads the one that matches, else the one that passes, else stuck
 abbrev pub better : Lead → Lead → Lead
 better (Matches ms rest) l = Matches ms rest
 better (Passes ms) (Matches ns rest) = Matches ns rest
@@ -47,7 +47,7 @@ abbrev pub lead_among : ℕ → List Lead → List (List Symbol) → Lead
 lead_among c row [] = Stuck
 lead_among c row (body ∷ bodies) = better (lead c row body) (lead_among c row bodies)
 
--- the row of a class after so many rounds: in each the rules are led by the row of the round before
+-- the row of a class after so many rounds: each round computes the leads of the rules from the row before it
 abbrev pub row_after : List (List (List Symbol)) → ℕ → ℕ → List Lead
 row_after rules c zero = []
 row_after rules c (suc n) = map (lead_among c (row_after rules c n)) rules

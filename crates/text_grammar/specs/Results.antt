@@ -1,4 +1,4 @@
--- What a result says of the answer to a text in bytes, where each error stands for a refusal or for want of memory.
+-- How a result agrees with the answer to a text in bytes, where each error is a refusal, or that memory ran out.
 use Rattle.std.specs.Prelude.{◌≡◌, ℕ, List, length, Result, Ok, Err, Option, Some, None, IfSome}
 use Rattle.text_core.specs.Readers.{Fault}
 use Rattle.text_core.specs.Faults.{IsFirst}
@@ -14,9 +14,9 @@ abbrev pub refused_in : {K : Type 0} → Refusal K → Option (Fault K)
 refused_in (Refuses y) = Some (refusal_of y)
 refused_in Memory = None
 
--- the tree that is made, and the refusal that an error stands for, which is none where memory ran out
+-- the tree of what was made, and the refusal of an error, which is none where memory ran out
 module _ {T K Made E : Type 0} (tree_in : Made → T) (refusal_in : E → Option (Fault K)) where
-  -- a result says what an answer is, or that memory ran out
+  -- a result agrees with the answer, or memory ran out
   abbrev pub Tells : Answer T K → Result Made E → Type 0
   Tells (Stands t) (Ok made) = tree_in made ≡ t
   Tells (Stands t) (Err e) = refusal_in e ≡ None

@@ -8,7 +8,7 @@ use Rattle.text_grammar.specs.declared.symbol.Symbol.TheVariants.{Made}
 use Rattle.text_grammar.specs.Grammars.{Event, Read, Did, Derives}
 use Rattle.text_grammar.specs.Texts.{Text, Front, reader, IsSilent}
 
--- a tree is answered exactly where the text derives events whose fold is the tree, and no token has a fault
+-- a tree is answered exactly if the text derives events whose fold is the tree, and no token has a fault
 pub record StandsWhereSilent {P T K : Type 0} (x : Text P T K) : Type 0 where
   pub stands : (n : ℕ) (ts : List (Token P)) (t : T) → answer (reader x) n ts ≡ Stands t
       → (es : List (Event P)) × Derives x.grammar (Made 0 ∷ []) es (pieces ts) × (x.value es ≡ t) × IsSilent x [] es ts
@@ -21,8 +21,8 @@ read_in [] = []
 read_in (Read p ∷ es) = p ∷ read_in es
 read_in (Did m ∷ es) = read_in es
 
--- a refusal is a fault of a token behind pieces: the text derives these pieces, the token's and some more, and the
--- refusal is among the faults of the token behind the events before it
+-- y is a fault of the token t after the pieces `before`: the text derives these pieces, that of t and some more, and y
+-- is among the faults of t after the events of the pieces before it
 pub record StandsAgainst {P T K : Type 0} (x : Text P T K) (before : List P) (t : Token P) (y : Fault K) : Type 0 where
   pub events : List (Event P)
   pub later : List (Event P)
@@ -31,8 +31,8 @@ pub record StandsAgainst {P T K : Type 0} (x : Text P T K) (before : List P) (t 
   pub derives : Derives x.grammar (Made 0 ∷ []) (events ++ Read t.piece ∷ later) (before ++ t.piece ∷ more)
   pub stands : Among y (x.faults (onto events []) t)
 
--- a refusal is shown at a token exactly where it is a fault of the token behind the pieces that were read; at the end
--- of a text none is shown
+-- a refusal is shown at a token exactly if it is a fault of the token after the pieces that were read; at the end of a
+-- text none is shown
 pub record ShownWhereDerived {P T K : Type 0} (x : Text P T K) : Type 0 where
   pub shown : (n : ℕ) (done rest : List (Token P)) (f : Front P) (t : Token P) (y : Fault K)
       → reached (reader x) (pieces done) ≡ Some f → Among y ((reader x).shown n done f (t ∷ rest))

@@ -1,5 +1,5 @@
--- A small text in single bytes, whole, with a use for each part of such a text: rows, each behind the word `row` with a
--- number and so many values, and a last line `end`.
+-- A small complete text in single bytes that uses each part of such a text: rows, each of the word `row`, a number and
+-- as many values, and a last line `end`.
 use Rattle.std.specs.Prelude.{◌≡◌, ◌≤◌, ℕ, zero, suc, Bool, not, ◌||◌, ◌==◌, nat_lt, nat_le, if◌then◌else◌, List, []}
 use Rattle.std.specs.Prelude.{◌∷◌, ◌++◌, codes, length, ℤ, Some, None, ⊤}
 use Rattle.std.specs.Fmt.{decimal}
@@ -22,8 +22,8 @@ pub record Row : Type 0 where
 abbrev pub Rows : Type 0
 Rows = List Row
 
--- text = rows; the rules of numbers, and these of lines of values; rows = "row " natural line, mark 8, rows | "end" and
--- a line feed. No signed number stands in it
+-- text = rows; the rules of numbers, and these of lines of values; rows = "row " natural line, mark 8, rows | "end"
+-- and a line feed. It has no signed number
 abbrev pub rules_with : List (List Symbol) → List (List Symbol) → List (List (List Symbol))
 rules_with line values =
     ((Made 9 ∷ []) ∷ []) ∷ value_rule ∷ natural_rule ∷ number_rule ∷ positive_rule ∷ digits_rule ∷ line ∷ values
@@ -40,12 +40,12 @@ pub record State : Type 0 where
 abbrev pub with_row : State → State
 with_row s = record s { rows = s.rows ++ record { number = s.number; values = s.values } ∷ [] }
 
--- a row has no such number
+-- a row may not have such a number of values
 abbrev pub is_no_number : ℕ → Bool
 is_no_number n = (n == 0) || nat_lt 9 n
 
--- refusals are of kind 1 where a byte can't follow, 2 where a value is too large, 3 where a row has no such number, 4
--- where a line has another number of values than its row's, and 5 at the `r` of a row behind three
+-- the kinds of refusals: 1 for a byte that can't follow, 2 for a value that is too large, 3 for a number that no row
+-- may have, 4 for a line with another number of values than its row's, and 5 for the `r` of a fourth row
 abbrev pub rows_bytes : ByteText State Rows ℕ
 rows_bytes = record {
   letters = codes "rowend";
@@ -66,7 +66,7 @@ rows_bytes = record {
   too_large = 2;
 }
 
--- what bytes are answered with
+-- the answer to bytes
 abbrev pub answer_to : List ℕ → Answer Rows ℕ
 answer_to bytes = answer (reader (texts_of rows_bytes)) (length bytes) (tokens bytes)
 
@@ -82,22 +82,23 @@ pub record IsNumbered (r : Row) : Type 0 where
   pub counted : length r.values ≡ r.number
   pub small : AreSmall r.values
 
--- so it is with each row
+-- each row has an allowed number, and as many values
 abbrev pub AreNumbered : Rows → Type 0
 AreNumbered [] = ⊤
 AreNumbered (r ∷ rs) = IsNumbered r × AreNumbered rs
 
--- and there are at most three
+-- each row has an allowed number and as many values, and there are at most three rows
 pub record AreFew (rows : Rows) : Type 0 where
   pub each : AreNumbered rows
   pub few : length rows ≤ 3
 
--- what is printed of at most three such rows is read as them, and what is read is printed of such rows
+-- at most three such rows are read back from their printed text, and every text that is read is the printed text of
+-- such rows
 pub record RowsAreRead : Type 0 where
   pub printed : (rows : Rows) → AreFew rows → answer_to (rows_text rows) ≡ Stands rows
   pub read : (bytes : List ℕ) (rows : Rows) → answer_to bytes ≡ Stands rows → (rows_text rows ≡ bytes) × AreFew rows
 
--- the values of the nonterminals, which are rows, and what they are made of
+-- the values of the nonterminals, which are rows, and the parts that print them
 abbrev pub RowsValue : ℕ → Type 0
 RowsValue zero = Rows
 RowsValue (suc zero) = Rows

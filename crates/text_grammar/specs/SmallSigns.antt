@@ -23,8 +23,8 @@ abbrev pub is_outside : ℤ → Bool
 is_outside (pos n) = (n == 0) || nat_lt 9 n
 is_outside (negsuc n) = nat_lt 19 n
 
--- what is remembered are the numbers and values so far. Refusals are of kind 1 where a byte can't follow, 2 where a
--- value is too large, 3 where there is no such signed number, 4 at a `-` behind two numbers, and 5 at a blank behind
+-- the state is the numbers and values so far. The kinds of refusals: 1 for a byte that can't follow, 2 for a value
+-- that is too large, 3 for a signed number that isn't allowed, 4 for a `-` after two numbers, and 5 for a blank after
 -- three
 abbrev pub signs_bytes : ByteText (List ℤ) (List ℤ) ℕ
 signs_bytes = record {
@@ -47,6 +47,6 @@ signs_bytes = record {
   too_large = 2;
 }
 
--- what bytes are answered with
+-- the answer to bytes
 abbrev pub signs_answer : List ℕ → Answer (List ℤ) ℕ
 signs_answer bytes = answer (reader (texts_of signs_bytes)) (length bytes) (tokens bytes)

@@ -1,4 +1,4 @@
--- The test whether a grammar can be read from front to back with one piece of lookahead.
+-- The test whether a grammar can be parsed with one piece of lookahead (LL(1)).
 use Rattle.std.specs.Prelude.{ℕ, zero, suc, Bool, true, false, not, ◌&&◌, ◌||◌, ◌==◌, nat_lt, List, [], ◌∷◌, map}
 use Rattle.std.specs.Prelude.{slice_index_or}
 use Rattle.std.specs.List.{list_all, list_any}
@@ -17,7 +17,7 @@ abbrev pub each_below : ℕ → (ℕ → Bool) → Bool
 each_below zero test = true
 each_below (suc n) test = test n && each_below n test
 
--- whether two symbols are the same, two lists of numbers, two lists of symbols, and two leads
+-- whether two symbols are equal, two lists of numbers, two lists of symbols, and two leads
 abbrev pub is_same_symbol : Symbol → Symbol → Bool
 is_same_symbol (Piece c) (Piece d) = c == d
 is_same_symbol (Made n) (Made m) = n == m
@@ -53,7 +53,7 @@ passes Stuck = false
 abbrev pub is_flagged : List Bool → ℕ → Bool
 is_flagged flags n = slice_index_or flags n false
 
--- whether a piece of the class can come behind a nonterminal within a body, or behind the body
+-- whether a piece of the class can follow a nonterminal within a body, or follow the body
 abbrev pub comes_behind : ℕ → List Lead → List Bool → ℕ → ℕ → List Symbol → Bool
 comes_behind c row flags n m [] = false
 comes_behind c row flags n m (Made k ∷ rest) =
@@ -72,8 +72,8 @@ abbrev pub some_body : (ℕ → List Symbol → Bool) → ℕ → List (List (Li
 some_body test n [] = false
 some_body test n (bodies ∷ rules) = list_any (test n) bodies || some_body test (suc n) rules
 
--- behind which nonterminals a piece of the class can come, as far as so many rounds find it; the end of the text, which
--- counts as one class more, comes behind the text
+-- the nonterminals that a piece of the class can follow, as far as so many rounds find them; the end of the text
+-- counts as one more class, and follows the text
 abbrev pub follows_after : {P : Type 0} → Grammar P → ℕ → ℕ → List Bool
 follows_after g c zero = map (λ n. (c == g.classes) && (n == 0)) (numbered 0 g.rules)
 follows_after g c (suc k) =
@@ -84,13 +84,14 @@ follows_after g c (suc k) =
 abbrev pub follows : {P : Type 0} → Grammar P → ℕ → List Bool
 follows g c = follows_after g c g.rounds
 
--- an alternative that matches is its nonterminal's entry, and so is one that passes, where the class can come behind
+-- an alternative that matches is its nonterminal's entry, and so is one that passes, if the class can follow the
+-- nonterminal
 abbrev pub is_entry : Lead → Lead → Bool → Bool
 is_entry (Matches ms rest) e follow = is_same_lead (Matches ms rest) e
 is_entry (Passes ms) e follow = not follow || is_same_lead (Passes ms) e
 is_entry Stuck e follow = true
 
--- what can come behind a nonterminal within a body is among what follows it
+-- each nonterminal within a body is flagged if the class can follow it
 abbrev pub has_follows : ℕ → List Lead → List Bool → Bool → List Symbol → Bool
 has_follows c row flags follow [] = true
 has_follows c row flags follow (Made m ∷ rest) =
@@ -106,7 +107,7 @@ is_completed classes flags (Piece c ∷ rest) = nat_lt c classes && is_completed
 is_completed classes flags (Made n ∷ rest) = is_flagged flags n && is_completed classes flags rest
 is_completed classes flags (Mark m ∷ rest) = is_completed classes flags rest
 
--- the nonterminals of which an alternative can be completed, as far as so many rounds find it
+-- the nonterminals that can derive a list of pieces, as far as so many rounds find them
 abbrev pub completed_after : ℕ → List (List (List Symbol)) → ℕ → List Bool
 completed_after classes rules zero = []
 completed_after classes rules (suc k) = map (list_any (is_completed classes (completed_after classes rules k))) rules
@@ -121,7 +122,7 @@ module _ {P : Type 0} (g : Grammar P) where
   is_completed_lead (Passes ms) = true
   is_completed_lead Stuck = true
 
-  -- each alternative agrees with the entries of a class and with what follows
+  -- each alternative agrees with the entries of a class and with the pieces that can follow its nonterminal
   abbrev pub agrees_by : ℕ → List Lead → List Bool → Bool
   agrees_by c row flags =
       each (λ n bodies. list_all (λ body. is_entry (lead c row body) (entry row n) (is_flagged flags n)
@@ -131,8 +132,8 @@ module _ {P : Type 0} (g : Grammar P) where
   abbrev pub agrees : ℕ → Bool
   agrees c = agrees_by c (row_of g c) (follows g c)
 
-  -- the grammar can be read: at each class, and at the end, its alternatives agree; the end can come behind the text;
-  -- the text can be completed; and the piece of each class belongs to it
+  -- the grammar can be parsed: at each class, and at the end, its alternatives agree; the end can follow the text; the
+  -- text can be completed; and the sample piece of each class belongs to it
   abbrev pub is_readable : Bool
   is_readable =
       each_below (suc g.classes) agrees && is_flagged (follows g g.classes) 0 && is_flagged completed 0

@@ -14,7 +14,7 @@ body_of (AMark m ∷ items) = Mark m ∷ body_of items
 body_of (Or ∷ items) = []
 body_of (End ∷ items) = []
 
--- the bodies behind the first one, up to an `End`
+-- the bodies after the first one, up to an `End`
 abbrev pub others_of : List Item → List (List Symbol)
 others_of [] = []
 others_of (APiece c ∷ items) = others_of items

@@ -10,26 +10,27 @@ use Rattle.text_grammar.specs.Grammars.{Grammar, Event, Read, Did, Derives}
 use Rattle.text_grammar.specs.Leads.{Lead, Matches, Passes, Stuck, lead, row_of}
 use Rattle.text_grammar.specs.Sounding.{is_readable}
 
--- texts in pieces P that stand for trees T and are refused for kinds K
+-- texts of pieces P that denote trees T and are refused with kinds K
 pub record Text (P T K : Type 0) : Type 0 where
   pub grammar : Grammar P
-  -- the tree that events stand for
+  -- the tree that events denote
   pub value : List (Event P) → T
-  -- the faults of a token that can follow, behind events, the last one first
+  -- the faults of a token that can follow the events, of which the last one is first
   pub faults : List (Event P) → Token P → List (Fault K)
-  -- behind events, the last one first, nothing is shown any more before this position, where the next token is at that
+  -- after these events, the last one first, no fault is shown before this position, if the next token is at the given
+  -- one
   pub floor : List (Event P) → ℕ → ℕ
-  -- of two kinds at one position the one with the lesser number comes first
+  -- of two kinds at one position the one with the lesser number is reported
   pub number : K → ℕ
   -- the kind of refusal where this piece can't follow, or the text ends too early
   pub off : Option P → K
 
--- what has been read so far, the last event first, and the symbols that are expected
+-- the parser state: the events so far, the last one first, and the symbols that are expected
 pub record Front (P : Type 0) : Type 0 where
   pub events : List (Event P)
   pub expected : List Symbol
 
--- events behind marks, the last one first
+-- events and then marks, the last one first
 abbrev pub did : {P : Type 0} → List (Event P) → List ℕ → List (Event P)
 did es [] = es
 did es (m ∷ ms) = did (Did m ∷ es) ms
@@ -39,7 +40,7 @@ abbrev pub marked : {P : Type 0} → List ℕ → List (Event P) → List (Event
 marked [] es = es
 marked (m ∷ ms) es = Did m ∷ marked ms es
 
--- the front behind a piece that is matched
+-- the parser state after a piece that is matched
 abbrev pub stepped : {P : Type 0} → List (Event P) → P → Lead → Option (Front P)
 stepped es p (Matches ms rest) = Some (record { events = Read p ∷ did es ms; expected = rest })
 stepped es p (Passes ms) = None
@@ -51,7 +52,7 @@ first_piece [] = None
 first_piece (t ∷ ts) = Some t.piece
 
 module _ {P T K : Type 0} (x : Text P T K) where
-  -- what the symbols that are expected lead to at a piece
+  -- the lead of the expected symbols at a piece
   abbrev pub lead_at : Front P → P → Lead
   lead_at f p = lead (x.grammar.class_of p) (row_of x.grammar (x.grammar.class_of p)) f.expected
 
@@ -61,7 +62,7 @@ module _ {P T K : Type 0} (x : Text P T K) where
   ended_by es (Matches ms rest) = None
   ended_by es Stuck = None
 
-  -- the faults of a token, by its lead
+  -- the faults of a token with this lead
   abbrev pub shown_by : List (Event P) → Token P → Lead → List (Fault K)
   shown_by es t (Matches ms rest) = x.faults (did es ms) t
   shown_by es t (Passes ms) = []
@@ -71,7 +72,7 @@ module _ {P T K : Type 0} (x : Text P T K) where
   shown_next f [] = []
   shown_next f (t ∷ rest) = shown_by f.events t (lead_at f t.piece)
 
-  -- the tree is written as these pieces: the text derives events that stand for it, and these pieces
+  -- the tree is written as these pieces: the text derives them with events that denote the tree
   abbrev pub Writes : T → List P → Type 0
   Writes tree ps = (es : List (Event P)) × Derives x.grammar (Made 0 ∷ []) es ps × (x.value es ≡ tree)
 
@@ -87,8 +88,8 @@ module _ {P T K : Type 0} (x : Text P T K) where
     off = λ f rest. x.off (first_piece rest);
   }
 
-  -- a text is lawful: its grammar can be read, each piece has one of the classes, kinds differ in their numbers, and
-  -- the floor is kept: it isn't behind the next token, nothing is shown before it, and it never falls
+  -- a text is lawful: its grammar can be parsed, each piece has one of the classes, kinds differ in their numbers, and
+  -- the floor is right: it isn't after the next token, no fault is shown before it, and it never decreases
   pub record IsLawful : Type 0 where
     pub readable : IsTrue (is_readable x.grammar)
     pub classed : (p : P) → x.grammar.class_of p < x.grammar.classes
@@ -100,7 +101,7 @@ module _ {P T K : Type 0} (x : Text P T K) where
     pub floor_read : (es : List (Event P)) (t : Token P) (at : ℕ) → t.at < t.upto → t.upto ≤ at
         → x.floor es t.at ≤ x.floor (Read t.piece ∷ es) at
 
-  -- the tokens of events have no fault, behind other events, the last one first
+  -- the tokens of events have no fault, after other events, of which the last one is first
   abbrev pub IsSilent : List (Event P) → List (Event P) → List (Token P) → Type 0
   IsSilent before [] ts = ⊤
   IsSilent before (Did m ∷ es) ts = IsSilent (Did m ∷ before) es ts

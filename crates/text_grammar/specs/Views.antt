@@ -12,7 +12,7 @@ use Rattle.text_grammar.specs.declared.stack.Meeting.TheVariants.{Matched, Passe
 use Rattle.text_grammar.specs.Spelled.{alternatives_of}
 use Rattle.text_grammar.specs.Leads.{Lead, Matches, Passes, Stuck}
 
--- an entry as a lead: the symbols of the code have the next one last
+-- an entry as a lead; the code stores the symbols with the next one last
 abbrev pub lead_of : code.Entry → Lead
 lead_of (an.Matches ms rest) = Matches ms.items (onto rest.items [])
 lead_of (an.Passes ms) = Passes ms.items
@@ -22,7 +22,7 @@ lead_of an.Stuck = Stuck
 abbrev pub leads_of : List code.Entry → List Lead
 leads_of entries = map lead_of entries
 
--- the lead that meeting the stack gave, with the marks that were passed and the stack that is left
+-- the lead found on the stack, with the marks that were passed and the symbols that are left
 abbrev pub met : Meeting → List ℕ → List Symbol → Lead
 met Matched ms stack = Matches ms (onto stack [])
 met Passed ms stack = Passes ms

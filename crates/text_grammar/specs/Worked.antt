@@ -62,9 +62,9 @@ pub record GrammarsAreWorkedOut : Type 0 where
   -- an else that is closed: text = 0 text more 2 | nothing; more = 1 text | nothing
   pub closed_else : Can (((Piece 0 ∷ Made 0 ∷ Made 1 ∷ Piece 2 ∷ []) ∷ [] ∷ [])
       ∷ ((Piece 1 ∷ Made 0 ∷ []) ∷ [] ∷ []) ∷ [])
-  -- left recursion behind what derives nothing: text = more text 0 | 1; more = nothing
+  -- left recursion after a nonterminal that derives nothing: text = more text 0 | 1; more = nothing
   pub hidden_recursion : Cannot (((Made 1 ∷ Made 0 ∷ Piece 0 ∷ []) ∷ (Piece 1 ∷ []) ∷ []) ∷ ([] ∷ []) ∷ [])
-  -- and through another nonterminal: text = more 0 | 1; more = text
+  -- left recursion through another nonterminal: text = more 0 | 1; more = text
   pub indirect_recursion : Cannot (((Made 1 ∷ Piece 0 ∷ []) ∷ (Piece 1 ∷ []) ∷ []) ∷ ((Made 0 ∷ []) ∷ []) ∷ [])
   -- alternatives whose nonterminals begin alike: text = more 1 | last; more = 0; last = 0
   pub alike_behind : Cannot (((Made 1 ∷ Piece 1 ∷ []) ∷ (Made 2 ∷ []) ∷ [])
@@ -72,21 +72,21 @@ pub record GrammarsAreWorkedOut : Type 0 where
   -- a table that isn't whole yet, and one that is
   pub too_few_rounds : is_readable (chain 2) ≡ false
   pub enough_rounds : is_readable (chain 3) ≡ true
-  -- a piece that isn't of the class that it stands for; and no rule at all
+  -- a sample piece that isn't of its class; and no rule at all
   pub other_sample : is_readable (record brackets { sample = λ c. 0 }) ≡ false
   pub nothing_at_all : Cannot []
-  -- what can't be completed: text = 0 text; and a nonterminal, or a class, that isn't there
+  -- no text: text = 0 text; and a nonterminal, or a class, that doesn't exist
   pub endless : Cannot (((Piece 0 ∷ Made 0 ∷ []) ∷ []) ∷ [])
   pub no_rule : Cannot (((Piece 0 ∷ Made 1 ∷ []) ∷ []) ∷ [])
   pub no_class : Cannot (((Piece 3 ∷ []) ∷ []) ∷ [])
-  -- what is passed before what can follow it: text = more 0; more = 0 | nothing
+  -- a nonterminal is nullable, and the class that it begins with can follow it: text = more 0; more = 0 | nothing
   pub passed_before : Cannot (((Made 1 ∷ Piece 0 ∷ []) ∷ []) ∷ ((Piece 0 ∷ []) ∷ [] ∷ []) ∷ [])
 
 -- which rules items spell
 pub record RulesAreSpelled : Type 0 where
   -- `0 text 1 | nothing` is that of brackets
   pub brackets_spelled : rules_of (APiece 0 ∷ AMade 0 ∷ APiece 1 ∷ Or ∷ End ∷ []) ≡ brackets.rules
-  -- no item spells no rule, `End` alone one whose one alternative is nothing, and what has no `End` none
+  -- no items denote no rule, `End` alone one rule with one empty alternative, and items without an `End` no rule
   pub none : rules_of [] ≡ []
   pub one : rules_of (End ∷ []) ≡ ([] ∷ []) ∷ []
   pub open_end : rules_of (APiece 0 ∷ Or ∷ AMark 1 ∷ []) ≡ []
@@ -96,7 +96,7 @@ pub record RulesAreSpelled : Type 0 where
 abbrev pub fault : ℕ → ℕ → Fault ℕ
 fault kind at = record { kind = kind; at = at }
 
--- a 0 behind two pieces has faults of kinds 2 and 1 at its own position; a 1 behind three pieces has kind 1 behind its
+-- a 0 after two pieces has faults of kinds 2 and 1 at its own position; a 1 after three pieces has kind 1 after its
 -- byte, and kind 2 at it
 abbrev pub against : List (Event ℕ) → Token ℕ → List (Fault ℕ)
 against es t =
@@ -109,7 +109,7 @@ abbrev pub off : Option ℕ → ℕ
 off None = 3
 off (Some p) = 4
 
--- texts of brackets, which stand for their events
+-- texts of brackets, which denote their events
 abbrev pub bracket_text : Text ℕ (List (Event ℕ)) ℕ
 bracket_text = record {
   grammar = brackets;
@@ -120,14 +120,15 @@ bracket_text = record {
   off = off;
 }
 
--- what pieces of one byte each are answered with, and when that is a refusal of a kind at a position
+-- the answer to pieces of one byte each, and when it is a refusal of a kind at a position
 abbrev pub bracket_answer : List ℕ → Answer (List (Event ℕ)) ℕ
 bracket_answer ps = answer (reader bracket_text) (length ps) (tokens ps)
 
 abbrev pub bracket_refused : ℕ → ℕ → Answer (List (Event ℕ)) ℕ
 bracket_refused kind at = Refused (fault kind at)
 
--- what brackets derive: 0 0 1 1 and nothing at all, and neither 0 nor 1 0; pieces that are done have the last one first
+-- which brackets are derived: 0 0 1 1 and none at all, but neither 0 nor 1 0; pieces that are done have the last one
+-- first
 pub record BracketsAreWorkedOut : Type 0 where
   pub two : Writes bracket_text (Read 0 ∷ Read 0 ∷ Read 1 ∷ Read 1 ∷ []) (0 ∷ 0 ∷ 1 ∷ 1 ∷ [])
   pub nothing_at_all : Writes bracket_text [] []
@@ -136,15 +137,15 @@ pub record BracketsAreWorkedOut : Type 0 where
   pub closed_first : ¬ IsBeginning (reader bracket_text) (1 ∷ [])
   pub other : ¬ IsBeginning (reader bracket_text) (2 ∷ [])
 
--- what brackets are answered with
+-- the answers to brackets
 pub record BracketsAreAnswered : Type 0 where
   pub none : bracket_answer [] ≡ Stands []
   pub one : bracket_answer (0 ∷ 1 ∷ []) ≡ Stands (Read 0 ∷ Read 1 ∷ [])
-  -- the end of a text and a piece break it off for kinds of their own
+  -- a text that ends too early and a piece that can't follow are refused with kinds of their own
   pub too_early : bracket_answer (0 ∷ []) ≡ bracket_refused 3 1
   pub other_piece : bracket_answer (0 ∷ 2 ∷ []) ≡ bracket_refused 4 1
   pub closed_first : bracket_answer (1 ∷ []) ≡ bracket_refused 4 0
-  -- of two refusals at one byte the one with the lesser kind is reported, also where it is found second and the text
+  -- of two refusals at one byte the one with the lesser kind is reported, even if it is found second and the text
   -- breaks off
   pub lesser : bracket_answer (0 ∷ 0 ∷ 0 ∷ 1 ∷ 1 ∷ 1 ∷ []) ≡ bracket_refused 1 2
   pub before_end : bracket_answer (0 ∷ 0 ∷ 0 ∷ []) ≡ bracket_refused 1 2
@@ -153,8 +154,8 @@ pub record BracketsAreAnswered : Type 0 where
   -- against a piece that can't follow nothing else is shown
   pub not_shown : bracket_answer (0 ∷ 1 ∷ 0 ∷ []) ≡ bracket_refused 4 2
 
--- a lawful text is read as the laws of readers say; a tree is accepted exactly where it is derived without faults; and
--- a refusal is shown exactly where it is a fault of a piece that is derived behind others
+-- a lawful text is read by the laws of readers; a tree is accepted exactly if it is derived without faults; and a
+-- refusal is shown exactly if it is a fault of a piece that is derived after others
 pub record TextsAreRead {P T K : Type 0} (x : Text P T K) : Type 0 where
   pub laws : Laws (reader x)
   pub answers : AnswersAll (reader x)

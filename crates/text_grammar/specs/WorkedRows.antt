@@ -1,4 +1,4 @@
--- What parts, numbers and texts in single bytes come to, worked out by hand on both sides, at a small text of rows.
+-- Worked values, on both sides, of parts, numbers and texts in single bytes, for a small text of rows.
 use Rattle.std.specs.Prelude.{◌≡◌, ℕ, ◌^◌, ◌-◌, ◌==◌, not, true, false, List, [], ◌∷◌, codes, ℤ, pos, negsuc, Some}
 use Rattle.std.specs.Prelude.{None, map}
 use Rattle.text_core.specs.Choices.{when}
@@ -11,7 +11,7 @@ use Rattle.text_grammar.specs.ByteTexts.{signed, with_byte, fold_of, numbers_of,
 use Rattle.text_grammar.specs.ByteTexts.{line_text, line_rule, values_rule}
 use Rattle.text_grammar.specs.SmallRows.{Row, Rows, State, rules_with, rows_bytes, answer_to}
 
--- the number that is being spelled behind bytes
+-- the number that is being spelled after bytes
 abbrev pub spelling : Numeral → List ℕ → Numeral
 spelling m [] = m
 spelling m (b ∷ bytes) = spelling (with_byte b m) bytes
@@ -23,18 +23,18 @@ pub record NumeralsAreWorkedOut : Type 0 where
   -- each class but two has one byte alone
   pub bytes : map (only (codes "rowend")) (0 ∷ 1 ∷ 2 ∷ 3 ∷ 4 ∷ 5 ∷ 6 ∷ 12 ∷ [])
       ≡ Some 48 ∷ Some 49 ∷ None ∷ Some 45 ∷ Some 32 ∷ Some 10 ∷ Some 114 ∷ None ∷ []
-  -- `-12` is a number of three bytes below 0; behind another byte a new one begins; numbers end at 2^64
+  -- `-12` is a number of three bytes below 0; at any other byte a new number begins; numbers are capped at 2^64
   pub negative : spelling fresh (codes "-12") ≡ record { negative = true; number = 12; spelled = 3 }
   pub value : signed (spelling fresh (codes "-12")) ≡ negsuc 11
   pub behind_letter : spelling fresh (codes "12x7") ≡ record { negative = false; number = 7; spelled = 1 }
   pub capped : spelling fresh (codes "99999999999999999999")
       ≡ record { negative = false; number = 2 ^ 64; spelled = 20 }
-  -- a value may have 64 digits, and its sign, and not 65, also where another one stands before it
+  -- a value may have 64 digits and a sign, but not 65 digits, also if another one comes before it
   pub short : AreShort (pos (10 ^ 64 - 1) ∷ negsuc (10 ^ 64 - 2) ∷ [])
   pub long : ¬ AreShort (pos 1 ∷ pos (10 ^ 64) ∷ [])
   pub long_below : ¬ AreShort (pos 1 ∷ negsuc (10 ^ 64 - 1) ∷ [])
 
--- what is remembered between rows, behind some, with this number and these values of the next one
+-- the state between rows, after some rows, with this number and these values of the next one
 abbrev pub between : Rows → ℕ → List ℤ → Spelling State
 between rows n vs = record {
   own = record { rows = rows; number = n; values = vs };
@@ -47,7 +47,7 @@ between rows n vs = record {
 abbrev pub row : ℕ → List ℤ → Row
 row n vs = record { number = n; values = vs }
 
--- the events of parts of rows, what they come to, and when nothing stands against them
+-- the events of parts of rows, the state after them, and when they have no fault
 abbrev pub events : List (Part ℕ Numbered) → List (Event ℕ)
 events xs = events_of (fold_of rows_bytes) (numbers_of rows_bytes) xs
 
@@ -60,7 +60,7 @@ StandFrom s xs = Stand (fold_of rows_bytes) (numbers_of rows_bytes) s xs
 abbrev pub Come : Spelling State → Spelling State → List ℕ → List (Part ℕ Numbered) → Type 0
 Come s t bytes xs = ComesTo (fold_of rows_bytes) (numbers_of rows_bytes) s t bytes xs
 
--- parts of rows: what is spelled, which events that is, what they come to, and what stands against them
+-- parts of rows: their text, their events, the state after them, and their faults
 pub record PartsAreWorked : Type 0 where
   pub text : spelled (fold_of rows_bytes) (numbers_of rows_bytes)
       (Says 114 ∷ Does 8 ∷ Puts (Line (pos 1 ∷ negsuc 1 ∷ [])) ∷ Puts (Natural 30) ∷ Puts (Value (negsuc 4)) ∷ [])
@@ -75,21 +75,21 @@ pub record PartsAreWorked : Type 0 where
       ≡ between (row 1 (pos 5 ∷ []) ∷ []) 1 (pos 5 ∷ [])
   pub value_comes : (comes (between [] 0 []) (Puts (Value (pos 5)) ∷ Puts (Value (negsuc 1)) ∷ [])).values
       ≡ pos 5 ∷ negsuc 1 ∷ []
-  -- a value of -(2^63-1) stands, and one of 2^63 doesn't; the number 9 does, and 0 and 10 don't
+  -- the values -(2^63-1) and 9 have no fault, the value 2^63 and the numbers 0 and 10 have one
   pub small : StandFrom (between [] 0 []) (Puts (Value (negsuc (2 ^ 63 - 2))) ∷ [])
   pub large : ¬ StandFrom (between [] 0 []) (Puts (Value (pos (2 ^ 63))) ∷ [])
   pub nine : StandFrom (between [] 0 []) (Puts (Natural 9) ∷ [])
   pub ten : ¬ StandFrom (between [] 0 []) (Puts (Natural 10) ∷ [])
   pub nought : ¬ StandFrom (between [] 0 []) (Puts (Natural 0) ∷ [])
-  -- a line of as many values as the number of its row stands, and not one of more, nor one with a value of 2^63
+  -- a line with as many values as the number of its row has no fault; one with more, or with a value of 2^63, has one
   pub counted : StandFrom (between [] 2 []) (Puts (Line (pos 1 ∷ pos 1 ∷ [])) ∷ [])
   pub surplus : ¬ StandFrom (between [] 1 []) (Puts (Line (pos 1 ∷ pos 1 ∷ [])) ∷ [])
   pub large_line : ¬ StandFrom (between [] 2 []) (Puts (Line (pos 1 ∷ pos (2 ^ 63) ∷ [])) ∷ [])
-  -- an `r` stands behind two rows, and not behind three
+  -- an `r` has no fault after two rows, and has one after three
   pub third : StandFrom (between (row 1 [] ∷ row 1 [] ∷ []) 0 []) (Says 114 ∷ [])
   pub fourth : ¬ StandFrom (between (row 1 [] ∷ row 1 [] ∷ row 1 [] ∷ []) 0 []) (Says 114 ∷ [])
-  -- a line comes to its values and is spelled as its text, and comes to no others and has no other text; with a value
-  -- of 2^63 it comes to nothing
+  -- a line leads to the state with its values and is spelled as its text, and leads to no other state and has no other
+  -- text; with a value of 2^63 it has a fault
   pub itself : Come (between [] 1 []) (between [] 1 (pos 1 ∷ [])) (codes " 1\n") (Puts (Line (pos 1 ∷ [])) ∷ [])
   pub other_text : ¬ Come (between [] 1 []) (between [] 1 (pos 1 ∷ [])) (codes " 2\n") (Puts (Line (pos 1 ∷ [])) ∷ [])
   pub other_end : ¬ Come (between [] 1 []) (between [] 1 (pos 1 ∷ [])) (codes " 2\n") (Puts (Line (pos 2 ∷ [])) ∷ [])
@@ -100,7 +100,7 @@ pub record PartsAreWorked : Type 0 where
 abbrev pub refused : ℕ → ℕ → Answer Rows ℕ
 refused kind at = Refused (record { kind = kind; at = at })
 
--- a text, and what it is answered with
+-- a text, and the answer to it
 pub record Case : Type 0 where
   pub text : List ℕ
   pub comes : Answer Rows ℕ
@@ -137,7 +137,7 @@ cases =
     ∷ case_of (codes "row 1 1\n") (refused 1 8)
     ∷ []
 
--- what a text owes, and what it isn't without; and what bytes are answered with
+-- the conditions on a text in bytes, each with a text that breaks it; and the answers to bytes
 pub record ByteTextsAreWorkedOut : Type 0 where
   pub bounded : IsBounded rows_bytes
   -- not where any number is taken, and where 2 is taken and 1 isn't

@@ -1,5 +1,4 @@
--- What signed numbers come to in texts in single bytes, and what refusals of `-` and of blanks do, worked out by hand
--- on both sides.
+-- Worked values, on both sides, of signed numbers in texts in single bytes, and of refusals at `-` and at blanks.
 use Rattle.std.specs.Prelude.{◌≡◌, ℕ, ◌^◌, ◌==◌, not, true, false, List, [], ◌∷◌, codes, ℤ, pos, negsuc, Some, None}
 use Rattle.std.specs.Prelude.{map, Option}
 use Rattle.text_core.specs.Choices.{when}
@@ -11,11 +10,11 @@ use Rattle.text_grammar.specs.ByteTexts.{Numbered, Spelling, Signed, Line, fresh
 use Rattle.text_grammar.specs.ByteTexts.{HasNumbers, IsBounded, value_rule, signed_rule}
 use Rattle.text_grammar.specs.SmallSigns.{rules_with_signed, signs_bytes, signs_answer}
 
--- what is remembered behind these numbers and values
+-- the state after these numbers and values
 abbrev pub behind_numbers : List ℤ → Spelling (List ℤ)
 behind_numbers zs = record { own = zs; numeral = fresh; within = Words; values = [] }
 
--- what parts come to from there, and nothing stands against them
+-- the state after parts from there, and when they have no fault
 abbrev pub comes_behind : List ℤ → List (Part ℕ Numbered) → Spelling (List ℤ)
 comes_behind zs xs = come (fold_of signs_bytes) (numbers_of signs_bytes) (behind_numbers zs) xs
 
@@ -26,7 +25,7 @@ StandBehind zs xs = Stand (fold_of signs_bytes) (numbers_of signs_bytes) (behind
 abbrev pub refused_as : ℕ → ℕ → Answer (List ℤ) ℕ
 refused_as kind at = Refused (record { kind = kind; at = at })
 
--- a text, and what it is answered with
+-- a text, and the answer to it
 pub record SignsCase : Type 0 where
   pub text : List ℕ
   pub comes : Answer (List ℤ) ℕ
@@ -50,7 +49,8 @@ signs_cases =
     ∷ signs_case (codes "n-0\n") (refused_as 1 2)
     ∷ signs_case (codes "n--1\n") (refused_as 1 2)
     ∷ signs_case (codes "n-\n") (refused_as 1 2)
-    -- behind two numbers a `-` is refused, also where no digit comes; of two refusals there the lesser kind is answered
+    -- after two numbers a `-` is refused, also where no digit follows; of two refusals there the lesser kind is
+    -- answered
     ∷ signs_case (codes "n1n1n-1\n") (refused_as 4 5)
     ∷ signs_case (codes "n1n1n-n\n") (refused_as 4 5)
     ∷ signs_case (codes "n1n1n-99\n") (refused_as 3 5)
@@ -58,40 +58,40 @@ signs_cases =
     -- the `-` of a value in a line too; the line's own values don't count before its line feed
     ∷ signs_case (codes "n1n1v 3 -1\n\n") (refused_as 4 8)
     ∷ signs_case (codes "n1v 3 -1\n\n") (Stands (pos 1 ∷ pos 3 ∷ negsuc 0 ∷ []))
-    -- behind three a blank is refused, and a line of no values stands
+    -- after three numbers a blank is refused, and a line without values is accepted
     ∷ signs_case (codes "n1n1n1v 1\n\n") (refused_as 5 7)
     ∷ signs_case (codes "n1n1n1v\n\n") (Stands (pos 1 ∷ pos 1 ∷ pos 1 ∷ []))
     ∷ []
 
--- what takes -2 alone
+-- a text that refuses every signed number except -2
 abbrev pub refuses_but_two : List ℤ → ℤ → Option ℕ
 refuses_but_two s (pos n) = Some 3
 refuses_but_two s (negsuc n) = when (not (n == 1)) 3
 
--- what holds of signed numbers, and what doesn't
+-- worked values of signed numbers, on both sides
 pub record SignsAreTold : Type 0 where
   -- a sign before a number, and none before 0
   pub below : with_sign true 3 ≡ negsuc 2
   pub none_below : with_sign true 0 ≡ pos 0
   pub above : with_sign false 3 ≡ pos 3
-  -- what a signed number is spelled by, and what it does
+  -- the text of a signed number, its events, and the state after it
   pub text : spelled (fold_of signs_bytes) (numbers_of signs_bytes) (Says 110 ∷ Puts (Signed (negsuc 4)) ∷ [])
       ≡ codes "n-5"
   pub events : events_of (fold_of signs_bytes) (numbers_of signs_bytes) (Puts (Signed (negsuc 4)) ∷ [])
       ≡ Did 6 ∷ Read 45 ∷ Read 53 ∷ Did 7 ∷ []
   pub comes : comes_behind (pos 7 ∷ []) (Puts (Signed (negsuc 4)) ∷ []) ≡ behind_numbers (pos 7 ∷ negsuc 4 ∷ [])
-  -- one that isn't refused stands, and another one doesn't, nor does a `-` behind two numbers
+  -- an allowed signed number has no fault, another one has, and so has a `-` after two numbers
   pub stands : StandBehind (pos 7 ∷ []) (Puts (Signed (negsuc 19)) ∷ [])
   pub outside : ¬ StandBehind (pos 7 ∷ []) (Puts (Signed (negsuc 20)) ∷ [])
   pub third : StandBehind (pos 7 ∷ pos 7 ∷ []) (Puts (Signed (pos 1)) ∷ [])
   pub third_below : ¬ StandBehind (pos 7 ∷ pos 7 ∷ []) (Puts (Signed (negsuc 0)) ∷ [])
-  -- a line of values stands where its blanks and signs do
+  -- a line of values has no fault if its blanks and signs have none
   pub line : StandBehind (pos 7 ∷ []) (Puts (Line (pos 1 ∷ negsuc 0 ∷ [])) ∷ [])
   pub line_plus : StandBehind (pos 7 ∷ pos 7 ∷ []) (Puts (Line (pos 1 ∷ pos 0 ∷ [])) ∷ [])
   pub line_below : ¬ StandBehind (pos 7 ∷ pos 7 ∷ []) (Puts (Line (pos 1 ∷ negsuc 0 ∷ [])) ∷ [])
   pub line_blank : ¬ StandBehind (pos 7 ∷ pos 7 ∷ pos 7 ∷ []) (Puts (Line (pos 1 ∷ [])) ∷ [])
   pub line_empty : StandBehind (pos 7 ∷ pos 7 ∷ pos 7 ∷ []) (Puts (Line []) ∷ [])
-  -- what the text owes; not, where any signed number is taken, nor where -2 is taken and -1 isn't
+  -- the conditions on the text; they fail if any signed number is accepted, or if -2 is accepted and -1 isn't
   pub bounded : IsBounded signs_bytes
   pub endless : ¬ IsBounded (record signs_bytes { against_signed = λ s z. None })
   pub gap : ¬ IsBounded (record signs_bytes { against_signed = refuses_but_two })

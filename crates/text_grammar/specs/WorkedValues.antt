@@ -20,7 +20,7 @@ given_parts n v = parts_of RowsValue own_parts n v
 abbrev pub no_parts : (n : ℕ) → Given n → List (Part ℕ Numbered)
 no_parts n v = []
 
--- what is derived with nothing against it is a value, a value is derived, and so are those within symbols
+-- events of a nonterminal that pass come from a value, a value is derived, and so are values of symbols
 abbrev pub Valued : ℕ → List (Event ℕ) → List ℕ → Type 0
 Valued n es ps = StandsFor (fold_of rows_bytes) (numbers_of rows_bytes) (grammar_of rows_bytes)
     (only rows_bytes.letters) Given given_parts n es ps
@@ -38,16 +38,17 @@ AllDerivedBy parts ss vs = AreDerived (fold_of rows_bytes) (numbers_of rows_byte
 abbrev pub two_rows : Rows
 two_rows = row 2 (pos 1 ∷ negsuc 1 ∷ []) ∷ row 1 (pos 0 ∷ []) ∷ []
 
--- what holds of the small text, and not without
+-- worked values of the small text, each with a change that breaks it
 pub record ValuesAreWorkedOut : Type 0 where
   -- a class with one byte alone has that one, and not each has the `0`
   pub only_its : IsOnly (grammar_of rows_bytes) (only rows_bytes.letters)
   pub not_only : ¬ IsOnly (grammar_of rows_bytes) (λ c. Some 48)
-  -- numbers and lines are put by their events; not, if they did nothing, nor if none were refused
+  -- numbers and lines are printed by their events; not if they left the state as it is, nor if none had a fault
   pub put : IsPut (fold_of rows_bytes) (numbers_of rows_bytes)
   pub nothing_put : ¬ IsPut (fold_of rows_bytes) (record (numbers_of rows_bytes) { put = λ z s. s })
   pub all_put : ¬ IsPut (fold_of rows_bytes) (record (numbers_of rows_bytes) { Fine = λ s z. ⊤ })
-  -- alternatives are made of their values; not, if rows were made of nothing, nor if there were no values
+  -- values for the symbols of an alternative give one of its nonterminal; not if rows had no parts, nor if there were
+  -- no values
   pub own_made : OwnAreMade rows_bytes RowsValue own_parts
   pub none_made : ¬ OwnAreMade rows_bytes RowsValue (λ n w. [])
   pub made : AreMade (fold_of rows_bytes) (numbers_of rows_bytes) (grammar_of rows_bytes) (only rows_bytes.letters)

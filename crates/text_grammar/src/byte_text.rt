@@ -1,4 +1,4 @@
-//! Texts in bytes: what one brings of its own, and how its numbers are spelled for it.
+//! Texts in bytes: what each of them supplies, and the parser state in which their numbers are spelled.
 
 ghost use Rattle.std.specs.Prelude.{◌≡◌, ◌<◌, ◌^◌, ℕ, List, [], ◌∷◌, length, IfOk, OnOk};
 ghost use Rattle.text_grammar.specs.ByteTexts.{ByteText as ByteTextOf, class_of as class_at, fold_of, fresh, texts_of};
@@ -21,17 +21,16 @@ use crate::token::{Fault, Token};
 use std::alloc::{AllocError, Global};
 use std::mem::replace;
 
-/// A text in bytes: what it remembers of natural numbers, signed numbers, lines of values and marks of its own, what
-/// stands against them and against a byte, and what it makes of them all. Values come to it in lines alone, and the
-/// limit of each is `LINE_VALUE_LIMIT`; at the line feed of such a line `against_line` is asked, and `against_byte`
-/// isn't. `against_byte` is asked at each `-` and at each blank, also at those of numbers and lines.
+/// A text in bytes: its state after natural numbers, signed numbers, lines of values and marks of its own, the faults
+/// of these and of single bytes, and its tree. Values reach it only in lines, and each is at most `LINE_VALUE_LIMIT`;
+/// at the line feed of such a line `against_line` is called, and `against_byte` isn't. `against_byte` is called at
+/// each `-` and at each blank, also at those of numbers and lines.
 pub trait ByteText {
     type Kind: Copy;
 
     type Made;
 
-    // the trees that texts stand for and what is remembered of them; the text, and what is remembered of it; and the
-    // tree that is made
+    // the trees that texts denote, and their states; the text and its state; and the tree of what is made
     ghost Tree: { Type 0 };
 
     ghost Own: { Type 0 };
@@ -73,7 +72,7 @@ pub trait ByteText {
         ensures same { bytes_of self.new ≡ bytes_of self.old }
         ensures known { OnOk result (own_of self.new ≡ (bytes_of self.old).line values.items (own_of self.old)) };
 
-    /// Does what a mark stands for that isn't one of numbers.
+    /// Does a mark that isn't one of numbers.
     ///
     /// # Errors
     ///
@@ -82,24 +81,24 @@ pub trait ByteText {
         ensures same { bytes_of self.new ≡ bytes_of self.old }
         ensures known { OnOk result (own_of self.new ≡ (bytes_of self.old).done mark (own_of self.old)) };
 
-    /// What stands against a natural number of this value.
+    /// The fault of a natural number of this value, if it has one.
     fn against_natural(&self, number: u128) -> Option<Self::Kind>
         ensures { result ≡ (bytes_of self.now).against_natural (own_of self.now) number };
 
-    /// What stands against a signed number of this value, at its first byte, which is its `-` where it has one. It is
-    /// asked at each digit, with the number as far as it has been read.
+    /// The fault of a signed number of this value, if it has one; it is reported at the number's first byte, which is
+    /// its `-` if there is one. It is called at each digit, with the number read so far.
     fn against_signed(&self, number: i128) -> Option<Self::Kind>
         ensures { result ≡ (bytes_of self.now).against_signed (own_of self.now) number };
 
-    /// What stands against a line of so many values.
+    /// The fault of a line with this many values, if it has one.
     fn against_line(&self, values: usize) -> Option<Self::Kind>
         ensures { result ≡ (bytes_of self.now).against_line (own_of self.now) values };
 
-    /// What stands against a byte that isn't a digit, and ends no line of values.
+    /// The fault of a byte that isn't a digit and doesn't end a line of values, if it has one.
     fn against_byte(&self, byte: u8) -> Option<Self::Kind>
         ensures { result ≡ (bytes_of self.now).against_byte (own_of self.now) byte };
 
-    /// The number of a kind: of two kinds at one position the one with the lesser number comes first.
+    /// The number of a kind: of two kinds at one position the one with the lesser number is reported.
     fn number(&self, kind: Self::Kind) -> u32
         ensures { result ≡ (bytes_of self.now).number kind };
 
@@ -120,7 +119,7 @@ pub trait ByteText {
         ensures { IfOk result (λ made. tree_in made ≡ (bytes_of self).tree (own_of self)) };
 }
 
-/// A text in bytes, with the number that is being spelled, within what that is, and the values of the line so far.
+/// The parser state of a text in bytes: the number being spelled, its context, and the values of the line so far.
 #[derive(Drop)]
 pub struct Spelling<X> {
     alloc: Global,
@@ -147,7 +146,7 @@ impl<X: ByteText> Spelling<X> {
         }
     }
 
-    // What stands against a number of this value.
+    // The fault of a number of this value, if it has one.
     fn against_number(&self, number: u128) -> Option<X::Kind>
         requires { number < 2 ^ 127 }
         ensures { result ≡ against_in (X.bytes_of self.now.text) self.now.within (X.own_of self.now.text)
@@ -164,7 +163,7 @@ impl<X: ByteText> Spelling<X> {
         }
     }
 
-    // What stands against a line feed.
+    // The fault of a line feed, if it has one.
     fn against_feed(&self) -> Option<X::Kind>
         ensures { result ≡ against_feed_in (X.bytes_of self.now.text) self.now.within (X.own_of self.now.text)
             (length self.now.values.items) }
@@ -175,7 +174,7 @@ impl<X: ByteText> Spelling<X> {
         }
     }
 
-    // What stands against a byte that isn't a digit.
+    // The fault of a byte that isn't a digit, if it has one.
     fn against_other(&self, byte: u8) -> Option<X::Kind>
         ensures { result ≡ against_other_in (X.bytes_of self.now.text) self.now.within (X.own_of self.now.text)
             (length self.now.values.items) byte }
@@ -186,7 +185,7 @@ impl<X: ByteText> Spelling<X> {
         }
     }
 
-    // What stands against a byte that can follow.
+    // The fault of a byte that can follow, if it has one.
     fn against(&self, token: Token<u8>) -> Option<Fault<X::Kind>>
         ensures { (es : List (Event ℕ))
             → record {

@@ -23,9 +23,9 @@ pub const BLANK: u32 = 4;
 /// See `ZERO`.
 pub const LINE_FEED: u32 = 5;
 
-/// The nonterminals of a value with a sign, of a natural number, of what they are spelled by, of a line of values, of
-/// such a line behind its beginning, and of a number with a sign that comes to the text by itself. What a text gets of
-/// values is its lines of them: a value that stands elsewhere is read and kept from it.
+/// The nonterminals of a value with a sign, of a natural number, of the three nonterminals that spell them, of a line
+/// of values, of the rest of such a line after its beginning, and of a signed number that is passed to the text by
+/// itself. A text gets its values in lines: a value anywhere else is read and not passed on.
 pub const VALUE: u32 = 1;
 /// See `VALUE`.
 pub const NATURAL: u32 = 2;
@@ -42,7 +42,7 @@ pub const VALUES: u32 = 7;
 /// See `VALUE`.
 pub const SIGNED: u32 = 8;
 
-/// The marks before and behind a value, a natural number, a line of values and a signed number.
+/// The marks before and after a value, a natural number, a line of values and a signed number.
 pub const VALUE_BEGINS: u32 = 0;
 /// See `VALUE_BEGINS`.
 pub const VALUE_READ: u32 = 1;
@@ -92,7 +92,7 @@ impl Lexer for Bytes {
     ghost within = { λ _. bytes_within };
 }
 
-// Where a byte stands among others, and how many there are where it is none of them.
+// The position of a byte in a list, or the list's length if it isn't in it.
 fn position_of(letters: &[u8], byte: u8) -> u32
     requires { length letters.now < 2 ^ 31 }
     ensures position { result ≡ position_at letters.now byte }

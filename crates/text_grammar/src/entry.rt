@@ -2,7 +2,7 @@
 
 use crate::symbol::Symbol;
 
-/// What symbols lead to at a class of pieces.
+/// The lead of symbols at a class of pieces.
 #[derive(Debug, Drop)]
 pub enum Entry {
     /// Behind these marks a piece of the class is matched, and these symbols are expected then, the next one last.

@@ -1,4 +1,4 @@
-//! Computes what nonterminals lead to at a class of pieces, from the rules of a grammar.
+//! Computes the lead of nonterminals at a class of pieces, from the rules of a grammar.
 
 ghost use Rattle.std.specs.Prelude.{◌≡◌, List, [], ◌∷◌, IfOk, IsTrue};
 ghost use Rattle.text_core.specs.Readers.{onto};
@@ -10,7 +10,7 @@ use crate::entry::Entry;
 use crate::symbol::{Item, Symbol};
 use std::alloc::{AllocError, Global};
 
-/// What a nonterminal leads to at a class, by the rules of a grammar, after so many rounds. The call goes as deep as
+/// The lead of a nonterminal at a class, by the rules of a grammar, after so many rounds. The call goes as deep as
 /// nonterminals begin with one another, at most the rounds.
 ///
 /// # Errors
@@ -35,7 +35,7 @@ pub(crate) fn lead_of_nonterminal(
     }
 }
 
-// What a nonterminal leads to whose alternatives items begin with.
+// The lead of a nonterminal whose alternatives the items begin with.
 #[cycle(lead)]
 fn lead_of_bodies(
     alloc: Global,
@@ -58,7 +58,7 @@ fn lead_of_bodies(
     Ok(found)
 }
 
-// What a body leads to that items begin with.
+// The lead of a body that the items begin with.
 #[cycle(lead)]
 fn lead_of_body(
     alloc: Global,
@@ -118,7 +118,7 @@ fn begins_with_another(class: u32, body: &[Item]) -> bool
     false
 }
 
-// The items behind the `Or` that ends the body with which items begin, if one does.
+// The items after the `Or` that ends the first body, if one does.
 fn behind_or(body: &[Item]) -> Option<&[Item]>
     ensures { alternatives_of body.now ≡ body_of body.now ∷ alternatives_in result }
 {

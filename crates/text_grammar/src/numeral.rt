@@ -11,14 +11,14 @@ pub struct Numeral {
     ghost capped: { number ≤ 2 ^ 64 },
 }
 
-/// Within what a number or a byte stands.
+/// The context of a number or a byte.
 #[derive(Clone, Copy, Debug, PartialEq, Eq)]
 pub enum NumberContext {
     /// The text's own words.
     Words,
     /// A natural number.
     Natural,
-    /// A number with a sign that comes to the text by itself.
+    /// A signed number that is passed to the text by itself.
     Signed,
     /// A line of values.
     Line,

@@ -50,7 +50,7 @@ fn first_of_two<X: Text>(
     }
 }
 
-// The refusal at which a text breaks off, or the first of it and one before.
+// The refusal where a text breaks off, or the refusal so far if that comes first.
 fn off<X: Text>(
     text: &X,
     best: Option<Fault<X::Kind>>,
@@ -70,7 +70,7 @@ fn off<X: Text>(
     }
 }
 
-// The refusal so far, exactly where every fault that can still be shown lies behind it.
+// The refusal so far, exactly if every fault that can still be shown comes after it.
 fn settled<X: Text>(text: &X, best: Option<Fault<X::Kind>>, at: u64) -> Option<Fault<X::Kind>>
     ensures { MatchOption result (IfSome (fault_of best) (λ y. (es : List (Event X.Piece)) → X.Knows text.now es
         → (X.text_of text.now).floor es at ≤ y.at)) (λ y. (fault_of best ≡ Some (refusal_of y))
@@ -82,7 +82,7 @@ fn settled<X: Text>(text: &X, best: Option<Fault<X::Kind>>, at: u64) -> Option<F
     }
 }
 
-// Does what marks stand for, in order.
+// Does the marks in order.
 fn do_all<X: Text>(text: &mut X, marks: &[u32]) -> Result<(), AllocError>
     ensures same { X.text_of text.new ≡ X.text_of text.old }
     ensures known { OnOk result ((es : List (Event X.Piece)) → X.Knows text.old es
@@ -122,8 +122,8 @@ fn follow<X: Text>(
     }
 }
 
-/// Parses a text of this many bytes from its tokens, one after the other, by the table of its grammar; the entries of
-/// the table are computed when they are first used.
+/// Parses a text of this many bytes from its tokens, one after the other, by the table of its grammar, whose entries
+/// are computed when they are first used.
 ///
 /// # Errors
 ///
@@ -163,7 +163,7 @@ pub fn read<X: Text + Drop, L: Tokens<Piece = X::Piece> + Drop>(
     ended(text, tables, expected, marks, best, len)
 }
 
-// What comes of a text that ends here.
+// The result of a text that ends here.
 fn ended<X: Text + Drop>(
     text: X,
     tables: Tables<'_>,

@@ -14,7 +14,7 @@ use std::alloc::AllocError;
 /// How a class met a stack.
 #[derive(Clone, Copy, Debug, PartialEq, Eq)]
 pub enum Meeting {
-    /// A piece of the class is matched, and the stack is what is expected then.
+    /// A piece of the class is matched, and the stack has the symbols expected next.
     Matched,
     /// All symbols derive marks alone, and none is left.
     Passed,

@@ -7,7 +7,7 @@ pub enum Symbol {
     Piece(u32),
     /// A nonterminal.
     Made(u32),
-    /// A mark: what it stands for is done here.
+    /// A mark: its action is done here.
     Mark(u32),
 }
 

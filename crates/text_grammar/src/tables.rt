@@ -1,4 +1,4 @@
-//! The LL(1) table of a grammar: what each nonterminal leads to at each class of pieces, and at the end of the text.
+//! The LL(1) table of a grammar: the lead of each nonterminal at each class of pieces, and at the end of the text.
 
 ghost use Rattle.std.specs.Prelude.{◌≡◌, ◌≢◌, ◌<◌, ◌≤◌, ◌^◌, ℕ, length, IfOk, OnOk, IsTrue, IsFalse};
 ghost use Rattle.text_grammar.specs.Leads.{Stuck, entry};

@@ -22,7 +22,7 @@ pub trait Tokens {
         ensures { MatchOption result (left self.old ≡ []) (λ t. left self.old ≡ token_of t ∷ left self.new) };
 }
 
-/// A text of a grammar: what it remembers of its events, the faults of its tokens, and the tree that it makes of them.
+/// A text of a grammar: the state after its events, the faults of its tokens, and the tree that it makes of them.
 pub trait Text {
     type Piece: Copy;
 
@@ -30,8 +30,8 @@ pub trait Text {
 
     type Made;
 
-    // the trees that texts stand for; the text's grammar, its fold and its faults; what is known of the events so far,
-    // the last one first; and what is made of a tree
+    // the trees that texts denote; the text's grammar, its fold and its faults; what is known of the events so far,
+    // the last one first; and when a made value represents a tree
     ghost Tree: { Type 0 };
 
     ghost text_of: { Self → TextOf Self.Piece Tree Self.Kind };
@@ -44,7 +44,7 @@ pub trait Text {
     fn class(&self, piece: Self::Piece) -> u32
         ensures { result ≡ (text_of self.now).grammar.class_of piece };
 
-    /// Does what a mark stands for.
+    /// Does the action of a mark.
     ///
     /// # Errors
     ///
@@ -71,7 +71,7 @@ pub trait Text {
     fn floor(&self, at: u64) -> u64
         ensures { (es : List (Event Self.Piece)) → Knows self.now es → result ≡ (text_of self.now).floor es at };
 
-    /// The number of a kind: of two kinds at one position the one with the lesser number comes first.
+    /// The number of a kind: of two kinds at one position the one with the lesser number is reported.
     fn number(&self, kind: Self::Kind) -> u32
         ensures { result ≡ (text_of self.now).number kind };
 

@@ -5,7 +5,7 @@ ghost use Rattle.text_grammar.specs.declared.token.Refusal.TheVariants.{Memory};
 
 use std::alloc::{AllocError, AllocFailed};
 
-/// A piece, the position of its first byte, and the one behind its last byte.
+/// A piece, the position of its first byte, and the position after its last byte.
 #[derive(Clone, Copy, Debug, PartialEq, Eq)]
 pub struct Token<P> {
     pub piece: P,

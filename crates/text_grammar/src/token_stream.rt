@@ -20,7 +20,7 @@ pub enum OneMode {
     Plain,
 }
 
-/// How bytes are cut: what they begin with hangs on a mode, which the pieces before them leave.
+/// How bytes are cut into tokens: the next one depends on a mode, which the pieces before it determine.
 pub trait Lexer {
     type Piece: Copy;
 
@@ -39,7 +39,7 @@ pub trait Lexer {
         requires { bytes.now ≡ first ∷ others.now }
         ensures { lexeme_of result ≡ (lexer_of self.now).lexeme_in mode first others.now };
 
-    /// The mode behind a lexeme.
+    /// The mode after a lexeme.
     fn behind(&self, mode: Self::Mode, piece: Option<Self::Piece>) -> Self::Mode
         ensures { result ≡ (lexer_of self.now).mode_behind mode piece };
 

@@ -42,7 +42,7 @@ entered_up_argument : IsScaledSolution (asked_of enter Up (Argument 1 Plus)) 10 
 unfolding program_of_question first_tableau equation cost pivot
 entered_up_argument = solution_run (asked_of enter Up (Argument 1 Plus)) 10 0 (pos 0 ∷ []) (1 ∷ 2 ∷ []) refl
 
--- so this is the arm
+-- so this is the up side bound of the place before the loop
 entered_up : SideComesTo (prepared enter) 1 10 Up (SideBoundFound entered_member.local.up)
 entered_up = inr (
   none_by enter Up Number (pos 1 ∷ pos 0 ∷ []) entered_up_number,
@@ -61,7 +61,7 @@ entered_low_negation : IsScaledSolution (asked_of enter Low (Argument 1 Minus)) 
 unfolding program_of_question first_tableau equation cost pivot
 entered_low_negation = solution_run (asked_of enter Low (Argument 1 Minus)) 10 0 (pos 0 ∷ []) (1 ∷ 2 ∷ []) refl
 
--- so this is the arm
+-- so this is the low side bound of the place before the loop
 entered_low : SideComesTo (prepared enter) 1 10 Low (SideBoundFound entered_member.local.low)
 entered_low = inr (
   none_by enter Low Number (negsuc 0 ∷ pos 0 ∷ []) entered_low_number,
@@ -90,7 +90,7 @@ doubled_up_form : IsScaledSolution (asked_of doubling_rule Up Affine) 10 (pos 2 
 unfolding program_of_question first_tableau equation cost pivot
 doubled_up_form = solution_run (asked_of doubling_rule Up Affine) 10 2 (pos 2 ∷ pos 0 ∷ pos 0 ∷ pos 0 ∷ pos 0 ∷ []) (0 ∷ 2 ∷ []) refl
 
--- so this is the arm
+-- so this is the up side bound of the place that doubles
 doubled_up : SideComesTo (prepared doubling_rule) 1 10 Up (SideBoundFound doubled_member.local.up)
 doubled_up = inr (
   none_by doubling_rule Up Number (pos 1 ∷ pos 0 ∷ []) doubled_up_number,
@@ -119,7 +119,7 @@ doubled_low_form : IsScaledSolution (asked_of doubling_rule Low Affine) 10 (pos 
 unfolding program_of_question first_tableau equation cost pivot
 doubled_low_form = solution_run (asked_of doubling_rule Low Affine) 10 2 (pos 0 ∷ pos 2 ∷ pos 0 ∷ pos 0 ∷ pos 0 ∷ []) (1 ∷ 2 ∷ []) refl
 
--- so this is the arm
+-- so this is the low side bound of the place that doubles
 doubled_low : SideComesTo (prepared doubling_rule) 1 10 Low (SideBoundFound doubled_member.local.low)
 doubled_low = inr (
   none_by doubling_rule Low Number (negsuc 0 ∷ pos 0 ∷ []) doubled_low_number,

@@ -26,7 +26,7 @@ use Rattle.worked_reasons.specs.FirstUntimed.{FirstUntimedIsWorkedOut}
 within : (n : ℕ) → n ≤ 1 → IsInLimit n
 within n h = omega (arith, h)
 
--- so an arm with such numbers has its shape over the first rule
+-- so a side bound with such numbers has its shape over the first rule
 first_shape : (c d : ℤ) → nat_abs c ≤ 1 → nat_abs d ≤ 1
     → HasLinearShape (setting_of growing_twice) 1 1 1 (form (c ∷ []) d) []
 first_shape c d low_c low_d = record {
@@ -73,7 +73,7 @@ grown_shape = record {
       }) (All-nil (HasMemberShape (setting_of growing_twice))));
 }
 
--- and their arms are accepted
+-- the side bounds of the members are accepted
 up_first : AcceptsUp (setting_of growing_twice) (grown_after 1)
 up_first = implies_one [] [] _ refl refl (λ u. refl) (omega (arith, ints))
 

@@ -45,7 +45,7 @@ use Rattle.worked_reasons.proofs.DoubleMembers.{not_used}
 use Rattle.worked_reasons.proofs.LoopComponents.{grows_nowhere}
 use Rattle.worked_reasons.proofs.WholeEnds.{solution_run, solution_untripped, solutions_same}
 
--- the arms of the place that doubles have their shape over the rows of the program
+-- the side bounds of the place that doubles have their shape over the rows of the program
 doubled_up : HasLinearShape (setting_of doubling.program) 2 1 1 (form (pos 2 ∷ []) (pos 0)) []
 doubled_up =
     let old = (All-head (HasMemberShape doubling) doubled_member [] size_nodes.with_time.1.shape.each).up in

@@ -37,7 +37,7 @@ use Rattle.worked_reasons.proofs.LoopComponents.{one_live}
 use Rattle.worked_reasons.proofs.Runs.{budget_run}
 use Rattle.worked_reasons.proofs.TwoTogether.{LeadBoth, pair_listed, pair_is_listed}
 
--- within no pivots the question whether the rule has a point trips
+-- with no pivot allowed the question whether the rule has a point hits a limit
 point_trips : Trips (empty_program (prepared product_rule)) 0 (budget 0)
 unfolding program_of_question first_tableau equation cost pivot divisor_of
 point_trips = budget_run (empty_program (prepared product_rule)) 0 refl refl

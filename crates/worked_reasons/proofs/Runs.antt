@@ -163,7 +163,7 @@ run_scale p allowed k r i low =
     (row_whole p (tableau_after p k)
     (every-each (suc k) (λ l. is_whole p (tableau_after p l)) r.passed k (omega arith)) i low).0
 
--- where another tableau follows behind the allowed pivots, their number trips the program
+-- if another tableau follows after the allowed pivots, the program hits the limit on their number
 pub budget_run : (p : LinearProgram) (allowed : ℕ) → is_whole_run p allowed allowed ≡ true
     → is_there (tableau_at p (suc allowed)) ≡ true → Trips p allowed (budget allowed)
 budget_run p allowed h onward =

@@ -135,7 +135,7 @@ large_exceeds numbers den over within =
         → unsigned_abs b ≤ point_limit → ⊥
     too_large b c positive e f low = omega (arith, ints, positive, e, f, low)
 
--- so the scale trips it
+-- so it hits the limit on the scale
 large_trips : Trips (empty_program (prepared large_rule)) 10 scale
 large_trips =
     subst (λ (rows : List Form). Trips (program_of_rows large_rule rows) 10 scale) (sym large_rows)

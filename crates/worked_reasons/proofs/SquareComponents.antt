@@ -28,7 +28,7 @@ use Rattle.worked_reasons.specs.Squares.{ComponentsOfSquares}
 use Rattle.worked_reasons.proofs.SquareFlows.{both_live, square_locals, squares_apart}
 use Rattle.worked_reasons.proofs.Trips.{point_trips}
 
--- within no pivots the questions whether the rules have a point trip
+-- with no pivot allowed the questions whether the rules have a point hit a limit
 emptiness_trips : (t target : ℕ) → rule_at squares t ≡ Some (squaring_to target)
     → IsEmptinessOf squares 0 t (EmptyTripped (tripped_at 0 (asked.Empty t)))
 emptiness_trips t target e =

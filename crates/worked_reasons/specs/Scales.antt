@@ -22,8 +22,8 @@ abbrev pub below_multiple : ℤ → ℤ → Program
 below_multiple least factor = program_with (falling_below least factor ∷ [])
 
 -- the point of A >= 18837001 and 1867833 * A + B <= 0 at which the linear program ends has B = -(2^45 + 1), which isn't
--- small, so it trips by its scale, and by no other cause; that of A >= 2^23 and 2^22 * A + B <= 0 has B = -2^45, and
--- nothing trips
+-- small, so it hits the limit on its scale, and no other; that of A >= 2^23 and 2^22 * A + B <= 0 has B = -2^45, and
+-- hits no limit
 pub record ScalesAreWorkedOut : Type 0 where
   pub scale : EmptyTripsSo (below_multiple (pos 18837001) (pos 1867833)) 10 1 (limit_hit_by (asked.Empty 1) causes.Scale)
   pub no_other : (cause : LimitCause)

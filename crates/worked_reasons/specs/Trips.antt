@@ -13,7 +13,7 @@ use Rattle.worked_reasons.specs.Programs.{tripped_at, squares}
 -- within no pivots the linear program for a function that ranks k(A) -> k(A) exceeds the limit of 0, and so does the
 -- first one on how large its new value is; the limit is no other one, and within 10 pivots none is exceeded. Where the
 -- update is a polynomial no question is needed. The linear program on whether A <= 0 has a point needs a pivot, and the
--- one without rows needs none. And where its own question trips, nothing trips by the question of another rule, place
+-- one without rows needs none. The limit that is reported is that of the own question, not that of another rule, place
 -- or function
 pub record TripsAreWorkedOut : Type 0 where
   pub time : HasNoTime looping 0 staying_said 1 (TimeTripped (tripped_at 0 (asked.Rank 1)))

@@ -1,5 +1,5 @@
--- Places that are loose, worked out by hand: of k(A) -> l(C), where C is free, on the low side; and of k(A) -> l(C)
--- where C >= A, on the up side alone.
+-- Unbounded sides, worked out by hand: of k(A) -> l(C), where C is free, the low side; and of k(A) -> l(C)
+-- where C >= A, the up side alone.
 use Rattle.std.specs.Prelude.{List, [], ◌∷◌, ℤ, pos, negsuc}
 use Rattle.outcome.specs.Reports.{SizeUnbounded}
 use Rattle.cert_types.specs.cert_rules.AcceptsSizes.{Up, Low}

@@ -1,6 +1,6 @@
-//! Worked values of why bounds are missing: small programs and reports for which a trip of a question itself or of the
-//! one for a point, `missing`, `bent`, `untimed`, `large` and a loose place are right, and for which they aren't.
-//! Worked values of gaps are in `time_bounds`.
+//! Worked values of why bounds are missing: small programs and reports for which each reason is right, and for which it
+//! isn't: a limit hit by a question itself or by the one for a point, `missing`, `bent`, `untimed`, `large`, and an
+//! unbounded side. Worked values of gaps are in `time_bounds`.
 //!
 //! No crate depends on this one, so its proofs delay no other. Main guarantee: the values themselves.
 #![tactic(auto)]

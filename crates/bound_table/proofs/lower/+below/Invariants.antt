@@ -26,7 +26,7 @@ decreases-one_below l = 16 * (bound_weight (bound_of l.a.now) + bound_weight (bo
 abbrev pub decreases-terms_below : goal.decreases-terms_below
 decreases-terms_below l = 16 * (factors_weight (bounds_of l.parts.now) + factors_weight (bounds_of l.others.now)) + 10
 
--- parts of a sum are looked at before their factors
+-- parts of a sum are compared before their factors
 abbrev pub turn : Pairing → ℕ
 turn AsTerms = 8
 turn AsFactors = 1

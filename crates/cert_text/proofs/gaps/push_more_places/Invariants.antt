@@ -5,7 +5,7 @@ use Rattle.cert_text.specs.Lists.{each_behind}
 use Rattle.cert_text.specs.Texts.{symbol_place_text}
 use Rattle.cert_text.proofs.gaps.push_more_places.Given as goal
 
--- what is written and what is left make the whole
+-- the text so far and that of the remaining places are the whole text
 abbrev pub invariant-loop-place : goal.invariant-loop-place
 invariant-loop-place l =
     l.text.items ++ each_behind (codes " ") (map (symbol_place_text (program_of l.p)) (map shut_of (drop l.place-index l.places)))

@@ -4,7 +4,7 @@ use Rattle.cert_text.specs.Lists.{each_behind}
 use Rattle.cert_text.specs.Texts.{member_text}
 use Rattle.cert_text.proofs.nodes.push_more_members.Given as goal
 
--- what is written and what is left make the whole
+-- the text so far and that of the remaining members are the whole text
 abbrev pub invariant-loop-member : goal.invariant-loop-member
 invariant-loop-member l =
     l.text.items ++ each_behind (codes "; ") (map member_text (map member_of (drop l.member-index l.members)))

@@ -2,7 +2,7 @@ use Rattle.std.proofs.Common.{◌≡◌, ◌++◌, drop}
 use Rattle.cert_text.specs.Lists.{each_before}
 use Rattle.cert_text.proofs.numbers.push_each_before.Given as goal
 
--- what is written and what is left make the whole
+-- the text so far and that of the remaining numbers are the whole text
 abbrev pub invariant-loop-number : goal.invariant-loop-number
 invariant-loop-number l =
     l.text.items ++ each_before (drop l.number-index l.numbers)

@@ -3,7 +3,7 @@ use Rattle.std.specs.Prelude.{decimal}
 use Rattle.cert_text.specs.Lists.{each_behind}
 use Rattle.cert_text.proofs.numbers.push_more_numbers.Given as goal
 
--- what is written and what is left make the whole
+-- the text so far and that of the remaining numbers are the whole text
 abbrev pub invariant-loop-number : goal.invariant-loop-number
 invariant-loop-number l =
     l.text.items ++ each_behind (codes " ") (map decimal (drop l.number-index l.numbers))

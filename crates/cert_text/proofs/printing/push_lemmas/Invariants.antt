@@ -4,7 +4,7 @@ use Rattle.cert_types.specs.Views.{proof_of}
 use Rattle.cert_text.specs.Texts.{lemma_lines}
 use Rattle.cert_text.proofs.printing.push_lemmas.Given as goal
 
--- what is written and what is left make the whole
+-- the text so far and that of the remaining lemmas are the whole text
 abbrev pub invariant-loop-lemma : goal.invariant-loop-lemma
 invariant-loop-lemma l =
     l.text.items ++ lemma_lines (program_of l.p) (map proof_of (drop l.lemma-index l.lemmas))

@@ -5,7 +5,8 @@ use Rattle.cert_text.specs.OverFirst.{AreOverFirst}
 use Rattle.cert_text.specs.Texts.{uses_text, more_uses_text}
 use Rattle.cert_text.proofs.trees.+write_proof.Given as goal
 
--- what is written and what is left make the whole, and what is left is over the first arguments
+-- the text so far and that of the remaining nodes are the whole text, and the remaining nodes are over the first
+-- arguments
 abbrev pub invariant-push_uses-loop-proof : goal.invariant-push_uses-loop-proof
 invariant-push_uses-loop-proof l =
     (l.text.items ++ (more_uses_text (program_of l.p) (uses_of (map proof_of (drop l.proof-index l.others))) ++ codes "}")

@@ -15,7 +15,7 @@ use Rattle.guard_prep.proofs.tighten.common_divisor.Goals as goal
 whole : (xs : List ℤ) (i g : ℕ) → length xs ≤ i → IsDivisorOf g (take i xs) → IsDivisorOf g xs
 whole xs i g l h = subst (IsDivisorOf g) (take_all i xs l) h
 
--- it is small
+-- the divisor of small coefficients is small
 small : (xs : List ℤ) (g : ℕ) → AllByRecursion (λ a. nat_abs a ≤ coefficient_limit) xs → IsDivisorOf g xs → g ≤ coefficient_limit
 small xs g b h = split (cases_eq (total_size xs) 0)
   where

@@ -15,7 +15,7 @@ leaders-read : (Edge : ℕ → ℕ → Type 0) (n : ℕ) (found leaders : List �
     → AreLeaders Edge n leaders
 leaders-read Edge n found leaders e h = subst (λ (xs : List ℕ). AreLeaders Edge n xs) (sym e) h
 
--- and so is their order
+-- leaders in order are in order by whatever names they are read
 order-read : (Edge : ℕ → ℕ → Type 0) (given leaders found order : List ℕ) → given ≡ leaders → order ≡ found
     → AreLeadersInOrder (Needs Edge given) given found → AreLeadersInOrder (Needs Edge leaders) leaders order
 order-read Edge given leaders found order l o h =

@@ -7,7 +7,7 @@ use Rattle.its_writer.specs.Expressions.{atom_then, guard_then}
 use Rattle.its_writer.specs.Printing.{Writes}
 use Rattle.its_writer.proofs.expression.write_guard.Given as goal
 
--- the atoms that are left, behind what was written, are the guard
+-- writing the remaining atoms after the text so far gives the text of the guard
 abbrev pub invariant-loop-atom : goal.invariant-loop-atom
 invariant-loop-atom l =
     Writes l.fn.text.items l.text.items (guard_then (map name_of l.names) (map atom_of l.guard)) (each_then (led_by (codes " && ") (atom_then (map name_of l.names))) (map atom_of (drop l.atom-index l.others)))

@@ -4,6 +4,6 @@ use Rattle.expr_reader.specs.Variables.{names_in}
 use Rattle.its_writer.specs.Texts.{with_names}
 use Rattle.its_writer.proofs.names.add_names.Given as goal
 
--- the names that are left do to what is known now what all do to what was known first
+-- adding the remaining names to the current ones gives the same result as adding all to the initial ones
 abbrev pub invariant-loop-name : goal.invariant-loop-name
 invariant-loop-name l = with_names (names_in l.known) (map name_of (drop l.name-index l.names)) ≡ with_names (names_in l.fn.known) (map name_of l.names)

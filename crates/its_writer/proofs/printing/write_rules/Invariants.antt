@@ -5,7 +5,7 @@ use Rattle.its_writer.specs.Texts.{rule_then}
 use Rattle.its_writer.specs.Printing.{Writes}
 use Rattle.its_writer.proofs.printing.write_rules.Given as goal
 
--- the rules that are left, behind what was written, are all the rules
+-- writing the remaining rules after the text so far gives the text of all rules
 abbrev pub invariant-loop-rule : goal.invariant-loop-rule
 invariant-loop-rule l =
     Writes l.fn.text.items l.text.items (each_then (rule_then (map (λ s. s.name) (map symbol_of l.symbols))) (map rule_of l.rules))

@@ -7,7 +7,7 @@ use Rattle.its_writer.specs.Expressions.{expression_then}
 use Rattle.its_writer.specs.Printing.{Writes}
 use Rattle.its_writer.proofs.rule.write_updates.Given as goal
 
--- the expressions that are left, behind what was written, are all the expressions
+-- writing the remaining expressions after the text so far gives the text of all expressions
 abbrev pub invariant-loop-update : goal.invariant-loop-update
 invariant-loop-update l =
     Writes l.fn.text.items l.text.items (joined_then (codes ",") (expression_then (map name_of l.names)) (map term_of l.updates))

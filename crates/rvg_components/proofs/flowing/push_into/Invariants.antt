@@ -3,7 +3,7 @@ use Rattle.guard_prep.specs.Views.{prepared_of}
 use Rattle.rvg_components.specs.Edges.{edges_into}
 use Rattle.rvg_components.proofs.flowing.push_into.Given as goal
 
--- what is done and what is left is all
+-- the edges so far and those of the remaining places are all
 abbrev pub invariant-loop-position : goal.invariant-loop-position
 invariant-loop-position l =
     l.edges.items ++ edges_into (prepared_of l.prepared_rule) l.before l.first l.position (drop l.position l.answers)

@@ -13,7 +13,7 @@ use Rattle.rvg_components.specs.Edges.{firsts_of}
 use Rattle.rvg_components.proofs.ProgramAnswers.{before-within, live-firsts-few, edges-agree}
 use Rattle.rvg_components.proofs.flowing.push_rule.Goals as goal
 
--- what can come before is the virtual entry or a rule
+-- only the virtual entry and rules can come before
 pub live_firsts-requires-clause-within : goal.live_firsts-requires-clause-within
 live_firsts-requires-clause-within c =
     let p = c.requires.graph.0 in

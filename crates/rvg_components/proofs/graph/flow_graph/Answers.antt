@@ -17,7 +17,7 @@ first_places-requires c =
     let few = widths-few p c.args.g.now c.args.prepared_rules.now c.args.locals.now c.args.live.now c.requires.1 in
     subst (λ (ws : List ℕ). sum ws < 2 ^ 31) (sym (c.deref.ensures.value ∙ c.in_ok-widths.ensures)) (omega (arith, few))
 
--- and few rules
+-- there are few rules
 pub numbered_places-requires-clause-few : goal.numbered_places-requires-clause-few
 numbered_places-requires-clause-few c =
     let p = c.requires.0 in
@@ -25,7 +25,7 @@ numbered_places-requires-clause-few c =
     let long = widths-length (answer_lists c.args.locals.now) c.args.live.now (lists-long p c.args.g.now c.args.prepared_rules.now c.args.locals.now c.args.live.now c.requires.1) in
     subst (λ (ws : List ℕ). length ws < 2 ^ 31) (sym (c.deref-2.ensures.value ∙ c.in_ok-widths.ensures)) (omega (arith, few, long))
 
--- and few places
+-- there are few places
 pub numbered_places-requires-clause-sum : goal.numbered_places-requires-clause-sum
 numbered_places-requires-clause-sum c =
     let p = c.requires.0 in

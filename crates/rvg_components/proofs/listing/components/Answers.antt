@@ -24,7 +24,7 @@ listed : (places : ℕ) (result_variables : List ResultVariable) (edges lent : L
 listed places result_variables edges lent positions size same l =
     subst (λ (n : ℕ). IsListing (IsPair edges) n positions) (size ∙ sym (length-map result_variables result_variable_of)) (subst (λ (es : List Pair). IsListing (IsPair es) places positions) same l)
 
--- what all components have, each list has
+-- a property of all components is one of each list
 each-within : (n : ℕ) (lists : List (Vec ℕ Global)) → All (λ c. All (λ a. a < n) c) (map items_of lists) → All (λ c. All (λ a. a < n) c.items) lists
 each-within n lists h k d low =
     subst (λ (c : List ℕ). All (λ a. a < n) c) (get_or-map items_of lists k d (items_of d) low) (h k (items_of d) (omega (arith, low, length-map lists items_of)))
@@ -51,7 +51,7 @@ placed-requires-clause-within c =
     subst (λ (n : ℕ). All (λ (l : Vec ℕ Global). All (λ a. a < n) l.items) c.deref-5.result.now) (length-map result_variables result_variable_of ∙ sym (ap length c.deref-3.ensures.value))
     (subst (λ (ls : List (Vec ℕ Global)). All (λ (l : Vec ℕ Global). All (λ a. a < length (map result_variable_of result_variables)) l.items) ls) (sym c.deref-5.ensures.value) within)
 
--- what is made of the positions are the components
+-- the lists made of the positions are the components
 pub returns-clause-components : goal.returns-clause-components
 returns-clause-components c =
     let result_variables = c.in_ok-graph.graph.result_variables.items in
@@ -71,7 +71,7 @@ returns-clause-components c =
     (map members_of found.items) made)
     c.placed.ensures.members
 
--- and each says whether it loops
+-- each component's flag is true exactly if it loops
 pub returns-clause-looping : goal.returns-clause-looping
 returns-clause-looping c =
     let result_variables = c.in_ok-graph.graph.result_variables.items in

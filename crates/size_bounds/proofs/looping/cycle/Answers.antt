@@ -28,7 +28,7 @@ returns-in-Missing c = λ p given.
     subst (IsCycleSizing (setting_of p) (table_of c.args.t.now) (map member_of c.args.members.now)) c.in-Missing.is
     (c.in_ok-sizing.ensures p given)
 
--- the first member that is bent
+-- the first nonlinear member
 pub returns-in-Nonlinear : goal.returns-in-Nonlinear
 returns-in-Nonlinear c = λ p given.
     subst (IsCycleSizing (setting_of p) (table_of c.args.t.now) (map member_of c.args.members.now)) c.in-Nonlinear.is

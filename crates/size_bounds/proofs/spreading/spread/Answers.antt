@@ -28,13 +28,13 @@ returns-in-Missing c = λ p given.
     subst (IsSpreadSizing (setting_of p) (table_of c.args.t.now) (member_of c.args.m.now)) c.in-Missing.is
     (c.in_ok-sizing.ensures p given)
 
--- no member is bent
+-- no member is nonlinear
 pub returns-in-Nonlinear : goal.returns-in-Nonlinear
 returns-in-Nonlinear c = λ p given.
     subst (IsSpreadSizing (setting_of p) (table_of c.args.t.now) (member_of c.args.m.now)) c.in-Nonlinear.is
     (c.in_ok-sizing.ensures p given)
 
--- and no time is needed
+-- no time is needed
 pub returns-in-Untimed : goal.returns-in-Untimed
 returns-in-Untimed c = λ p given.
     subst (IsSpreadSizing (setting_of p) (table_of c.args.t.now) (member_of c.args.m.now)) c.in-Untimed.is

@@ -42,7 +42,7 @@ push_from-requires-clause-low c =
     (sym (c.deref-2.ensures.value ∙ by_rows c (side_bound_of c.args.m.now.local.low) c.in_ok-low.low.items c.in_ok-low.ensures))
     (few_read (optional_poly c.poly_at-poly.result) (side_bound_of c.args.m.now.local.low) c.index-transitions-m.result.left (few c))
 
--- and by the setting
+-- the premises by the setting
 by_transitions : (c : goal.After-drop-up-2) (p : Program) → IsMemberIn p c.args.transitions.now (member_of c.args.m.now)
     → (side_bound : SideBound) (js : List ℕ)
     → js ≡ places_read (optional_poly c.poly_at-poly.result) side_bound (get_or c.args.transitions.now.rows.now (c.args.m.now.result_variable.rule - 1) c.index-transitions-m.result).left

@@ -14,7 +14,7 @@ decreases-lead_of_bodies l = 3 * l.rounds + 2
 abbrev pub decreases-lead_of_body : goal.decreases-lead_of_body
 decreases-lead_of_body l = 3 * l.rounds + 1
 
--- the better one of what was found and of what the alternatives left lead to is what all do
+-- the better one of the lead found and that of the remaining alternatives is the lead of all
 abbrev pub invariant-lead_of_bodies-loop-next : goal.invariant-lead_of_bodies-loop-next
 invariant-lead_of_bodies-loop-next l =
     better (lead_of l.found) (lead_among l.class (row_after (rules_view l.rules) l.class l.rounds) (alternatives_in l.next))
@@ -23,7 +23,7 @@ invariant-lead_of_bodies-loop-next l =
 abbrev pub decreases-lead_of_bodies-loop-next : goal.decreases-lead_of_bodies-loop-next
 decreases-lead_of_bodies-loop-next l = length (alternatives_in l.next)
 
--- what is left leads, behind the marks so far, where all does
+-- the lead of the remaining symbols, after the marks so far, is that of all
 abbrev pub invariant-lead_of_body-loop-item : goal.invariant-lead_of_body-loop-item
 invariant-lead_of_body-loop-item l =
     behind l.marks.items (lead l.class (row_after (rules_view l.rules) l.class l.rounds) (body_of l.left))

@@ -3,7 +3,7 @@ use Rattle.text_grammar.specs.Grammars.{Event}
 use Rattle.text_grammar.specs.Texts.{did}
 use Rattle.text_grammar.proofs.reading.do_all.Given as goal
 
--- the marks that are left, behind events that are known, come to what all come to
+-- doing the remaining marks from the current state gives the same result as doing all of them
 abbrev pub invariant-loop-mark : goal.invariant-loop-mark
 invariant-loop-mark g l = record {
   same : g.X.Text.text_of l.text ≡ g.X.Text.text_of l.initial.text;

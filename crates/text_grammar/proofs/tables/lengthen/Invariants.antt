@@ -3,7 +3,7 @@ use Rattle.text_grammar.specs.Leads.{entry}
 use Rattle.text_grammar.specs.Views.{leads_of}
 use Rattle.text_grammar.proofs.tables.lengthen.Given as goal
 
--- a longer row has no other leads
+-- a longer row has the same leads
 abbrev pub invariant-loop-row : goal.invariant-loop-row
 invariant-loop-row l = (n : ℕ) → entry (leads_of l.row.items) n ≡ entry (leads_of l.initial.row.items) n
 

@@ -1,4 +1,4 @@
--- Each piece leads where it leads in the written front.
+-- The state after each piece represents the written state after it.
 use Rattle.std.proofs.Common.{refl, sym, ◌∙◌}
 use Rattle.expr_reader.proofs.GuardTaking.{takes_truth, takes_joint, takes_more}
 use Rattle.expr_reader.proofs.GuardStops.{takes_relation, takes_none}

@@ -1,4 +1,4 @@
--- The set has the key exactly where the name is among the names.
+-- The set has the key exactly if the name is among the names.
 use Rattle.std.proofs.Common.{refl, ◌∙◌}
 use Rattle.text_core.proofs.KeyLaws.{key_among}
 use Rattle.expr_reader.proofs.variables.Variables.has.Goals as goal

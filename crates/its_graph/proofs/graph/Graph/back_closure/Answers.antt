@@ -26,7 +26,7 @@ grouped-requires c =
     subst (λ (xs : List Pair). All (λ (e : Pair). e.0 < n) xs) (sym links)
     (All-weaker (λ (e : Pair). (e.0 < n) × (e.1 < n)) (λ (e : Pair). e.0 < n) (λ e h. h.0) (map swap kept) (swap-within n kept (kept-within n c.args.untimed.now 1 g.links.items c.requires.graph.1.links_within)))
 
--- the same for the values of the table
+-- the values of the table are nodes
 pub flooded-requires-clause-edges_within : goal.flooded-requires-clause-edges_within
 flooded-requires-clause-edges_within c =
     let g = c.args.self.now in
@@ -43,7 +43,7 @@ returns-clause-ascending c =
     IfOk-weaker c.members.result (λ (found : Vec ℕ Global). found.items ≡ members_from c.args.untimed.now c.deref-6.result.now c.args.rule 1 c.deref-5.result.now) (λ (found : Vec ℕ Global). IsStrictlyIncreasing found.items)
     (λ found e. subst (λ (xs : List ℕ). IsStrictlyIncreasing xs) (sym e) (members-ascending c.args.untimed.now c.deref-6.result.now c.args.rule 1 c.deref-5.result.now).0) c.members.ensures
 
--- they are those of the set
+-- the numbers are those of the set
 pub returns-clause-members : goal.returns-clause-members
 returns-clause-members c =
     IfOk-weaker c.members.result (λ (found : Vec ℕ Global). found.items ≡ members_from c.args.untimed.now c.deref-6.result.now c.args.rule 1 c.deref-5.result.now)

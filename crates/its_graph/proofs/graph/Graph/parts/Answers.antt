@@ -74,6 +74,6 @@ returns-clause-named c = λ p h.
     (parts-named p (flagged untimed) n leaders by_rules
     (λ a b e. (pair-within n c.deref-3.result.now a b within ((edges a b).1 e)).1) g.links.items h.links below)
 
--- so those of one component have the same set
+-- rules of one component have the same set
 pub returns-clause-sets : goal.returns-clause-sets
 returns-clause-sets c = λ p h. same-sets p (flagged c.args.untimed.now) c.in_ok-parts.parts.items (returns-clause-named c p h)

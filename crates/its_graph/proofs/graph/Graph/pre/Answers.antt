@@ -9,7 +9,7 @@ use Rattle.its_graph.proofs.Filling.{values-at}
 use Rattle.its_graph.proofs.Arrivals.{arrivals-pre, rule-at-link, symbol-within}
 use Rattle.its_graph.proofs.graph.Graph.pre.Goals as goal
 
--- what arrives where the rule comes from is what can come just before it
+-- the arrivals at the rule's source are the rules that can come just before it
 pub returns : goal.returns
 returns c = λ p h. go p h
   where

@@ -5,7 +5,7 @@ use Rattle.text_grammar.specs.Views.{lead_of, leads_of, rules_view}
 use Rattle.text_grammar.proofs.TableLaws.{put_kept, put_remains, row_stands}
 use Rattle.text_grammar.proofs.tables.Tables.keep.Goals as goal
 
--- what was worked out is as the rules have it
+-- the computed lead is that of the rules
 worked_out : (c : goal.In_ok-put-in_default) → lead_of c.in_ok-made.made ≡ entry (row_in c.args.self.now c.args.class) c.args.number
 worked_out c = c.in_ok-made.ensures
     ∙ ap (λ rules. entry (row_after (rules_view rules) c.args.class c.args.self.now.rounds) c.args.number) c.deref-2.ensures.value

@@ -3,7 +3,7 @@ use Rattle.text_grammar.specs.Leads.{Stuck, entry}
 use Rattle.text_grammar.specs.Views.{leads_of}
 use Rattle.text_grammar.proofs.tables.Tables.new.Given as goal
 
--- there are as many rows as classes so far, and nothing is kept in them
+-- there are as many rows as classes so far, and they have no stored lead
 abbrev pub invariant-loop : goal.invariant-loop
 invariant-loop l = record {
   counted : length l.rows.items ≡ l.counter;
