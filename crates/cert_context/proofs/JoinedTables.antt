@@ -9,7 +9,7 @@ use Rattle.model.specs.Bounds.{Bound}
 use Rattle.model.specs.Facts.{Fact, Time, Size, Cost}
 use Rattle.model.proofs.Membership.{same_number-sound}
 use Rattle.cert_types.specs.cert_rules.Known.{Table, table_of, time_in, size_in}
-use Rattle.cert_context.specs.Joining.{TellsAlso, TellsAllAt}
+use Rattle.cert_context.specs.Joining.{TellsAllAt}
 use Rattle.cert_context.specs.Statements.{stated_at}
 use Rattle.cert_context.specs.declared.stated_facts.StatedFacts.{StatedFacts}
 

@@ -5,7 +5,6 @@ use Rattle.std.proofs.lemmas.Option.{slice_get_read, slice_get_within, slice_get
 use Rattle.std.proofs.lemmas.List.{length-map}
 use Rattle.farkas_cert.specs.Sizes.{AreSmall}
 use Rattle.guard_prep.specs.declared.rule_rows.RuleRows.{RuleRows}
-use Rattle.guard_prep.specs.Laws.{IsPreparable}
 use Rattle.guard_prep.specs.Prepared.{Prepared, prepared, rows_of}
 use Rattle.guard_prep.specs.Views.{prepared_of}
 use Rattle.guard_prep.proofs.SizeLaws.{rows-are-small}
