@@ -1,28 +1,24 @@
 -- The entries of costs, one by one: each rule has one, and one more is behind those before.
-use Rattle.std.proofs.Common.{◌≡◌, inl, inr, ◌⊎◌, ℕ, zero, suc, ◌+◌, ◌≤◌, List, [], ◌∷◌, ◌++◌, length, map, Option, Some, None}
-use Rattle.std.proofs.Common.{slice_get, refl, sym, ◌∙◌, ap, subst, arith}
+use Rattle.std.proofs.Common.{◌≡◌, ℕ, suc, ◌+◌, List, [], ◌∷◌, ◌++◌, length, map, Option, Some, None}
+use Rattle.std.proofs.Common.{refl, sym, ◌∙◌, ap, subst, arith}
 use Rattle.std.specs.Option.{option_map}
 use Rattle.std.proofs.lemmas.List.{append_assoc, append-nil, length-append, length-map, map-append}
 use Rattle.model.specs.Bounds.{Bound}
-use Rattle.model.specs.Costs.{HasCost}
 use Rattle.model.specs.Programs.{Program}
-use Rattle.bound_expr.specs.Views.{bound_of}
 use Rattle.outcome.specs.Reports.{NoSize, RuleCost, Costed, Uncosted}
 use Rattle.outcome.specs.Views.{cost_of}
 use Rattle.outcome.specs.declared.entry.CostEntry.{CostEntry}
 use Rattle.outcome.specs.declared.entry.CostEntry.TheVariants as costs
-use Rattle.outcome.specs.declared.entry.Stored.{Stored}
 use Rattle.cert_types.specs.cert_program.Setting.{setting_of}
 use Rattle.cert_types.specs.cert_rules.AcceptsCosts.{stated_cost}
 use Rattle.cert_types.specs.cert_rules.Nodes.{CostBy, CostNode, Proof}
 use Rattle.bound_fixpoint.specs.Keys.{Bounds, over}
 use Rattle.cost_bounds.specs.CostLemmas.{cost_lemma, cost_lemmas, cost_node}
-use Rattle.cost_bounds.specs.CostOutcomes.{CostOutcome, BoundedBy, NotBounded, IsCostOf}
+use Rattle.cost_bounds.specs.CostOutcomes.{BoundedBy, NotBounded, IsCostOf}
 use Rattle.cost_bounds.proofs.OneCost.{costs-one as outcomes_one}
 use Rattle.time_bounds.specs.Analysis.{IsCostOver, AreCostsOver}
 use Rattle.time_bounds.specs.AnalysisLemmas.{AreCertified, CarryCosts}
 use Rattle.time_bounds.specs.CostEntries.{AddsCost, AddsNone, AreCostEntries}
-use Rattle.time_bounds.specs.Numbered.{EachNumbered}
 use Rattle.time_bounds.proofs.NumberedLists.{each_pushed}
 
 -- lists that begin and go on alike are the same

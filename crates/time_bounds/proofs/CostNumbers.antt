@@ -18,7 +18,7 @@ use Rattle.outcome.specs.declared.entry.Stored.{Stored}
 use Rattle.cert_types.specs.cert_program.Setting.{setting_of}
 use Rattle.cert_types.specs.cert_rules.Acceptance.{facts_of_lemma}
 use Rattle.cert_types.specs.cert_rules.AcceptsCosts.{stated_cost}
-use Rattle.cert_types.specs.cert_rules.Nodes.{CostBy, CostNode}
+use Rattle.cert_types.specs.cert_rules.Nodes.{CostNode}
 use Rattle.bound_fixpoint.specs.Keys.{Bounds, over}
 use Rattle.cost_bounds.specs.CostLemmas.{cost_fact, cost_node}
 use Rattle.cost_bounds.specs.Laws.{IsBoundedCost}

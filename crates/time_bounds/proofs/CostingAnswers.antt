@@ -1,13 +1,11 @@
 -- What the entries of costs add, by the answers of the code.
-use Rattle.std.proofs.Common.{◌≡◌, ℕ, suc, List, [], ◌∷◌, ◌++◌, length, map, Some, ap, sym, ◌∙◌, subst, arith}
+use Rattle.std.proofs.Common.{◌≡◌, ℕ, List, [], ◌∷◌, ◌++◌, length, map, Some, ap, sym, ◌∙◌, subst, arith}
 use Rattle.std.proofs.lemmas.List.{length-append, length-map, map-append}
 use Rattle.model.specs.Bounds.{Bound}
 use Rattle.model.specs.Facts.{Cost}
 use Rattle.model.specs.Programs.{Program}
 use Rattle.bound_expr.specs.Views.{bound_of}
 use Rattle.cert_types.specs.Views.{fact_of, proof_of}
-use Rattle.cert_types.specs.cert_program.Setting.{setting_of}
-use Rattle.cert_types.specs.cert_rules.AcceptsCosts.{stated_cost}
 use Rattle.cert_types.specs.cert_rules.Known as plain
 use Rattle.cert_types.specs.cert_rules.Nodes as nodes
 use Rattle.cert_types.specs.declared.fact.Fact.{Fact}
@@ -18,7 +16,6 @@ use Rattle.bound_fixpoint.specs.Keys.{over}
 use Rattle.size_bounds.specs.Tables.{bounds_in, number_at, table_of}
 use Rattle.size_bounds.specs.declared.table.Table.{Table}
 use Rattle.cost_bounds.specs.CostAnswers.{IsCostAnswer}
-use Rattle.cost_bounds.specs.CostLemmas.{cost_lemma, cost_node}
 use Rattle.cost_bounds.specs.declared.answer.CostAnswer.{CostAnswer}
 use Rattle.cost_bounds.specs.declared.answer.CostAnswer.TheVariants as answers
 use Rattle.time_bounds.specs.CostEntries.{AddsCost}

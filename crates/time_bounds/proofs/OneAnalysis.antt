@@ -2,7 +2,7 @@
 use Rattle.std.proofs.Common.{◌≡◌, ℕ, suc, List, [], ◌∷◌, length, map, Some, None, refl, sym, ◌∙◌, ap, subst, arith}
 use Rattle.model.specs.Programs.{Program}
 use Rattle.model.specs.Bounds.{Bound}
-use Rattle.outcome.specs.Reports.{Time, Timed, Untimed, NoTime, Size, Sized, Unsized, NoSize, RuleCost, Report, spendings}
+use Rattle.outcome.specs.Reports.{Time, Timed, Untimed, NoTime, Size, Sized, Unsized, NoSize, Report, spendings}
 use Rattle.cert_types.specs.cert_rules.Nodes.{ResultVariable}
 use Rattle.cert_types.specs.cert_program.Setting.{setting_of}
 use Rattle.bound_fixpoint.specs.Components.{AreApart}

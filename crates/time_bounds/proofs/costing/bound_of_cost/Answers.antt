@@ -1,4 +1,4 @@
-use Rattle.std.proofs.Common.{◌≡◌, ℕ, sym, ap, subst, ◌∙◌}
+use Rattle.std.proofs.Common.{◌≡◌, ℕ, sym, ap, ◌∙◌}
 use Rattle.model.specs.Bounds.{Bound}
 use Rattle.model.specs.Facts.{Cost}
 use Rattle.cert_types.specs.Views.{fact_of}

@@ -1,4 +1,4 @@
-use Rattle.std.proofs.Common.{◌≡◌, ◌+◌, ◌≤◌, List, length, map, Option, sym, ap, subst, arith}
+use Rattle.std.proofs.Common.{◌+◌, List, length, map, Option, sym, ap, subst, arith}
 use Rattle.std.proofs.lemmas.List.{length-map, length_push}
 use Rattle.its_model.specs.Views.{rule_of}
 use Rattle.cert_types.specs.Views.{proof_of}

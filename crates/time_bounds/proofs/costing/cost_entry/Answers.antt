@@ -1,7 +1,6 @@
 use Rattle.std.proofs.Common.{◌≡◌, length, refl, subst, arith}
 use Rattle.size_bounds.specs.Tables.{number_at, table_of}
 use Rattle.cost_bounds.specs.CostAnswers.{IsCostAnswer}
-use Rattle.cost_bounds.specs.declared.answer.CostAnswer.{CostAnswer}
 use Rattle.cost_bounds.specs.declared.answer.CostAnswer.TheVariants as answers
 use Rattle.time_bounds.specs.Questions.{program_in}
 use Rattle.time_bounds.proofs.CostingAnswers.{found_added, over_keys}
