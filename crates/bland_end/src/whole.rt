@@ -17,7 +17,7 @@ pub enum WholeError {
     /// The equations of the table would have this many numbers, which is more than the limit.
     #[error("a table of {entries} numbers is too wide")]
     Wide { entries: u64 },
-    /// There are at least 2^32 bases.
+    /// At least 2^32 sets of unknowns could be a basis, so the number of pivots isn't known to fit in 32 bits.
     #[error("there are too many bases")]
     TooMany,
     /// Memory ran out.

@@ -9,7 +9,7 @@ use Rattle.model.specs.Terms.{Term, value}
 use Rattle.model.specs.Programs.{Program, Relation, AtLeast, MoreThan, AtMost, LessThan, EqualTo, Atom, Always, Compare}
 use Rattle.model.specs.Programs.{Related, AtomHolds, GuardHolds}
 use Rattle.model.specs.Runs.{Config, Step, IsStep}
-use Rattle.lassos.specs.Lassos.{LeadsTo, moved, Keeps, GoesOn, GuardGoesOn, HaveSlopes, StepMoves, PathMoves, moved_config}
+use Rattle.lassos.specs.Lassos.{LeadsTo, moved, Keeps, StaysTrue, GuardStaysTrue, HaveSlopes, StepMoves, PathMoves, moved_config}
 
 -- moved values are as many
 length-moved : (vs ds : List ℤ) (n : ℕ) → length (moved vs ds n) ≡ length vs
@@ -52,14 +52,14 @@ related_on EqualTo x y k l n h keeps =
     ap (λ (z : ℤ). z +ℤ pos n *ℤ k) h ∙ ap (λ (z : ℤ). y +ℤ pos n *ℤ z) keeps
 
 -- an atom and a guard go on to hold
-atom_on : (env ds : List ℤ) (atom : Atom) (n : ℕ) → GoesOn env ds atom → AtomHolds (moved env ds n) atom
+atom_on : (env ds : List ℤ) (atom : Atom) (n : ℕ) → StaysTrue env ds atom → AtomHolds (moved env ds n) atom
 atom_on env ds Always n h = tt
 atom_on env ds (Compare x r y) n (holds, k, l, left, right, keeps) =
     subst (λ (z : ℤ). Related r z (value y (moved env ds n))) (sym (left.each n))
     (subst (λ (z : ℤ). Related r (value x env +ℤ pos n *ℤ k) z) (sym (right.each n))
     (related_on r (value x env) (value y env) k l n holds keeps))
 
-guard_on : (env ds : List ℤ) (guard : List Atom) (n : ℕ) → GuardGoesOn env ds guard → GuardHolds (moved env ds n) guard
+guard_on : (env ds : List ℤ) (guard : List Atom) (n : ℕ) → GuardStaysTrue env ds guard → GuardHolds (moved env ds n) guard
 guard_on env ds [] n h = All-nil (AtomHolds (moved env ds n))
 guard_on env ds (atom ∷ atoms) n (here, later) =
     All-cons (AtomHolds (moved env ds n)) atom atoms (atom_on env ds atom n here) (guard_on env ds atoms n later)

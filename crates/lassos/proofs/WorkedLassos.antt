@@ -10,7 +10,7 @@ use Rattle.model.specs.Runs.{Config, Step, Leads, IsStep, IsRun, count, one_if_s
 use Rattle.model.specs.Worked.{by_rule, one_value}
 use Rattle.model.proofs.Cases.{some_same, none_some}
 use Rattle.model.proofs.RunLaws.{one_if_same-same, one_if_same-other, same_end}
-use Rattle.lassos.specs.Lassos.{HasSlope, GoesRound, GoesOnFor, GuardGoesOn, moved_config, Endless}
+use Rattle.lassos.specs.Lassos.{HasSlope, GoesRound, GoesOnFor, GuardStaysTrue, moved_config, Endless}
 use Rattle.lassos.specs.Worked.{one_place_rule, positive, looping_by, plus_one, less_one, stem_step, turn_step}
 use Rattle.lassos.specs.Worked.{LassosAreFound, SlopesAreFound}
 use Rattle.lassos.proofs.Laws.{lassos_are_endless}
@@ -133,12 +133,12 @@ not_growing_by_2 h =
 not_growing_down : ¬ (GoesOnFor (looping_by less_one) (pos 3 ∷ []) stem_step turn_step (one_value 1 (pos 3)) (negsuc 0 ∷ []))
 not_growing_down h =
     let (b, bs, (from, moves), step) = h.turn_moves in
-    by_guard (subst (λ (r : Rule). GuardGoesOn (pos 3 ∷ []) (negsuc 0 ∷ []) r.guard)
+    by_guard (subst (λ (r : Rule). GuardStaysTrue (pos 3 ∷ []) (negsuc 0 ∷ []) r.guard)
     (sym (some_same (one_place_rule 1 1 less_one positive) step.rule step.numbered))
-    (subst (λ (ds : List ℤ). GuardGoesOn (pos 3 ∷ []) ds step.rule.guard) moves
-    (subst (λ (x : Config). GuardGoesOn (x.values ++ []) bs step.rule.guard) from step.guard)))
+    (subst (λ (ds : List ℤ). GuardStaysTrue (pos 3 ∷ []) ds step.rule.guard) moves
+    (subst (λ (x : Config). GuardStaysTrue (x.values ++ []) bs step.rule.guard) from step.guard)))
   where
-    by_guard : GuardGoesOn (pos 3 ∷ []) (negsuc 0 ∷ []) positive → ⊥
+    by_guard : GuardStaysTrue (pos 3 ∷ []) (negsuc 0 ∷ []) positive → ⊥
     by_guard ((holds, k, l, left, right, keeps), later) = omega (arith, ints, left.each 1, right.each 1, keeps)
 
 -- the first rule occurs at most once, and behind it a run stands at l1

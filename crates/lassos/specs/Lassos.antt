@@ -45,15 +45,15 @@ Keeps LessThan k l = k ≤ℤ l
 Keeps EqualTo k l = k ≡ l
 
 -- an atom holds at these values, and goes on to hold as they move by these differences
-abbrev pub GoesOn : List ℤ → List ℤ → Atom → Type 0
-GoesOn env ds Always = ⊤
-GoesOn env ds (Compare x r y) = AtomHolds env (Compare x r y)
+abbrev pub StaysTrue : List ℤ → List ℤ → Atom → Type 0
+StaysTrue env ds Always = ⊤
+StaysTrue env ds (Compare x r y) = AtomHolds env (Compare x r y)
     × (k : ℤ) × (l : ℤ) × HasSlope x env ds k × HasSlope y env ds l × Keeps r k l
 
 -- each atom of a guard
-abbrev pub GuardGoesOn : List ℤ → List ℤ → List Atom → Type 0
-GuardGoesOn env ds [] = ⊤
-GuardGoesOn env ds (atom ∷ atoms) = GoesOn env ds atom × GuardGoesOn env ds atoms
+abbrev pub GuardStaysTrue : List ℤ → List ℤ → List Atom → Type 0
+GuardStaysTrue env ds [] = ⊤
+GuardStaysTrue env ds (atom ∷ atoms) = StaysTrue env ds atom × GuardStaysTrue env ds atoms
 
 -- the differences of new values, one for each update
 abbrev pub HaveSlopes : List Term → List ℤ → List ℤ → List ℤ → Type 0
@@ -69,7 +69,7 @@ pub record StepMoves (p : Program) (b : Config) (s : Step) (c : Config) (ds es :
   pub numbered : rule_at p s.rule ≡ Some rule
   pub leads : Leads rule b s.free c
   pub places : length ds ≡ length b.values
-  pub guard : GuardGoesOn (b.values ++ s.free) ds rule.guard
+  pub guard : GuardStaysTrue (b.values ++ s.free) ds rule.guard
   pub updates : HaveSlopes rule.updates (b.values ++ s.free) ds es
 
 -- the steps, the last one first, lead from c, whose values move by ds, to d, whose values move by es
