@@ -1,5 +1,5 @@
-//! Lassos: a run that reaches a configuration, and a turn from there that leads back to it, or on by the same differences
-//! each time. They show that rules occur without end, so that no bound on their use holds.
+//! Lassos: a run that reaches a configuration, and a turn from there that leads back to it, or on by the same
+//! differences each time. They show that rules occur without end, so that no bound on their use holds.
 //!
 //! Builds on `model` (programs, steps and runs). Main guarantee: for each rule of a lasso's turn and each number, some
 //! run from the lasso's start uses the rule at least so often, so no bound on its use holds. The functions here have no
