@@ -34,7 +34,7 @@ module _ (p q : Program) (o : Projection)
       ∙ (ap (λ (us : List Term). map (λ u. value u env) us) (sym below.copies.updates)
       ∙ ap (λ (x : Option Rule). updated x env) (sym numbered))
 
-  cost-below : (t : ℕ) (copy : Rule) (env : List ℤ) → rule_at q t ≡ Some copy
+  pub cost-below : (t : ℕ) (copy : Rule) (env : List ℤ) → rule_at q t ≡ Some copy
       → cost_by (rule_at p (o.rule t)) env ≡ cost_by (rule_at q t) env
   cost-below t copy env numbered =
       let below = copies t copy numbered in
@@ -42,7 +42,7 @@ module _ (p q : Program) (o : Projection)
       ∙ (ap (λ (k : Option Term). cost_at k env) (sym below.copies.cost)
       ∙ ap (λ (x : Option Rule). cost_by x env) (sym numbered))
 
-  values-below : (start : List ℤ) (steps : List Step) (c : Config) → IsRun q start steps c
+  pub values-below : (start : List ℤ) (steps : List Step) (c : Config) → IsRun q start steps c
       → values_after p start (map (step_below o) steps) ≡ values_after q start steps
   values-below start [] c run = refl
   values-below start (s ∷ earlier) c (b, run, step) =

@@ -1,7 +1,7 @@
 pub mod Members
 mod Lifting
 mod Sums
-mod Bounds
+pub mod Bounds
 mod Spelling
 pub mod Cases
 mod Rights

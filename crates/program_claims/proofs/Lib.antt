@@ -1,0 +1,5 @@
+mod Weights
+mod CopyLaws
+mod PeakBounds
+pub mod ClaimLaws
+mod WorkedMeanings

@@ -1,0 +1,5 @@
+use Rattle.program_claims.proofs.ClaimLaws as lemmas
+use Rattle.program_claims.proofs.own_claims_hold.Goals as goal
+
+pub returns : goal.returns
+returns c = lemmas.own_claims_hold

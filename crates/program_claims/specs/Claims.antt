@@ -1,0 +1,62 @@
+-- What is claimed of a program by lemmas over a program that simulates it, and what a claim says of runs.
+use Rattle.std.specs.Prelude.{◌≡◌, ◌≤◌, ℕ, List, ℤ, pos, neg_ℤ, ◌≤ℤ◌}
+use Rattle.std.specs.List.{AllByRecursion}
+use Rattle.model.specs.Programs.{Program}
+use Rattle.model.specs.Runs.{Config, Step, IsRun, count, last_rule, place_value}
+use Rattle.model.specs.Spending.{spent, spent_all}
+use Rattle.signed_bounds.specs.Bounds.{Signed, signed_val}
+
+-- A claim, with the numbers of the lemmas that it cites: on how often a rule occurs; on what the steps of a rule cost
+-- together; on what all steps cost together; and on the value at a place after a rule, from above and from below, with
+-- a lemma for each copy of the rule. Places are numbered from 1.
+pub data Claim : Type 0 where
+  OnTime : ℕ → ℕ → Claim
+  OnCost : ℕ → ℕ → Claim
+  OnTotal : ℕ → Claim
+  OnAbove : ℕ → ℕ → List ℕ → Claim
+  OnBelow : ℕ → ℕ → List ℕ → Claim
+
+-- what a claim comes to: a bound over the start values on how often a rule occurs, on what its steps cost, on what all
+-- steps cost, on the value at a place after a rule, and on the opposite of that value
+pub data Stated : Type 0 where
+  Time : ℕ → Signed → Stated
+  Cost : ℕ → Signed → Stated
+  Total : Signed → Stated
+  Above : ℕ → ℕ → Signed → Stated
+  Below : ℕ → ℕ → Signed → Stated
+
+-- in every run the rule occurs at most as often as the bound says at the start values
+pub record OccursAtMost (p : Program) (rule : ℕ) (bound : List ℤ → ℕ) : Type 0 where
+  pub each : (start : List ℤ) (steps : List Step) (c : Config) → IsRun p start steps c → count rule steps ≤ bound start
+
+-- in every run the steps by the rule cost together at most what the bound says
+pub record SpendsAtMost (p : Program) (rule : ℕ) (bound : List ℤ → ℕ) : Type 0 where
+  pub each : (start : List ℤ) (steps : List Step) (c : Config) → IsRun p start steps c
+      → spent p rule start steps ≤ bound start
+
+-- in every run all steps cost together at most what the bound says
+pub record SpendsInAllAtMost (p : Program) (bound : List ℤ → ℕ) : Type 0 where
+  pub each : (start : List ℤ) (steps : List Step) (c : Config) → IsRun p start steps c
+      → spent_all p start steps ≤ bound start
+
+-- after every run whose last step is by the rule, the value at the place is at most what the bound says
+pub record EndsAtMost (p : Program) (rule place : ℕ) (bound : List ℤ → ℕ) : Type 0 where
+  pub each : (start : List ℤ) (steps : List Step) (c : Config) → IsRun p start steps c → last_rule steps ≡ rule
+      → place_value c place ≤ℤ pos (bound start)
+
+-- after every run whose last step is by the rule, the opposite of the value at the place is at most what the bound says
+pub record EndsAtLeast (p : Program) (rule place : ℕ) (bound : List ℤ → ℕ) : Type 0 where
+  pub each : (start : List ℤ) (steps : List Step) (c : Config) → IsRun p start steps c → last_rule steps ≡ rule
+      → neg_ℤ (place_value c place) ≤ℤ pos (bound start)
+
+-- what a claim comes to holds on all runs
+abbrev pub HoldsOf : Program → Stated → Type 0
+HoldsOf p (Time rule b) = OccursAtMost p rule (signed_val b)
+HoldsOf p (Cost rule b) = SpendsAtMost p rule (signed_val b)
+HoldsOf p (Total b) = SpendsInAllAtMost p (signed_val b)
+HoldsOf p (Above rule place b) = EndsAtMost p rule place (signed_val b)
+HoldsOf p (Below rule place b) = EndsAtLeast p rule place (signed_val b)
+
+-- each of a list does
+abbrev pub AllHoldOf : Program → List Stated → Type 0
+AllHoldOf p stated = AllByRecursion (λ s. HoldsOf p s) stated

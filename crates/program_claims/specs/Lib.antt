@@ -1,0 +1,10 @@
+-- what is claimed of a program, and when a claim is accepted
+pub mod Claims
+pub mod Copies
+pub mod Acceptance
+pub mod Laws
+-- values that were worked out by hand
+pub mod Worked
+-- the crates below, which callers name through this one
+pub use Rattle.potential_nodes.specs as potential_nodes
+pub use Rattle.refinement.specs as refinement

@@ -1,0 +1,42 @@
+//! What lemmas over a program that simulates another say of the other: how often its rules occur, what they cost, and
+//! how large values are after them. The functions here have no code: the contract of each is the law, or values that
+//! were worked out by hand.
+//!
+//! Builds on `refinement` (programs that simulate others) and `potential_nodes` (facts over start values). Main
+//! guarantee: what an accepted claim comes to holds on all runs of the program that is simulated.
+#![tactic(auto)]
+
+ghost use Rattle.program_claims.specs.Laws.{AcceptedClaimsHold, OwnClaimsHold};
+ghost use Rattle.program_claims.specs.Worked.{CopiesAreWorkedOut, ClaimsAreAccepted, ClaimsAreRefused};
+ghost use Rattle.program_claims.specs.Worked.{MeaningsAreWorkedOut};
+
+/// Where a program simulates another, and lemmas hold on its runs, what an accepted claim comes to holds on all runs of
+/// the other.
+pub fn accepted_claims_hold()
+    ensures { AcceptedClaimsHold }
+{}
+
+/// The same of a program and lemmas over itself.
+pub fn own_claims_hold()
+    ensures { OwnClaimsHold }
+{}
+
+/// The copies of rules, and what their steps are charged, in a small program.
+pub fn copies_are_worked_out()
+    ensures { CopiesAreWorkedOut }
+{}
+
+/// Claims that are accepted, and what they come to.
+pub fn claims_are_accepted()
+    ensures { ClaimsAreAccepted }
+{}
+
+/// Claims that aren't accepted.
+pub fn claims_are_refused()
+    ensures { ClaimsAreRefused }
+{}
+
+/// What claims come to holds of a small program, or doesn't.
+pub fn meanings_are_worked_out()
+    ensures { MeaningsAreWorkedOut }
+{}
