@@ -20,7 +20,7 @@ same_subject a b e = cc
 module _ {P T K : Type 0} (x : Text P T K) (lawful : IsLawful x) (tokens : List ℕ → List (Token P))
     (IsText : List ℕ → T → Type 0)
     (answered : (bytes : List ℕ) (t : T) → IsText bytes t
-        → answer (reader x) (length bytes) (tokens bytes) ≡ Stands t) where
+    → answer (reader x) (length bytes) (tokens bytes) ≡ Stands t) where
   -- it has no first fault
   no_first_fault : (bytes : List ℕ) (t : T) → IsText bytes t
       → Answers (reader x) (length bytes) (tokens bytes) (Stands t)

@@ -40,15 +40,14 @@ module _ (law : ReplaysAreDecided) (p : Program) (l : Lasso) where
 
   pub lasso_rows : AreRows (lasso_answers p l)
   lasso_rows = (
-    row_of turn_text_unique (λ x a. a.is_turn.round)
-    (
+    row_of turn_text_unique (λ x a. a.is_turn.round) (
       λ round bad. round_not_bad law p l bad.0 round bad.1,
-      (λ round open. round_not_open law p l open.0 round open.1, tt),
+      (λ round way. round_not_open law p l way.0 round way.1, tt),
     ),
     (
       row_of
-      (stated-unique (IsFirstBadStep p l.start (both_back l)) bad_step_text (law.one_bad p l.start (both_back l)))
-      (λ x a. (a.subject, a.is)) (λ bad open. open_not_bad law p l open.0 bad.0 open.1 bad.1, tt),
+          (stated-unique (IsFirstBadStep p l.start (both_back l)) bad_step_text (law.one_bad p l.start (both_back l)))
+          (λ x a. (a.subject, a.is)) (λ bad way. open_not_bad law p l way.0 bad.0 way.1 bad.1, tt),
       (
         row_of (stated-unique (IsOpenAt p l) open_text (open-unique law p l)) (λ x a. (a.subject, a.is)) tt,
         tt,

@@ -115,7 +115,7 @@ turn_stated bytes call put e (p, (gives, (l, (also, (x, (inr (inr (inr never)), 
 
 -- no analysis of the program has a time for a rule of the turn, and none ends with `Done`
 module _ (missing : (p : Program) (l : Lasso) (r : Report) → GoesRoundInRange p l → IsReportOn p r → ReportHolds p r
-        → list_all is_timed r.times ≡ false)
+    → list_all is_timed r.times ≡ false)
     (bytes : List ℕ) (put : Put) (t : StatesTurnOf bytes put) where
   same_program : (pivots : ℕ) (call : Call) (other : Put) (r : Report) (a : AsksToAnalyse bytes pivots call)
       → (w : WroteReport call other pivots a.file r) → w.program ≡ t.program
@@ -155,8 +155,7 @@ times_missing endless none = record {
   of_calls = λ bytes call put e.
       let t : StatesTurnOf bytes put =
       turn_stated bytes call put e
-      ((ends_mean Done call put e.ends).answered (OfPair LassoTask e.file e.second) e.asked refl) in
-      (
+      ((ends_mean Done call put e.ends).answered (OfPair LassoTask e.file e.second) e.asked refl) in (
         t.stated.turn,
         (
           subst (λ (x : List ℕ). Appended put x) t.stated.result_is t.appended,

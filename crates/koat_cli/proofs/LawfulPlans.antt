@@ -54,10 +54,10 @@ module _ (laws : Determined) where
       let start = r.start in
       let steps = last_first r in (
         row_of (tally_text_unique laws p r) (λ x a. a.in_range)
-        (λ good bad. laws.replays.none_bad p start steps bad.0 good bad.1, tt),
+            (λ good bad. laws.replays.none_bad p start steps bad.0 good bad.1, tt),
         (
           row_of (stated-unique (IsFirstBadStep p start steps) bad_step_text (laws.replays.one_bad p start steps))
-          (λ x a. (a.subject, a.is)) tt,
+              (λ x a. (a.subject, a.is)) tt,
           tt,
         ),
       )
