@@ -133,8 +133,8 @@ module _ (missing : (p : Program) (l : Lasso) (r : Report) → GoesRoundInRange 
       → WroteReport call other pivots a.file r
       → All (λ rule. (time : Bound) → numbered_entry r.times rule ≢ Some (Timed time)) t.stated.turn.rules
   no_time pivots call other r a w =
-      All-weaker (λ rule. (time : Bound) → ¬ (HoldsTime t.program rule time))
-      (λ rule. (time : Bound) → numbered_entry r.times rule ≢ Some (Timed time))
+      All-weaker (λ (rule : ℕ). (time : Bound) → ¬ (HoldsTime t.program rule time))
+      (λ (rule : ℕ). (time : Bound) → numbered_entry r.times rule ≢ Some (Timed time))
       (λ rule none time entry. none time ((report_holds pivots call other r a w).1.times rule time entry))
       t.stated.turn.rules t.stated.no_time
 
