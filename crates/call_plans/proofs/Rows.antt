@@ -1,9 +1,26 @@
 -- A table of rows has one answer.
 use Rattle.std.proofs.Common.{◌≡◌, ℕ, List, refl, sym, ◌∙◌, subst, inl, inr}
+use Rattle.std.specs.Prelude.{⊤}
 use Rattle.call_plans.specs.declared.status.Status.{Status}
 use Rattle.call_plans.specs.Sorts.{Answer, sort_of}
 use Rattle.call_plans.specs.Plans.{Cases, End, Case, Tells, Comes}
-use Rattle.call_plans.specs.Lawful.{AreRows, HaveAnswers}
+use Rattle.call_plans.specs.Lawful.{IsRow, AreRows, HaveAnswers}
+
+-- a case excludes that of each row of a table
+abbrev pub Excludes : Type 0 → Cases → Type 0
+Excludes When End = ⊤
+Excludes When (Case t Other Text more) = (When → ¬ Other) × Excludes When more
+
+none_comes : (When : Type 0) (cases : Cases) (s : Status) → Excludes When cases → When → ¬ (Comes cases s)
+none_comes When End s apart holds comes = comes
+none_comes When (Case t Other Text more) s apart holds (inl comes) = apart.0 holds comes.1
+none_comes When (Case t Other Text more) s apart holds (inr comes) = none_comes When more s apart.1 holds comes
+
+-- a row is one where it has one text, which comes with its case, and its case excludes those behind it
+pub row_of : {When : Type 0} {Text : List ℕ → Type 0} {more : Cases} → ((x y : List ℕ) → Text x → Text y → x ≡ y)
+    → ((x : List ℕ) → Text x → When) → Excludes When more → IsRow When Text more
+row_of {When} {Text} {more} one comes apart =
+    record { one = one; comes = comes; alone = λ s. none_comes When more s apart }
 
 -- a status with a text of a row comes
 pub told_comes : (cases : Cases) (s : Status) (x : List ℕ) → AreRows cases → Tells cases s x → Comes cases s

@@ -2,15 +2,18 @@
 //!
 //! Builds on `model` and `outside_io`. A command is one line of a table of plans. How a call ends, what its status means
 //! and when it comes are defined and proved here once for every plan: a file is lacking, too long, refused, or stands
-//! for something, and the next file is fetched behind it alone. [`take`] fetches a file and reads it by a [`Reader`].
+//! for something, and the next file is fetched behind it alone. [`take`] fetches a file and reads it by a [`Reader`];
+//! [`answer_file`] answers what the text of a command's last file stands for.
 #![tactic(auto)]
 
+mod answering;
 mod law;
 mod reader;
 mod status;
 mod status_text;
 mod taking;
 
+pub use answering::{FileCommand, answer_file};
 pub use law::worked_plans_hold;
 pub use model::Memory;
 pub use reader::{Read, Reader};

@@ -2,6 +2,7 @@
 
 ghost use Rattle.std.specs.Prelude.{◌≡◌, ℕ, List, IfOk};
 ghost use Rattle.call_plans.specs.Kinds.{TextKind};
+ghost use Rattle.call_plans.specs.Plans.{Cases, End};
 ghost use Rattle.call_plans.specs.Steps.{IsRead};
 
 use crate::status::Status;
@@ -20,7 +21,8 @@ pub enum Read<T> {
 /// A reader of texts of one kind.
 ///
 /// Its meanings are `Plain`, the plain data that texts stand for; `kind`, the kind of the texts; `plain`, a thing as
-/// plain data; and `ready`, what holds of a reader that may read.
+/// plain data; `ready`, what holds of a reader that may read; and `answers`, the table by which what a text stands for is
+/// answered, empty where a plan reads another file first.
 pub trait Reader {
     /// What a text stands for.
     type Thing: Drop;
@@ -32,6 +34,8 @@ pub trait Reader {
     ghost plain: { Self.Thing → Plain };
 
     ghost ready: { Self → Type 0 };
+
+    ghost answers: { Self → Plain → Cases } = { λ _ _. End };
 
     /// The greatest number of bytes of a text.
     fn limit(&self) -> u64

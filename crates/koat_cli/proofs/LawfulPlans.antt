@@ -1,5 +1,5 @@
 -- The plan of each request is lawful, and its statuses are of their sorts.
-use Rattle.std.proofs.Common.{◌≡◌, ℕ, List, refl, sym, ◌∙◌, subst, inl, inr}
+use Rattle.std.proofs.Common.{◌≡◌, ℕ, List, refl, sym, ◌∙◌, subst}
 use Rattle.std.specs.Prelude.{⊤}
 use Rattle.model.specs.Programs.{Program}
 use Rattle.its_reader.specs.its_text.Spelling.{SpellsWithin}
@@ -14,55 +14,53 @@ use Rattle.command_line.specs.declared.task.PairTask.TheVariants.{Check, Replay,
 use Rattle.command_line.specs.declared.task.NumberTask.TheVariants.{Generate, Selfrun}
 use Rattle.command_line.specs.declared.task.FileTask.TheVariants.{Lp}
 use Rattle.cert_types.specs.cert_rules.Gaps.{ProofFile}
-use Rattle.cert_types.specs.cert_program.Laws.{AcceptsFileFor}
-use Rattle.check_text.specs.Verdicts.{IsAcceptance, IsRefusal}
+use Rattle.run_replay.specs.ReplayAnswers.{last_first}
+use Rattle.run_replay.specs.Replays.{IsFirstBadStep}
 use Rattle.run_replay.specs.Runs.{Run}
 use Rattle.time_bounds.specs.Analysis.{IsAnalysis}
-use Rattle.call_plans.specs.declared.status.Status.{Status}
-use Rattle.call_plans.specs.declared.status.Status.TheVariants.{No, NotARun}
-use Rattle.call_plans.specs.Plans.{End, Case, Comes, IsLast}
+use Rattle.call_plans.specs.Plans.{IsLast}
 use Rattle.call_plans.specs.Lawful.{AreRows, IsLawful, HasSorts}
+use Rattle.call_plans.proofs.Rows.{row_of}
 use Rattle.koat_cli.specs.Commands.Analyse.{StatesReport}
 use Rattle.koat_cli.specs.Commands.Prove.{StatesProof}
 use Rattle.koat_cli.specs.Commands.Facts.{IsAnalysisWithFacts, StatesFacts}
 use Rattle.koat_cli.specs.Commands.Check.{check_answers}
-use Rattle.koat_cli.specs.Commands.Replay.{IsInRange, HasBadStep, StatesBadStep, replay_answers}
+use Rattle.koat_cli.specs.Commands.Replay.{replay_answers}
 use Rattle.koat_cli.specs.Commands.Selfrun.{StatesFigures}
+use Rattle.koat_cli.specs.RunTexts.{bad_step_text}
 use Rattle.koat_cli.specs.RequestPlans.{program_answers, second_plan, number_answers, plan_of}
 use Rattle.koat_cli.proofs.Determined.{Determined}
 use Rattle.koat_cli.proofs.OneText.{report_text_unique, facts_report_unique, facts_text_unique, figures_unique}
-use Rattle.koat_cli.proofs.OneText.{proof_text_unique, tally_text_unique, bad_step_text_unique, in_range_apart}
+use Rattle.koat_cli.proofs.OneText.{proof_text_unique, tally_text_unique}
 use Rattle.koat_cli.proofs.ProgramAnswers.{program_texts_decided}
 use Rattle.koat_cli.proofs.ProofAnswers.{proof_texts_decided, one_refusal, one_acceptance, refused_not_accepted}
 use Rattle.koat_cli.proofs.RunAnswers.{run_texts_decided}
 use Rattle.koat_cli.proofs.LassoAnswers.{lasso_texts_decided, lasso_rows}
 use Rattle.koat_cli.proofs.LpAnswers.{lp_texts_decided, lp_rows}
 use Rattle.koat_cli.proofs.ReportTables.{report_rows}
+use Rattle.koat_cli.proofs.Statements.{stated-unique}
 
 -- the rows of a check
-accepted_alone : (p : Program) (f : ProofFile) (s : Status) → AcceptsFileFor p f
-    → ¬ (Comes (Case No (¬ (AcceptsFileFor p f)) (IsRefusal p f) End) s)
-accepted_alone p f s accepts (inl h) = h.1 accepts
-accepted_alone p f s accepts (inr never) = never
-
 check_rows : (p : Program) (f : ProofFile) → AreRows (check_answers p f)
 check_rows p f = (
-  record { one = one_acceptance p f; comes = λ x a. a.accepted.accepted; alone = accepted_alone p f },
-  (record { one = one_refusal p f; comes = λ x a. refused_not_accepted p f x a; alone = λ s h never. never }, tt),
+  row_of (one_acceptance p f) (λ x a. a.accepted.accepted) (λ accepts refused. refused accepts, tt),
+  (row_of (one_refusal p f) (refused_not_accepted p f) tt, tt),
 )
 
 module _ (laws : Determined) where
   -- of a replay
-  in_range_alone : (p : Program) (r : Run) (s : Status) → IsInRange p r
-      → ¬ (Comes (Case NotARun (HasBadStep p r) (StatesBadStep p r) End) s)
-  in_range_alone p r s good (inl h) = in_range_apart laws p r good h.1
-  in_range_alone p r s good (inr never) = never
-
   replay_rows : (p : Program) (r : Run) → AreRows (replay_answers p r)
-  replay_rows p r = (
-    record { one = tally_text_unique laws p r; comes = λ x a. a.in_range; alone = in_range_alone p r },
-    (record { one = bad_step_text_unique laws p r; comes = λ x a. (a.bad, a.first); alone = λ s h never. never }, tt),
-  )
+  replay_rows p r =
+      let start = r.start in
+      let steps = last_first r in (
+        row_of (tally_text_unique laws p r) (λ x a. a.in_range)
+            (λ good bad. laws.replays.none_bad p start steps bad.0 good bad.1, tt),
+        (
+          row_of (stated-unique (IsFirstBadStep p start steps) bad_step_text (laws.replays.one_bad p start steps))
+              (λ x a. (a.subject, a.is)) tt,
+          tt,
+        ),
+      )
 
   -- of what is answered of a program
   program_rows : (task : ProgramTask) (n : ℕ) (p : Program) → AreRows (program_answers task n p)
@@ -78,8 +76,7 @@ module _ (laws : Determined) where
 
   -- and of a number
   number_rows : (task : NumberTask) (n : ℕ) → AreRows (number_answers task n)
-  number_rows Generate n =
-      (record { one = λ x y a b. a.result_is ∙ sym b.result_is; comes = λ x a. tt; alone = λ s h never. never }, tt)
+  number_rows Generate n = (row_of (λ x y a b. a.result_is ∙ sym b.result_is) (λ x a. tt) tt, tt)
   number_rows Selfrun n =
       report_rows (IsAnalysis (generated n) default_pivots) (StatesFigures (generated n))
       (laws.reports.each (generated n) default_pivots)

@@ -2,13 +2,13 @@
 -- and what their statuses mean; worked values
 pub mod Counts
 pub mod Determined
+pub mod Statements
+pub mod GrammarTexts
 pub mod ReportTables
 pub mod BoundedReports
 pub mod OneText
 pub mod FewSymbols
 pub mod ReadPrograms
-pub mod RunRefusals
-pub mod ProofRefusals
 pub mod ProgramAnswers
 pub mod RunAnswers
 pub mod ProofAnswers

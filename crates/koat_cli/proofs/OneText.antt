@@ -1,5 +1,5 @@
 -- A program has one report with one text, one proof file, one list of facts with a report, and one of figures; and a
--- run has one tally, or one first bad step.
+-- run has one tally.
 use Rattle.std.proofs.Common.{◌≡◌, ℕ, List, length, map, sym, ◌∙◌, ap, subst}
 use Rattle.std.proofs.lemmas.List.{length-map}
 use Rattle.model.specs.Programs.{Program}
@@ -16,17 +16,16 @@ use Rattle.cert_types.specs.AnswerViews.{gap_of}
 use Rattle.cert_types.specs.cert_rules.Gaps.{Gap}
 use Rattle.cert_types.specs.cert_rules.Nodes.{Proof}
 use Rattle.run_replay.specs.ReplayAnswers.{last_first}
-use Rattle.run_replay.specs.Replays.{BadStep, tally_along}
+use Rattle.run_replay.specs.Replays.{tally_along}
 use Rattle.run_replay.specs.Runs.{Run}
 use Rattle.time_bounds.specs.Analysis.{IsAnalysis}
 use Rattle.koat_cli.specs.Figures.{text_of_figures}
 use Rattle.koat_cli.specs.ReplayTexts.{text_of_replay}
-use Rattle.koat_cli.specs.RunTexts.{bad_step_text}
 use Rattle.koat_cli.specs.Commands.Analyse.{StatesReport}
 use Rattle.koat_cli.specs.Commands.Prove.{StatesProof}
 use Rattle.koat_cli.specs.Commands.Facts.{IsAnalysisWithFacts, StatesFacts}
 use Rattle.koat_cli.specs.Commands.Selfrun.{StatesFigures}
-use Rattle.koat_cli.specs.Commands.Replay.{IsInRange, HasBadStep, StatesTally, StatesBadStep}
+use Rattle.koat_cli.specs.Commands.Replay.{StatesTally}
 use Rattle.koat_cli.proofs.Determined.{Determined}
 
 -- the report
@@ -68,19 +67,10 @@ module _ (laws : Determined) (p : Program) where
       ∙ (ap (λ (gs : List Gap). text_of p (record { lemmas = map proof_of b.outcome.lemmas.items; gaps = gs })) one.gaps
       ∙ b.proved.result_is.text))
 
-  -- the tally of a run, and the first bad step
+  -- the tally of a run
   pub tally_text_unique : (r : Run) (x y : List ℕ) → StatesTally p r x → StatesTally p r y → x ≡ y
   tally_text_unique r x y a b =
       let same : a.report ≡ b.report = laws.reports.each p default_pivots a.report b.report a.found.found b.found.found in
       a.result_is
       ∙ (ap (λ (q : Report). text_of_replay (sizes_of_start r.start) (tally_along p r.start (last_first r)) q) same
       ∙ sym b.result_is)
-
-  pub bad_step_text_unique : (r : Run) (x y : List ℕ) → StatesBadStep p r x → StatesBadStep p r y → x ≡ y
-  bad_step_text_unique r x y a b =
-      let same : a.bad ≡ b.bad = laws.replays.one_bad p r.start (last_first r) a.bad b.bad a.first b.first in
-      a.result_is ∙ (ap (λ (bad : BadStep). bad_step_text bad) same ∙ sym b.result_is)
-
-  -- a run in range has none
-  pub in_range_apart : (r : Run) → IsInRange p r → HasBadStep p r → ⊥
-  in_range_apart r good bad = laws.replays.none_bad p r.start (last_first r) bad.0 good bad.1

@@ -1,17 +1,9 @@
--- The bytes of a proof's text are those of one proof file within the limits, and have no first fault; other bytes have
--- one first fault at most; and a proof file is accepted, or is refused at one place.
-use Rattle.std.proofs.Common.{◌≡◌, ℕ, ◌^◌, ◌<◌, List, length, ap, sym, ◌∙◌, subst}
+-- Texts of proof files are decided; and a proof file is accepted, or is refused at one place.
+use Rattle.std.proofs.Common.{◌≡◌, ℕ, List, ap, sym, ◌∙◌}
 use Rattle.model.specs.Facts.{Fact}
 use Rattle.model.specs.Programs.{Program}
-use Rattle.text_grammar.specs.text_core.Readers.{Fault}
-use Rattle.its_model.specs.Valid.{IsValid}
 use Rattle.its_reader.specs.its_text.Spelling.{SpellsWithin}
 use Rattle.its_reader.proofs.its_text.ValidPrograms.{spelled_valid}
-use Rattle.text_grammar.specs.text_core.Faults.{IsFirst}
-use Rattle.text_grammar.specs.text_core.Reading.{Answer, Answers as ReadAnswers, IsTree}
-use Rattle.text_grammar.specs.Texts.{reader}
-use Rattle.text_grammar.proofs.text_core.FirstFaults.{answer_is, one_first_each}
-use Rattle.text_grammar.proofs.ReaderLaws.{reader_laws}
 use Rattle.cert_types.specs.cert_rules.GapChecks.{GapFault}
 use Rattle.cert_types.specs.cert_rules.Gaps.{ProofFile}
 use Rattle.cert_types.specs.cert_rules.Reasons.{Reason}
@@ -22,46 +14,25 @@ use Rattle.cert_types.proofs.cert_rules.FilesInLine.{file-refusals-in-line}
 use Rattle.cert_types.proofs.cert_rules.Refusals.{refusals-in-line}
 use Rattle.cert_text.specs.Reading.{proofs_of}
 use Rattle.cert_text.specs.Spelled.{IsTextWithin}
-use Rattle.cert_text.specs.cert_lexer.declared.kind.ProofKind.{ProofKind}
 use Rattle.cert_text.specs.cert_lexer.Lexing.{tokens}
 use Rattle.cert_text.proofs.FileTexts.{text_stands}
 use Rattle.cert_text.proofs.Lawful.{lawful}
 use Rattle.cert_text.proofs.States.{sure_of}
-use Rattle.check_text.specs.Texts.{accepted_text, no_lemma_text, no_gap_text, proof_refusal_text}
+use Rattle.check_text.specs.Texts.{accepted_text, no_lemma_text, no_gap_text}
+use Rattle.check_text.specs.Texts.{proof_too_long_text, proof_refusal_text}
 use Rattle.check_text.specs.Verdicts.{IsAcceptance, IsRefusal, AtNode, AtGap}
+use Rattle.call_plans.specs.declared.status.Status.TheVariants.{ProofRefused}
 use Rattle.call_plans.specs.Lawful.{IsDecided}
-use Rattle.koat_cli.specs.ProofTexts.{proofs}
+use Rattle.koat_cli.specs.ProofTexts.{proofs, proof_limit}
 use Rattle.koat_cli.proofs.FewSymbols.{few_symbols}
-
--- other bytes than those of a proof's text have one first fault at most
-one_proof_fault : (p : Program) (bytes : List ℕ) (x y : Fault ProofKind)
-    → IsFirst (reader (proofs_of p)) (length bytes) (tokens p bytes) x
-    → IsFirst (reader (proofs_of p)) (length bytes) (tokens p bytes) y → x ≡ y
-one_proof_fault p bytes x y =
-    (one_first_each (reader (proofs_of p)) (reader_laws (proofs_of p) (lawful p))).each (length bytes) (tokens p bytes) x y
-
--- the text of a proof file within the limits has no fault, and is the text of no other one
-text_is_read : (p : Program) (bytes : List ℕ) (f : ProofFile) → IsValid p → length p.symbols < 2 ^ 32 → IsTextWithin p bytes f
-    → IsTree (reader (proofs_of p)) (length bytes) (tokens p bytes) f
-text_is_read p bytes f valid few h =
-    subst (λ (a : Answer ProofFile ProofKind). ReadAnswers (reader (proofs_of p)) (length bytes) (tokens p bytes) a)
-    (text_stands p (sure_of p valid few) bytes f h)
-    (answer_is (reader (proofs_of p)) (reader_laws (proofs_of p) (lawful p)) (length bytes) (tokens p bytes))
-
--- of a program that is spelled
-text_read : (spelling : List ℕ) (p : Program) → SpellsWithin spelling p → (bytes : List ℕ) (f : ProofFile) → IsTextWithin p bytes f
-    → IsTree (reader (proofs_of p)) (length bytes) (tokens p bytes) f
-text_read spelling p spelled bytes f h =
-    text_is_read p bytes f (spelled_valid spelling p spelled) (few_symbols spelling p spelled) h
+use Rattle.koat_cli.proofs.GrammarTexts.{texts_decided}
 
 -- texts of proof files of a program that is spelled are decided
 pub proof_texts_decided : (spelling : List ℕ) (p : Program) → SpellsWithin spelling p → IsDecided (proofs p)
-proof_texts_decided spelling p spelled = record {
-  one = λ bytes a b h k. (text_read spelling p spelled bytes b k).only a (text_read spelling p spelled bytes a h).written;
-  one_refusal = λ bytes x y a b.
-      a.result_is ∙ (ap (λ (f : Fault ProofKind). proof_refusal_text f) (one_proof_fault p bytes a.fault b.fault a.first b.first) ∙ sym b.result_is);
-  apart = λ bytes f x stands refused. (text_read spelling p spelled bytes f stands).faultless refused.fault refused.first.is;
-}
+proof_texts_decided spelling p spelled =
+    texts_decided (proofs_of p) (lawful p) (tokens p) (IsTextWithin p)
+    (text_stands p (sure_of p (spelled_valid spelling p spelled) (few_symbols spelling p spelled))) proof_limit
+    ProofRefused proof_too_long_text proof_refusal_text
 
 -- a proof file that is refused isn't accepted
 pub refused_not_accepted : (p : Program) (f : ProofFile) (x : List ℕ) → IsRefusal p f x → ¬ (AcceptsFileFor p f)

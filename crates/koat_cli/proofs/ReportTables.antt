@@ -4,8 +4,9 @@ use Rattle.std.proofs.lemmas.Bool.{both_ways}
 use Rattle.outcome.specs.Reports.{Report, is_bounded}
 use Rattle.call_plans.specs.declared.status.Status.{Status}
 use Rattle.call_plans.specs.declared.status.Status.TheVariants.{Done, Unknown}
-use Rattle.call_plans.specs.Plans.{End, Case, Tells, Comes}
+use Rattle.call_plans.specs.Plans.{Tells}
 use Rattle.call_plans.specs.Lawful.{AreRows}
+use Rattle.call_plans.proofs.Rows.{row_of}
 use Rattle.koat_cli.specs.Found.{status_of, OfReport, by_report}
 
 -- a text of a report with the report's status is told by the table
@@ -22,13 +23,10 @@ report_told Found Text r s x ends h = go (is_bounded r) refl ends
 module _ (Found : Report → Type 0) (Text : Report → List ℕ → Type 0)
     (one : (r q : Report) → Found r → Found q → r ≡ q) (comes : (r : Report) (x : List ℕ) → Text r x → Found r)
     (one_text : (r : Report) (x y : List ℕ) → Text r x → Text r y → x ≡ y) where
-  bounded_alone : (s : Status) → OfReport Found true
-      → ¬ (Comes (Case Unknown (OfReport Found false) (λ text. OfReport (λ r. Text r text) false) End) s)
-  bounded_alone s a (inl h) =
-      let b = h.1 in
+  bounded_apart : OfReport Found true → ¬ (OfReport Found false)
+  bounded_apart a b =
       both_ways (is_bounded b.report) b.bounded
       (subst (λ (r : Report). is_bounded r ≡ true) (one a.report b.report a.holds b.holds) a.bounded)
-  bounded_alone s a (inr never) = never
 
   texts_one : (all : Bool) (x y : List ℕ) → OfReport (λ r. Text r x) all → OfReport (λ r. Text r y) all → x ≡ y
   texts_one all x y a b =
@@ -41,6 +39,6 @@ module _ (Found : Report → Type 0) (Text : Report → List ℕ → Type 0)
 
   pub report_rows : AreRows (by_report Found Text)
   report_rows = (
-    record { one = texts_one true; comes = text_comes true; alone = bounded_alone },
-    (record { one = texts_one false; comes = text_comes false; alone = λ s h never. never }, tt),
+    row_of (texts_one true) (text_comes true) (bounded_apart, tt),
+    (row_of (texts_one false) (text_comes false) tt, tt),
   )

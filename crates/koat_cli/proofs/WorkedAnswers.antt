@@ -1,4 +1,4 @@
--- What is answered to some words, and the figures of a report.
+-- What is answered to some words, the figures of a report, and the texts of what is found of a lasso.
 use Rattle.std.proofs.Common.{◌≡◌, ◌≢◌, ℕ, List, [], ◌∷◌, get_or, Option, None, refl, ap, arith, codes, inl, inr}
 use Rattle.std.specs.Prelude.{⊤}
 use Rattle.std.specs.Fmt.{digits}
@@ -7,14 +7,16 @@ use Rattle.its_writer.specs.Texts.{canonical_text}
 use Rattle.its_writer.proofs.GeneratedWithin.{generated_spelled}
 use Rattle.command_line.specs.Lines.{Words, Positional}
 use Rattle.command_line.specs.Numerals.{IsNumber}
-use Rattle.command_line.specs.Requests.{OfProgram, OfPair, OfNumber, Request, Asks}
+use Rattle.command_line.specs.Requests.{OfProgram, OfPair, OfFile, OfNumber, Request, Asks}
 use Rattle.command_line.specs.declared.task.ProgramTask.TheVariants.{Analyse, Prove, Facts}
-use Rattle.command_line.specs.declared.task.PairTask.TheVariants.{Check, Replay}
+use Rattle.command_line.specs.declared.task.PairTask.TheVariants.{Check, Replay, Lasso}
+use Rattle.command_line.specs.declared.task.FileTask.TheVariants.{Lp}
 use Rattle.command_line.specs.declared.task.NumberTask.TheVariants.{Generate, Selfrun}
 use Rattle.command_line.proofs.Firsts.{gives_of}
 use Rattle.command_line.proofs.WorkedLines.{command_lines}
 use Rattle.call_plans.specs.declared.status.Status.{Status}
-use Rattle.call_plans.specs.declared.status.Status.TheVariants.{Done, Unknown, Usage, ReadFault, No, RunRefused}
+use Rattle.call_plans.specs.declared.status.Status.TheVariants.{Done, Unknown, Usage, ReadFault, ProofRefused, No}
+use Rattle.call_plans.specs.declared.status.Status.TheVariants.{RunRefused, NotARun}
 use Rattle.call_plans.specs.Calls.{Seen}
 use Rattle.call_plans.proofs.Statuses.{OfPlan, of_plan}
 use Rattle.koat_cli.specs.Calls.{Call}
@@ -22,11 +24,15 @@ use Rattle.koat_cli.specs.Answers.{Says, AnswersOf, ToRequest}
 use Rattle.koat_cli.specs.RequestPlans.{plan_of}
 use Rattle.koat_cli.specs.Report.{usage_text}
 use Rattle.koat_cli.proofs.OneRequest.{answer_of, never_usage_of}
-use Rattle.koat_cli.specs.WorkedAnswers.{Answered, FiguresAreWorkedOut, AnswersAreWorkedOut}
+use Rattle.koat_cli.specs.WorkedAnswers.{Answered, FiguresAreWorkedOut, LassoTextsAreWorkedOut, AnswersAreWorkedOut}
 
 pub figures_worked : FiguresAreWorkedOut
 unfolding digits
 figures_worked = record { figures = refl }
+
+pub lasso_texts_worked : LassoTextsAreWorkedOut
+unfolding digits
+lasso_texts_worked = record { turn = refl; great_cost = refl; other_value = refl; other_symbol = refl }
 
 -- the number of the word
 no_loop : IsNumber 100 (codes "0") 0
@@ -78,6 +84,14 @@ abbrev IsNotRunRefused : Status → Type 0
 IsNotRunRefused RunRefused = ⊥
 IsNotRunRefused status = ⊤
 
+abbrev IsNotProofRefused : Status → Type 0
+IsNotProofRefused ProofRefused = ⊥
+IsNotProofRefused status = ⊤
+
+abbrev IsNotNotARun : Status → Type 0
+IsNotNotARun NotARun = ⊥
+IsNotNotARun status = ⊤
+
 abbrev IsNotReadFault : Status → Type 0
 IsNotReadFault ReadFault = ⊥
 IsNotReadFault status = ⊤
@@ -107,6 +121,10 @@ generate_its_text : (before : Option ℕ) (seen : Seen) (s : Status) → ¬ (Ans
 generate_its_text before seen s said =
     no_usage_text s before seen
     (answer_of (call_with generate_words before seen) (OfNumber Generate 0) s usage_text generate_asked said)
+
+-- `lasso p q`
+abbrev lasso_words : Words
+lasso_words = codes "lasso" ∷ codes "p" ∷ codes "q" ∷ []
 
 pub answers_worked : AnswersAreWorkedOut
 answers_worked = record {
@@ -146,6 +164,20 @@ answers_worked = record {
       not_answered (call_with (codes "replay" ∷ codes "p" ∷ codes "--" ∷ codes "-q" ∷ []) before seen)
       (OfPair Replay (codes "p") (codes "-q")) command_lines.replay IsNotUnknown Unknown x
       (tt, (tt, λ p. (tt, (tt, λ r. (tt, (tt, tt)))))) said;
+  lasso = λ before seen x said.
+      not_usage (call_with lasso_words before seen) (OfPair Lasso (codes "p") (codes "q")) command_lines.lasso x said;
+  lasso_known = λ before seen x said.
+      not_answered (call_with lasso_words before seen) (OfPair Lasso (codes "p") (codes "q")) command_lines.lasso
+      IsNotUnknown Unknown x (tt, (tt, λ p. (tt, (tt, λ l. (tt, (tt, (tt, tt))))))) said;
+  lasso_no_proof = λ before seen x said.
+      not_answered (call_with lasso_words before seen) (OfPair Lasso (codes "p") (codes "q")) command_lines.lasso
+      IsNotProofRefused ProofRefused x (tt, (tt, λ p. (tt, (tt, λ l. (tt, (tt, (tt, tt))))))) said;
+  lp = λ before seen x said.
+      not_usage (call_with (codes "lp" ∷ codes "p" ∷ []) before seen) (OfFile Lp (codes "p"))
+      command_lines.linear_program x said;
+  lp_no_run = λ before seen x said.
+      not_answered (call_with (codes "lp" ∷ codes "p" ∷ []) before seen) (OfFile Lp (codes "p"))
+      command_lines.linear_program IsNotNotARun NotARun x (tt, (tt, λ p. (tt, (tt, tt)))) said;
   selfrun = λ before seen x said.
       not_answered (call_with (codes "selfrun" ∷ codes "0" ∷ []) before seen) (OfNumber Selfrun 0) selfrun_asked
       IsNotReadFault ReadFault x (tt, (tt, tt)) said;

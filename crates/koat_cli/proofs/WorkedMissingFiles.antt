@@ -1,4 +1,4 @@
--- What is answered to an analysis, to a replay and to a check where a shelf lacks a file.
+-- What is answered to an analysis, a replay, a check, a lasso and a linear program where a shelf lacks a file.
 use Rattle.std.proofs.Common.{◌≡◌, ℕ, List, [], ◌∷◌, Some, None, refl, ◌∙◌, inl, inr, arith, codes}
 use Rattle.std.specs.Fmt.{digits}
 use Rattle.std.specs.Cmp.Lexicographic.{slice_cmp, nat_list_cmp_total}
@@ -9,9 +9,10 @@ use Rattle.outside_io.specs.Files.{Files}
 use Rattle.its_reader.specs.its_text.Kinds.{MissingSection}
 use Rattle.its_reader.proofs.its_text.VerdictLaws.{verdicts_are_right}
 use Rattle.command_line.specs.Lines.{Word, Words}
-use Rattle.command_line.specs.Requests.{Request, OfProgram, OfPair, Asks}
+use Rattle.command_line.specs.Requests.{Request, OfProgram, OfPair, OfFile, Asks}
 use Rattle.command_line.specs.declared.task.ProgramTask.TheVariants.{Analyse}
-use Rattle.command_line.specs.declared.task.PairTask.TheVariants.{Check, Replay}
+use Rattle.command_line.specs.declared.task.PairTask.TheVariants.{Check, Replay, Lasso}
+use Rattle.command_line.specs.declared.task.FileTask.TheVariants.{Lp}
 use Rattle.command_line.proofs.WorkedLines.{command_lines}
 use Rattle.call_plans.specs.declared.status.Status.{Status}
 use Rattle.call_plans.specs.declared.status.Status.TheVariants.{ReadFault, ProgramRefused}
@@ -23,7 +24,8 @@ use Rattle.koat_cli.specs.Calls.{Call}
 use Rattle.koat_cli.specs.ProgramTexts.{programs}
 use Rattle.koat_cli.specs.RequestPlans.{plan_of}
 use Rattle.koat_cli.specs.Answers.{Says, ToRequest}
-use Rattle.koat_cli.specs.WorkedMissingFiles.{holding, Analysed, Replayed, Checked, FilesAreReadInOrder}
+use Rattle.koat_cli.specs.WorkedMissingFiles.{holding, Analysed, Replayed, Checked, Turned, Solved}
+use Rattle.koat_cli.specs.WorkedMissingFiles.{FilesAreReadInOrder}
 use Rattle.koat_cli.proofs.Determined.{Determined}
 use Rattle.koat_cli.proofs.LawfulPlans.{plans_lawful}
 use Rattle.koat_cli.proofs.OneRequest.{answer_of}
@@ -75,6 +77,16 @@ no_analysed =
     ToRequest (OfProgram Analyse 10000 (codes "p")) command_lines.file_alone
     (Without refl (Unread (record { fault = inr lacks_checked; result_is = refl; ends = refl })))
 
+no_turned : Turned (holding (codes "q")) ReadFault read_fault_text
+no_turned =
+    ToRequest (OfPair Lasso (codes "p") (codes "q")) command_lines.lasso
+    (Without refl (Unread (record { fault = inr lacks_checked; result_is = refl; ends = refl })))
+
+no_solved : Solved (holding (codes "q")) ReadFault read_fault_text
+no_solved =
+    ToRequest (OfFile Lp (codes "p")) command_lines.linear_program
+    (Without refl (Unread (record { fault = inr lacks_checked; result_is = refl; ends = refl })))
+
 -- one without bytes
 no_bytes : IsNoText programs (holding (codes "p")) (codes "p") ProgramRefused (codes "program refused at 0: MissingSection\n")
 unfolding digits
@@ -96,6 +108,9 @@ no_run = ToRequest (OfPair Replay (codes "p") (codes "-q")) command_lines.replay
 
 no_proof : Checked (holding (codes "p")) ProgramRefused (codes "program refused at 0: MissingSection\n")
 no_proof = ToRequest (OfPair Check (codes "p") (codes "q")) command_lines.check (Without refl no_bytes)
+
+no_lasso : Turned (holding (codes "p")) ProgramRefused (codes "program refused at 0: MissingSection\n")
+no_lasso = ToRequest (OfPair Lasso (codes "p") (codes "q")) command_lines.lasso (Without refl no_bytes)
 
 empty_analysed : Analysed (holding (codes "p")) ProgramRefused (codes "program refused at 0: MissingSection\n")
 empty_analysed = ToRequest (OfProgram Analyse 10000 (codes "p")) command_lines.file_alone (Without refl no_bytes)
@@ -119,6 +134,17 @@ module _ (laws : Determined) where
   only_analysed name =
       only laws (codes "analyse" ∷ codes "p" ∷ []) name (OfProgram Analyse 10000 (codes "p")) command_lines.file_alone
 
+  only_turned : (name : Word) (s t : Status) (x y : List ℕ) → Turned (holding name) s x → Turned (holding name) t y
+      → s ≡ t
+  only_turned name =
+      only laws (codes "lasso" ∷ codes "p" ∷ codes "q" ∷ []) name (OfPair Lasso (codes "p") (codes "q"))
+      command_lines.lasso
+
+  only_solved : (name : Word) (s t : Status) (x y : List ℕ) → Solved (holding name) s x → Solved (holding name) t y
+      → s ≡ t
+  only_solved name =
+      only laws (codes "lp" ∷ codes "p" ∷ []) name (OfFile Lp (codes "p")) command_lines.linear_program
+
   pub files_read_in_order : FilesAreReadInOrder
   files_read_in_order = record {
     no_program = no_program;
@@ -136,4 +162,11 @@ module _ (laws : Determined) where
     empty_analysed = empty_analysed;
     empty_analysed_alone = λ s x said.
         only_analysed (codes "p") s ProgramRefused x (codes "program refused at 0: MissingSection\n") said empty_analysed;
+    no_turned = no_turned;
+    no_turned_alone = λ s x said. only_turned (codes "q") s ReadFault x read_fault_text said no_turned;
+    no_lasso = no_lasso;
+    no_lasso_alone = λ s x said.
+        only_turned (codes "p") s ProgramRefused x (codes "program refused at 0: MissingSection\n") said no_lasso;
+    no_solved = no_solved;
+    no_solved_alone = λ s x said. only_solved (codes "q") s ReadFault x read_fault_text said no_solved;
   }

@@ -1,26 +1,24 @@
 -- Lasso files as the second file of a request: their limit, and the answers where one is refused; and the texts of what
 -- is found of a lasso.
-use Rattle.std.specs.Prelude.{◌≡◌, ℕ, List, [], ◌∷◌, ◌++◌, length, codes, decimal}
+use Rattle.std.specs.Prelude.{ℕ, List, [], ◌∷◌, ◌++◌, length, codes, decimal}
 use Rattle.model.specs.Programs.{Program}
-use Rattle.run_replay.specs.text_core.Readers.{Fault}
 use Rattle.run_replay.specs.text_core.Faults.{IsFirst}
 use Rattle.run_replay.specs.text_grammar.ByteTexts.{tokens}
 use Rattle.run_replay.specs.text_grammar.Texts.{reader}
-use Rattle.run_replay.specs.declared.kind.RunKind.{RunKind}
 use Rattle.lasso_check.specs.Checks.{Turn, Verdict, Round, Bad, OpenAt}
 use Rattle.lasso_check.specs.Lassos.{Lasso}
 use Rattle.lasso_check.specs.Spelled.{IsTextWithin}
 use Rattle.lasso_check.specs.Texts.{lassos_of}
 use Rattle.call_plans.specs.declared.status.Status.TheVariants.{RunRefused}
 use Rattle.call_plans.specs.Kinds.{TextKind}
+use Rattle.koat_cli.specs.Statements.{StatesOne}
 use Rattle.koat_cli.specs.ReplayTexts.{value_text}
 use Rattle.koat_cli.specs.RunTexts.{run_limit, run_too_long_text, run_refusal_text, bad_step_text}
 
 -- the bytes have a fault as the text of a lasso of the program, and the text states the first, as that of a run
-pub record IsLassoRefusedAs (program : Program) (bytes text : List ℕ) : Type 0 where
-  pub fault : Fault RunKind
-  pub first : IsFirst (reader (lassos_of program)) (length bytes) (tokens bytes) fault
-  pub result_is : text ≡ run_refusal_text fault
+abbrev pub IsLassoRefusedAs : Program → List ℕ → List ℕ → Type 0
+IsLassoRefusedAs program bytes text =
+    StatesOne (IsFirst (reader (lassos_of program)) (length bytes) (tokens bytes)) run_refusal_text text
 
 -- texts of lassos of a program, within the limits, of as many bytes as texts of runs
 abbrev pub lassos : Program → TextKind Lasso

@@ -2,6 +2,7 @@
 -- end, and what their statuses mean
 pub mod Calls
 pub mod Report
+pub mod Statements
 pub mod Figures
 pub mod ReplayTexts
 pub mod ProgramTexts

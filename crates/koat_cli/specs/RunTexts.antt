@@ -1,5 +1,5 @@
 -- Run files as the second file of a request: their limit, and the answers where one is refused.
-use Rattle.std.specs.Prelude.{◌≡◌, ℕ, ◌^◌, List, length, ◌++◌, codes, decimal}
+use Rattle.std.specs.Prelude.{ℕ, ◌^◌, List, length, ◌++◌, codes, decimal}
 use Rattle.model.specs.Programs.{Program}
 use Rattle.its_model.specs.Steps.{StepFault, OtherRule, AtomFails, PastRange}
 use Rattle.run_replay.specs.text_core.Readers.{Fault}
@@ -15,6 +15,7 @@ use Rattle.run_replay.specs.Spelled.{IsTextWithin}
 use Rattle.run_replay.specs.Texts.{runs_of}
 use Rattle.call_plans.specs.declared.status.Status.TheVariants.{RunRefused}
 use Rattle.call_plans.specs.Kinds.{TextKind}
+use Rattle.koat_cli.specs.Statements.{StatesOne}
 
 -- a run's text has at most 67,108,864 bytes
 abbrev pub run_limit : ℕ
@@ -40,10 +41,9 @@ abbrev pub run_refusal_text : Fault RunKind → List ℕ
 run_refusal_text x = run_refusal_line x.at (run_kind_text x.kind)
 
 -- the bytes have a fault as the text of a run of the program, and the text states the first
-pub record IsRunRefusedAs (program : Program) (bytes text : List ℕ) : Type 0 where
-  pub fault : Fault RunKind
-  pub first : IsFirst (reader (runs_of program)) (length bytes) (tokens bytes) fault
-  pub result_is : text ≡ run_refusal_text fault
+abbrev pub IsRunRefusedAs : Program → List ℕ → List ℕ → Type 0
+IsRunRefusedAs program bytes text =
+    StatesOne (IsFirst (reader (runs_of program)) (length bytes) (tokens bytes)) run_refusal_text text
 
 -- texts of runs of a program, within the limits
 abbrev pub runs : Program → TextKind Run

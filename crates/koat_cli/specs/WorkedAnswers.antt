@@ -1,5 +1,5 @@
--- Worked values of the answers to some words, and of the figures of a report as text.
-use Rattle.std.specs.Prelude.{◌≡◌, ◌≢◌, ℕ, List, [], ◌∷◌, Option, None, codes}
+-- Worked values of the answers to some words, of the figures of a report as text, and of what is found of a lasso.
+use Rattle.std.specs.Prelude.{◌≡◌, ◌≢◌, ℕ, ◌^◌, List, [], ◌∷◌, Option, None, codes}
 use Rattle.model.specs.Programs.{Program}
 use Rattle.model.specs.Bounds.{Constant}
 use Rattle.its_writer.specs.Generated.{entry_rule, counting_rule, generated}
@@ -7,10 +7,12 @@ use Rattle.its_writer.specs.Texts.{canonical_text}
 use Rattle.command_line.specs.Lines.{Words}
 use Rattle.outcome.specs.Reports.{Timed, Untimed, TimeLarge, Sized, Unsized, SizeLarge, SizeUntimed, Report}
 use Rattle.call_plans.specs.declared.status.Status.{Status}
-use Rattle.call_plans.specs.declared.status.Status.TheVariants.{Done, Unknown, Usage, ReadFault, No, RunRefused}
+use Rattle.call_plans.specs.declared.status.Status.TheVariants.{Done, Unknown, Usage, ReadFault, ProofRefused, No}
+use Rattle.call_plans.specs.declared.status.Status.TheVariants.{RunRefused, NotARun}
 use Rattle.call_plans.specs.Calls.{Seen}
 use Rattle.koat_cli.specs.Report.{usage_text}
 use Rattle.koat_cli.specs.Figures.{text_of_figures}
+use Rattle.koat_cli.specs.LassoTexts.{turn_text, open_text}
 use Rattle.koat_cli.specs.Answers.{Says}
 
 -- a program of two rules
@@ -31,6 +33,15 @@ pub record FiguresAreWorkedOut : Type 0 where
   pub figures : text_of_figures two_rules one_of_each 4
       ≡ codes "rules 2\ntimes 1 of 2\nsizes 1 of 3\ntotal: unknown\nlemmas 4\n"
 
+-- the text of a turn by two rules that costs 5, that of one by one rule that costs 2^127 or more, and those of turns
+-- that lead to another value at the second place, and to another symbol
+pub record LassoTextsAreWorkedOut : Type 0 where
+  pub turn : turn_text (record { rules = 1 ∷ 12 ∷ []; cost = 5 }) ≡ codes "endless\nrule 1\nrule 12\nturn cost 5\n"
+  pub great_cost : turn_text (record { rules = 3 ∷ []; cost = 2 ^ 127 })
+      ≡ codes "endless\nrule 3\nturn cost 2^127 or more\n"
+  pub other_value : open_text 2 ≡ codes "not a run: open at place 2\n"
+  pub other_symbol : open_text 0 ≡ codes "not a run: open at place 0\n"
+
 -- a call with these words, with this count of fetches before, that saw this of the shelf answers with this status and
 -- this text
 abbrev pub Answered : Words → Option ℕ → Seen → Status → List ℕ → Type 0
@@ -40,8 +51,9 @@ Answered words before seen status text =
 -- whatever a call sees of the shelf: `generate 0` is answered with `Done` and the program's text, where nothing was
 -- fetched, neither with `Unknown` nor with the usage text, and not where something was; `analyse p`, `facts p` and
 -- `prove --pivots=5 p` never with `Usage`, and the latter not with `No`; `check p q` neither with `Usage` nor with
--- `Unknown`, nor as a run is refused; `replay p -- -q` neither with `Usage` nor with `Unknown`; and `selfrun 0` never
--- with a fault of reading
+-- `Unknown`, nor as a run is refused; `replay p -- -q` neither with `Usage` nor with `Unknown`; `lasso p q` neither
+-- with `Usage` nor with `Unknown`, nor as a proof is refused; `lp p` neither with `Usage` nor as steps that are no run;
+-- and `selfrun 0` never with a fault of reading
 pub record AnswersAreWorkedOut : Type 0 where
   pub generate : (seen : Seen)
       → Answered (codes "generate" ∷ codes "0" ∷ []) seen.fetches_after seen Done (canonical_text (generated 0))
@@ -69,5 +81,15 @@ pub record AnswersAreWorkedOut : Type 0 where
       → ¬ (Answered (codes "replay" ∷ codes "p" ∷ codes "--" ∷ codes "-q" ∷ []) before seen Usage text)
   pub replay_known : (before : Option ℕ) (seen : Seen) (text : List ℕ)
       → ¬ (Answered (codes "replay" ∷ codes "p" ∷ codes "--" ∷ codes "-q" ∷ []) before seen Unknown text)
+  pub lasso : (before : Option ℕ) (seen : Seen) (text : List ℕ)
+      → ¬ (Answered (codes "lasso" ∷ codes "p" ∷ codes "q" ∷ []) before seen Usage text)
+  pub lasso_known : (before : Option ℕ) (seen : Seen) (text : List ℕ)
+      → ¬ (Answered (codes "lasso" ∷ codes "p" ∷ codes "q" ∷ []) before seen Unknown text)
+  pub lasso_no_proof : (before : Option ℕ) (seen : Seen) (text : List ℕ)
+      → ¬ (Answered (codes "lasso" ∷ codes "p" ∷ codes "q" ∷ []) before seen ProofRefused text)
+  pub lp : (before : Option ℕ) (seen : Seen) (text : List ℕ)
+      → ¬ (Answered (codes "lp" ∷ codes "p" ∷ []) before seen Usage text)
+  pub lp_no_run : (before : Option ℕ) (seen : Seen) (text : List ℕ)
+      → ¬ (Answered (codes "lp" ∷ codes "p" ∷ []) before seen NotARun text)
   pub selfrun : (before : Option ℕ) (seen : Seen) (text : List ℕ)
       → ¬ (Answered (codes "selfrun" ∷ codes "0" ∷ []) before seen ReadFault text)

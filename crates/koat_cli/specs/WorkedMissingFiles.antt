@@ -1,4 +1,5 @@
--- Worked values of the answers to an analysis, a replay and a check where a shelf lacks a file.
+-- Worked values of the answers to an analysis, a replay, a check, a lasso and a linear program where a shelf lacks a
+-- file.
 use Rattle.std.specs.Prelude.{◌≡◌, ℕ, List, [], ◌∷◌, Some, codes}
 use Rattle.std.specs.FinMap.{empty, insert}
 use Rattle.command_line.specs.Lines.{Word}
@@ -33,15 +34,27 @@ Replayed seen status text =
       shelf = seen;
     }) status text
 
--- and so is `check p q`
+-- so is `check p q`
 abbrev pub Checked : Seen → Status → List ℕ → Type 0
 Checked seen status text =
     Says (record { words = codes "check" ∷ codes "p" ∷ codes "q" ∷ []; fetches_before = Some 0; shelf = seen })
     status text
 
+-- so is `lasso p q`
+abbrev pub Turned : Seen → Status → List ℕ → Type 0
+Turned seen status text =
+    Says (record { words = codes "lasso" ∷ codes "p" ∷ codes "q" ∷ []; fetches_before = Some 0; shelf = seen })
+    status text
+
+-- and so is `lp p`
+abbrev pub Solved : Seen → Status → List ℕ → Type 0
+Solved seen status text =
+    Says (record { words = codes "lp" ∷ codes "p" ∷ []; fetches_before = Some 0; shelf = seen }) status text
+
 -- the program of `replay p -- -q` is `p`, and its run `-q`: where `p` is missing, the answer is a fault of reading and
 -- no other, though `-q` exists and is no run; and where `p` exists and is empty, it is a refusal of `p` and no other,
--- though `-q` is missing; the same for `check p q` and its proof `q`, and for `analyse p` alone
+-- though `-q` is missing; the same for `check p q` and its proof `q`, for `lasso p q` and its lasso `q`, and for
+-- `analyse p` alone; and the linear program of `lp p` is `p`
 pub record FilesAreReadInOrder : Type 0 where
   pub no_program : Replayed (holding (codes "-q")) ReadFault read_fault_text
   pub no_program_alone : (status : Status) (text : List ℕ) → Replayed (holding (codes "-q")) status text
@@ -61,3 +74,12 @@ pub record FilesAreReadInOrder : Type 0 where
   pub empty_analysed : Analysed (holding (codes "p")) ProgramRefused (codes "program refused at 0: MissingSection\n")
   pub empty_analysed_alone : (status : Status) (text : List ℕ) → Analysed (holding (codes "p")) status text
       → status ≡ ProgramRefused
+  pub no_turned : Turned (holding (codes "q")) ReadFault read_fault_text
+  pub no_turned_alone : (status : Status) (text : List ℕ) → Turned (holding (codes "q")) status text
+      → status ≡ ReadFault
+  pub no_lasso : Turned (holding (codes "p")) ProgramRefused (codes "program refused at 0: MissingSection\n")
+  pub no_lasso_alone : (status : Status) (text : List ℕ) → Turned (holding (codes "p")) status text
+      → status ≡ ProgramRefused
+  pub no_solved : Solved (holding (codes "q")) ReadFault read_fault_text
+  pub no_solved_alone : (status : Status) (text : List ℕ) → Solved (holding (codes "q")) status text
+      → status ≡ ReadFault

@@ -1,13 +1,15 @@
-//! Reads the text of a lasso's file for a program.
+//! Reads the text of a lasso's file for a program, and answers it.
 
-ghost use Rattle.std.specs.Prelude.{⊤};
+ghost use Rattle.its_model.specs.Valid.{IsValid};
 ghost use Rattle.its_model.specs.Views.{program_of};
 ghost use Rattle.lasso_check.specs.Lassos as plain;
 ghost use Rattle.lasso_check.specs.Views.{lasso_of};
+ghost use Rattle.koat_cli.specs.Commands.Lasso.{lasso_answers};
 ghost use Rattle.koat_cli.specs.LassoTexts.{lassos};
 
+use crate::lasso_answer::lasso_answer;
 use crate::run_refusal::run_refusal;
-use call_plans::{Read, Reader, Status};
+use call_plans::{FileCommand, Read, Reader, Status, StatusText};
 use its_model::Program;
 use lasso_check::{Lasso, read_lasso};
 use model::Memory;
@@ -29,7 +31,9 @@ impl<'a> Reader for Lassos<'a> {
 
     ghost plain = { lasso_of };
 
-    ghost ready = { λ _. ⊤ };
+    ghost ready = { λ reader. IsValid (program_of reader.program.now) };
+
+    ghost answers = { λ reader. lasso_answers (program_of reader.program.now) };
 
     fn limit(&self) -> u64 {
         67_108_864
@@ -48,5 +52,11 @@ impl<'a> Reader for Lassos<'a> {
             Ok(lasso) => Ok(Read::Thing(lasso)),
             Err(error) => Ok(Read::Refusal(run_refusal(alloc, &error)?)),
         }
+    }
+}
+
+impl<'a> FileCommand for Lassos<'a> {
+    fn answer(&self, alloc: Global, thing: &Lasso) -> Result<StatusText, Memory> {
+        lasso_answer(alloc, self.program, thing)
     }
 }

@@ -7,7 +7,7 @@ ghost use Rattle.koat_cli.specs.Exclusion.{AnswersExcludeEachOther};
 ghost use Rattle.koat_cli.specs.LassoLaws.{LassosLeaveTimesMissing};
 ghost use Rattle.koat_cli.specs.AnalysisTexts.{AnalysisTextsStateOneReport};
 ghost use Rattle.koat_cli.specs.WorkedEnds.{FaultsLeaveFirstBytes};
-ghost use Rattle.koat_cli.specs.WorkedAnswers.{FiguresAreWorkedOut, AnswersAreWorkedOut};
+ghost use Rattle.koat_cli.specs.WorkedAnswers.{FiguresAreWorkedOut, LassoTextsAreWorkedOut, AnswersAreWorkedOut};
 ghost use Rattle.koat_cli.specs.WorkedMissingFiles.{FilesAreReadInOrder};
 ghost use Rattle.koat_cli.specs.WorkedReplayTexts.{ReplaysAreTexts, TalliesAreBounded};
 
@@ -66,10 +66,11 @@ pub fn worked_ends_hold()
     ensures { FaultsLeaveFirstBytes }
 {}
 
-/// Worked values of the figures of a report as text, and of the answers to some words. The function has no code: its
-/// contract is these values.
+/// Worked values of the figures of a report as text, of the texts of what is found of a lasso, and of the answers to
+/// some words. The function has no code: its contract is these values.
 pub fn worked_answers_hold()
     ensures figures { FiguresAreWorkedOut }
+    ensures lassos { LassoTextsAreWorkedOut }
     ensures answers { AnswersAreWorkedOut }
 {}
 
@@ -80,8 +81,8 @@ pub fn worked_replay_texts_hold()
     ensures bounds { TalliesAreBounded }
 {}
 
-/// Worked values of the answers to an analysis, to a replay and to a check, where a shelf lacks a file: the first word
-/// is the program, and is read first. The function has no code but the law of replays: its contract is these values.
+/// Worked values of the answers to an analysis, a replay, a check, a lasso and a linear program, where a shelf lacks a
+/// file: the first word is the program, and is read first. The function has no code but the law of replays: its contract is these values.
 pub fn worked_missing_files_hold()
     ensures { FilesAreReadInOrder }
 {

@@ -14,7 +14,6 @@ mod lasso_answer;
 mod lasso_reader;
 mod law;
 mod lp_reader;
-mod lp_solving;
 mod preparation;
 mod program;
 mod program_reader;

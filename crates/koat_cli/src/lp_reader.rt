@@ -1,12 +1,13 @@
-//! Reads the text of a linear program's file.
+//! Reads the text of a linear program's file, and answers it.
 
 ghost use Rattle.std.specs.Prelude.{⊤};
 ghost use Rattle.lp_text.specs.Lps.{Lp};
 ghost use Rattle.lp_text.specs.Views.{lp_of};
+ghost use Rattle.koat_cli.specs.Commands.Lp.{lp_answers};
 ghost use Rattle.koat_cli.specs.LpTexts.{linear_programs};
 
-use call_plans::{Read, Reader, Status};
-use lp_answer::refusal_text;
+use call_plans::{FileCommand, Read, Reader, Status, StatusText};
+use lp_answer::{LpAnswer, answer_lp, refusal_text};
 use lp_text::{WrittenLp, read_written};
 use model::Memory;
 use std::alloc::Global;
@@ -26,6 +27,8 @@ impl Reader for LinearPrograms {
 
     ghost ready = { λ _. ⊤ };
 
+    ghost answers = { λ _. lp_answers };
+
     fn limit(&self) -> u64 {
         4_194_304
     }
@@ -42,6 +45,21 @@ impl Reader for LinearPrograms {
         match read_written(alloc, bytes) {
             Ok(written) => Ok(Read::Thing(written)),
             Err(error) => Ok(Read::Refusal(refusal_text(alloc, &error)?)),
+        }
+    }
+}
+
+impl FileCommand for LinearPrograms {
+    fn answer(&self, alloc: Global, thing: &WrittenLp) -> Result<StatusText, Memory> {
+        match answer_lp(alloc, thing)? {
+            LpAnswer::Ended(text) => Ok(StatusText {
+                status: Status::Done,
+                text,
+            }),
+            LpAnswer::Stopped(text) => Ok(StatusText {
+                status: Status::Unknown,
+                text,
+            }),
         }
     }
 }

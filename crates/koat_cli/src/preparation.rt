@@ -3,7 +3,7 @@
 ghost use Rattle.std.specs.Prelude.{◌≡◌, ◌≤◌, ◌<◌, ◌^◌, length, map, string_bytes, IfOk};
 ghost use Rattle.its_model.specs.Valid.{IsValid};
 ghost use Rattle.its_model.specs.Views.{program_of};
-ghost use Rattle.command_line.specs.Requests.{OfProgram, OfPair};
+ghost use Rattle.command_line.specs.Requests.{OfProgram, OfPair, OfFile};
 ghost use Rattle.call_plans.specs.Calls.{seen_of};
 ghost use Rattle.call_plans.specs.Plans.{OnPlan, Tells};
 ghost use Rattle.koat_cli.specs.Answers.{FetchesNothing, Says};
@@ -12,16 +12,14 @@ ghost use Rattle.koat_cli.specs.RequestPlans.{plan_of, program_answers, second_p
 
 use crate::analysis::{report, report_with_facts};
 use crate::generated::{generated, summary};
-use crate::lasso_answer::lasso_answer;
 use crate::lasso_reader::Lassos;
-use crate::lp_solving::on_file;
+use crate::lp_reader::LinearPrograms;
 use crate::program_reader::Programs;
 use crate::proof_reader::Proofs;
-use crate::proving::{checked, proved};
-use crate::replaying::replayed;
+use crate::proving::proved;
 use crate::run_reader::Runs;
-use call_plans::{Got, Status, StatusText, status_with_text, take};
-use command_line::{NumberTask, PairTask, ProgramTask, Request, asks, usage};
+use call_plans::{Got, Status, StatusText, answer_file, status_with_text, take};
+use command_line::{FileTask, NumberTask, PairTask, ProgramTask, Request, asks, usage};
 use its_model::Program;
 use model::Memory;
 use outside_io::Shelf;
@@ -132,73 +130,28 @@ fn on_second<F: Shelf>(
         (second_plan task (program_of program.now) (string_bytes second.now)) said.status said.text.items) }
 {
     match task {
-        PairTask::Check => check_on(alloc, program, second, shelf),
-        PairTask::Replay => replay_on(alloc, program, second, shelf),
-        PairTask::Lasso => lasso_on(alloc, program, second, shelf),
+        PairTask::Check => answer_file(alloc, &Proofs { program }, second, shelf),
+        PairTask::Replay => answer_file(alloc, &Runs { program }, second, shelf),
+        PairTask::Lasso => answer_file(alloc, &Lassos { program }, second, shelf),
     }
 }
 
-// The verdict on the proof in a file for a program, or the answer where the file gives none.
-fn check_on<F: Shelf>(
+// What is answered of a file that isn't a program's.
+fn on_file<F: Shelf>(
     alloc: Global,
-    program: &Program,
+    task: FileTask,
     file: &String,
     shelf: &mut F,
 ) -> Result<StatusText, Memory>
-    requires valid { IsValid (program_of program.now) }
-    requires few { length (program_of program.now).symbols < 2 ^ 32 }
     ensures keeps_files { F.held shelf.new ≡ F.held shelf.old }
     ensures keeps_count { F.faults shelf.old ≤ F.faults shelf.new }
     ensures fault { IfOk result (λ said.
         F.faults shelf.old < F.faults shelf.new → said.status ≡ Status.ReadFault) }
     ensures says { IfOk result (λ said. OnPlan (seen_of F.Shelf shelf.old shelf.new) (F.fetches shelf.old)
-        (second_plan PairTask.Check (program_of program.now) (string_bytes file.now)) said.status said.text.items) }
+        (plan_of (OfFile task (string_bytes file.now))) said.status said.text.items) }
 {
-    match take(alloc, &Proofs { program }, file, shelf)? {
-        Got::Answer(said) => Ok(said),
-        Got::Thing(proof) => checked(alloc, program, &proof),
-    }
-}
-
-// The run in a file beside the bounds of a program, or the answer where the file gives none.
-fn replay_on<F: Shelf>(
-    alloc: Global,
-    program: &Program,
-    file: &String,
-    shelf: &mut F,
-) -> Result<StatusText, Memory>
-    requires { IsValid (program_of program.now) }
-    ensures keeps_files { F.held shelf.new ≡ F.held shelf.old }
-    ensures keeps_count { F.faults shelf.old ≤ F.faults shelf.new }
-    ensures fault { IfOk result (λ said.
-        F.faults shelf.old < F.faults shelf.new → said.status ≡ Status.ReadFault) }
-    ensures says { IfOk result (λ said. OnPlan (seen_of F.Shelf shelf.old shelf.new) (F.fetches shelf.old)
-        (second_plan PairTask.Replay (program_of program.now) (string_bytes file.now)) said.status said.text.items) }
-{
-    match take(alloc, &Runs { program }, file, shelf)? {
-        Got::Answer(said) => Ok(said),
-        Got::Thing(run) => replayed(alloc, program, &run),
-    }
-}
-
-// Whether the turn of the lasso in a file leads back, or the answer where the file gives none.
-fn lasso_on<F: Shelf>(
-    alloc: Global,
-    program: &Program,
-    file: &String,
-    shelf: &mut F,
-) -> Result<StatusText, Memory>
-    requires { IsValid (program_of program.now) }
-    ensures keeps_files { F.held shelf.new ≡ F.held shelf.old }
-    ensures keeps_count { F.faults shelf.old ≤ F.faults shelf.new }
-    ensures fault { IfOk result (λ said.
-        F.faults shelf.old < F.faults shelf.new → said.status ≡ Status.ReadFault) }
-    ensures says { IfOk result (λ said. OnPlan (seen_of F.Shelf shelf.old shelf.new) (F.fetches shelf.old)
-        (second_plan PairTask.Lasso (program_of program.now) (string_bytes file.now)) said.status said.text.items) }
-{
-    match take(alloc, &Lassos { program }, file, shelf)? {
-        Got::Answer(said) => Ok(said),
-        Got::Thing(lasso) => lasso_answer(alloc, program, &lasso),
+    match task {
+        FileTask::Lp => answer_file(alloc, &LinearPrograms, file, shelf),
     }
 }
 

@@ -1,13 +1,15 @@
-//! Reads the text of a proof's file for a program.
+//! Reads the text of a proof's file for a program, and answers it.
 
 ghost use Rattle.std.specs.Prelude.{◌<◌, ◌^◌, length};
 ghost use Rattle.its_model.specs.Valid.{IsValid};
 ghost use Rattle.its_model.specs.Views.{program_of};
 ghost use Rattle.cert_types.specs.AnswerViews.{file_of};
 ghost use Rattle.cert_types.specs.cert_rules.Gaps as plain;
+ghost use Rattle.koat_cli.specs.Commands.Check.{check_answers};
 ghost use Rattle.koat_cli.specs.ProofTexts.{proofs};
 
-use call_plans::{Read, Reader, Status};
+use crate::proving::checked;
+use call_plans::{FileCommand, Read, Reader, Status, StatusText};
 use cert_text::read;
 use cert_types::ProofFile;
 use check_text::refusal_text;
@@ -34,6 +36,8 @@ impl<'a> Reader for Proofs<'a> {
     ghost ready = { λ reader. IsValid (program_of reader.program.now)
         × (length (program_of reader.program.now).symbols < 2 ^ 32) };
 
+    ghost answers = { λ reader. check_answers (program_of reader.program.now) };
+
     fn limit(&self) -> u64 {
         67_108_864
     }
@@ -51,5 +55,11 @@ impl<'a> Reader for Proofs<'a> {
             Ok(proof) => Ok(Read::Thing(proof)),
             Err(error) => Ok(Read::Refusal(refusal_text(alloc, &error)?)),
         }
+    }
+}
+
+impl<'a> FileCommand for Proofs<'a> {
+    fn answer(&self, alloc: Global, thing: &ProofFile) -> Result<StatusText, Memory> {
+        checked(alloc, self.program, thing)
     }
 }

@@ -1,13 +1,15 @@
-//! Reads the text of a run's file for a program.
+//! Reads the text of a run's file for a program, and answers it.
 
-ghost use Rattle.std.specs.Prelude.{⊤};
+ghost use Rattle.its_model.specs.Valid.{IsValid};
 ghost use Rattle.its_model.specs.Views.{program_of};
 ghost use Rattle.run_replay.specs.Runs as plain;
 ghost use Rattle.run_replay.specs.Views.{run_of};
+ghost use Rattle.koat_cli.specs.Commands.Replay.{replay_answers};
 ghost use Rattle.koat_cli.specs.RunTexts.{runs};
 
+use crate::replaying::replayed;
 use crate::run_refusal::run_refusal;
-use call_plans::{Read, Reader, Status};
+use call_plans::{FileCommand, Read, Reader, Status, StatusText};
 use its_model::Program;
 use model::Memory;
 use run_replay::{RunFile, read_run};
@@ -29,7 +31,9 @@ impl<'a> Reader for Runs<'a> {
 
     ghost plain = { run_of };
 
-    ghost ready = { λ _. ⊤ };
+    ghost ready = { λ reader. IsValid (program_of reader.program.now) };
+
+    ghost answers = { λ reader. replay_answers (program_of reader.program.now) };
 
     fn limit(&self) -> u64 {
         67_108_864
@@ -48,5 +52,11 @@ impl<'a> Reader for Runs<'a> {
             Ok(run) => Ok(Read::Thing(run)),
             Err(error) => Ok(Read::Refusal(run_refusal(alloc, &error)?)),
         }
+    }
+}
+
+impl<'a> FileCommand for Runs<'a> {
+    fn answer(&self, alloc: Global, thing: &RunFile) -> Result<StatusText, Memory> {
+        replayed(alloc, self.program, thing)
     }
 }

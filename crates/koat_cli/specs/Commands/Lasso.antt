@@ -13,6 +13,7 @@ use Rattle.call_plans.specs.declared.status.Status.TheVariants.{Done, NotARun}
 use Rattle.call_plans.specs.Plans.{Cases, End, Case}
 use Rattle.koat_cli.specs.LassoTexts.{turn_text, open_text}
 use Rattle.koat_cli.specs.RunTexts.{bad_step_text}
+use Rattle.koat_cli.specs.Statements.{StatesOne}
 
 -- the text has the rules of the turn and what it costs; each of these rules occurs without end, so no bound on its use
 -- holds; and where the turn costs something, no bound on what all steps cost
@@ -29,20 +30,17 @@ abbrev pub HasBadStepOf : Program → Lasso → Type 0
 HasBadStepOf program lasso = (bad : BadStep) × IsFirstBadStep program lasso.start (both_back lasso) bad
 
 -- the text states it
-pub record StatesBadStepOf (program : Program) (lasso : Lasso) (text : List ℕ) : Type 0 where
-  pub bad : BadStep
-  pub first : IsFirstBadStep program lasso.start (both_back lasso) bad
-  pub result_is : text ≡ bad_step_text bad
+abbrev pub StatesBadStepOf : Program → Lasso → List ℕ → Type 0
+StatesBadStepOf program lasso text =
+    StatesOne (IsFirstBadStep program lasso.start (both_back lasso)) bad_step_text text
 
 -- all steps are good, and the turn leads elsewhere
 abbrev pub IsOpen : Program → Lasso → Type 0
 IsOpen program lasso = (place : ℕ) × IsOpenAt program lasso place
 
 -- the text states the place
-pub record StatesOpen (program : Program) (lasso : Lasso) (text : List ℕ) : Type 0 where
-  pub place : ℕ
-  pub first : IsOpenAt program lasso place
-  pub result_is : text ≡ open_text place
+abbrev pub StatesOpen : Program → Lasso → List ℕ → Type 0
+StatesOpen program lasso text = StatesOne (IsOpenAt program lasso) open_text text
 
 -- `Done` where the steps are a run within 128 bits and the turn leads back, with its rules and its cost; and `NotARun`
 -- where a step is bad, with the first bad one, and where the turn leads elsewhere, with the place

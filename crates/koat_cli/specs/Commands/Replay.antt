@@ -13,6 +13,7 @@ use Rattle.call_plans.specs.Plans.{Cases, End, Case}
 use Rattle.koat_cli.specs.Found.{IsFound}
 use Rattle.koat_cli.specs.ReplayTexts.{text_of_replay}
 use Rattle.koat_cli.specs.RunTexts.{bad_step_text}
+use Rattle.koat_cli.specs.Statements.{StatesOne}
 use Rattle.koat_cli.specs.WithinBounds.{IsWithinBounds}
 
 -- the steps are a run of the program, and no value exceeds 128 bits on the way
@@ -38,10 +39,8 @@ pub record StatesTally (program : Program) (run : Run) (text : List ℕ) : Type 
       ≡ text_of_replay (sizes_of_start run.start) (tally_along program run.start (last_first run)) report
 
 -- the text states the first bad step
-pub record StatesBadStep (program : Program) (run : Run) (text : List ℕ) : Type 0 where
-  pub bad : BadStep
-  pub first : IsFirstBadStep program run.start (last_first run) bad
-  pub result_is : text ≡ bad_step_text bad
+abbrev pub StatesBadStep : Program → Run → List ℕ → Type 0
+StatesBadStep program run text = StatesOne (IsFirstBadStep program run.start (last_first run)) bad_step_text text
 
 -- `Done` where the steps are a run within 128 bits, with the tally beside the bounds; and `NotARun` where one of them
 -- is bad, with the first bad one

@@ -1,4 +1,4 @@
-use Rattle.std.proofs.Common.{◌≡◌, true, false, arith}
+use Rattle.std.proofs.Common.{arith}
 use Rattle.std.proofs.lemmas.List.{length-map}
 use Rattle.its_model.specs.Views.{program_of, step_of}
 use Rattle.lasso_check.specs.CheckAnswers.{turn_of}
@@ -19,7 +19,4 @@ pub returns-in_ok-lasso_fault-in-Err : goal.returns-in_ok-lasso_fault-in-Err
 returns-in_ok-lasso_fault-in-Err c =
     fault_told (program_of c.args.program.now) (lasso_of c.args.lasso.now) c.in-Err.error
     c.in_ok-lasso_fault-in-Err.field-0.items c.in-Err.ensures.answer c.in_ok-lasso_fault-in-Err.ensures.result_is
-    (λ none. apart (c.in_ok-lasso_fault-in-Err.ensures.memory none))
-  where
-    apart : false ≡ true → ⊥
-    apart e = cc
+    c.in_ok-lasso_fault-in-Err.ensures.memory

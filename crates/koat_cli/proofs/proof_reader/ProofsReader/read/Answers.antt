@@ -1,13 +1,9 @@
-use Rattle.std.proofs.Common.{◌≡◌, true, false}
-use Rattle.its_model.specs.Views.{program_of}
-use Rattle.koat_cli.proofs.ProofRefusals.{proof_refused_first}
+use Rattle.cert_text.specs.Told.{refusal_in}
+use Rattle.check_text.specs.Texts.{proof_refusal_text}
+use Rattle.koat_cli.proofs.Statements.{found_stated}
 use Rattle.koat_cli.proofs.proof_reader.ProofsReader.read.Goals as goal
 
 pub returns-in_ok-refusal_text-in-Err : goal.returns-in_ok-refusal_text-in-Err
 returns-in_ok-refusal_text-in-Err c =
-    proof_refused_first (program_of c.args.self.now.program.now) c.args.bytes.now c.in-Err.error
-    c.in_ok-refusal_text-in-Err.field-0.items c.in-Err.ensures.answer c.in_ok-refusal_text-in-Err.ensures.result_is
-    (λ none. apart (c.in_ok-refusal_text-in-Err.ensures.memory none))
-  where
-    apart : false ≡ true → ⊥
-    apart e = cc
+    found_stated _ proof_refusal_text (refusal_in c.in-Err.error) c.in_ok-refusal_text-in-Err.field-0.items
+    c.in-Err.ensures.answer c.in_ok-refusal_text-in-Err.ensures.result_is c.in_ok-refusal_text-in-Err.ensures.memory

@@ -1,13 +1,9 @@
-use Rattle.std.proofs.Common.{◌≡◌, true, false}
-use Rattle.its_model.specs.Views.{program_of}
-use Rattle.koat_cli.proofs.RunRefusals.{run_refused_first}
+use Rattle.run_replay.specs.Views.{refusal_in}
+use Rattle.koat_cli.specs.RunTexts.{run_refusal_text}
+use Rattle.koat_cli.proofs.Statements.{found_stated}
 use Rattle.koat_cli.proofs.run_reader.RunsReader.read.Goals as goal
 
 pub returns-in_ok-run_refusal-in-Err : goal.returns-in_ok-run_refusal-in-Err
 returns-in_ok-run_refusal-in-Err c =
-    run_refused_first (program_of c.args.self.now.program.now) c.args.bytes.now c.in-Err.error
-    c.in_ok-run_refusal-in-Err.field-0.items c.in-Err.ensures.answer c.in_ok-run_refusal-in-Err.ensures.result_is
-    (λ none. apart (c.in_ok-run_refusal-in-Err.ensures.memory none))
-  where
-    apart : false ≡ true → ⊥
-    apart e = cc
+    found_stated _ run_refusal_text (refusal_in c.in-Err.error) c.in_ok-run_refusal-in-Err.field-0.items
+    c.in-Err.ensures.answer c.in_ok-run_refusal-in-Err.ensures.result_is c.in_ok-run_refusal-in-Err.ensures.memory

@@ -1,0 +1,54 @@
+//! Reads a file and answers what its text stands for.
+
+ghost use Rattle.std.specs.Prelude.{◌≡◌, ◌≤◌, ◌<◌, List, ℕ, IfOk, string_bytes};
+ghost use Rattle.call_plans.specs.Calls.{seen_of};
+ghost use Rattle.call_plans.specs.Plans.{Answers, Reads, Tells, OnPlan};
+
+use crate::reader::Reader;
+use crate::status::Status;
+use crate::status_text::StatusText;
+use crate::taking::{Got, take};
+use model::Memory;
+use outside_io::Shelf;
+use std::alloc::Global;
+
+/// A reader of a command that answers by its table what the text of the file stands for.
+pub trait FileCommand: Reader {
+    /// What is answered of a thing that some bytes stand for.
+    ///
+    /// # Errors
+    ///
+    /// `Memory` where an allocation fails.
+    fn answer(&self, alloc: Global, thing: &Self::Thing) -> Result<StatusText, Memory>
+        requires ready { Self.ready self.now }
+        requires read { (bytes : List ℕ) × (Self.kind self.now).StandsFor bytes (Self.plain thing.now) }
+        ensures { IfOk result (λ said.
+            Tells (Self.answers self.now (Self.plain thing.now)) said.status said.text.items) };
+}
+
+/// Fetches the file of a command, once, and answers what its text stands for, or that the file gives no text of the
+/// command's kind. The shelf's contents don't change.
+///
+/// # Errors
+///
+/// `Memory` where an allocation fails.
+pub fn answer_file<C: FileCommand, F: Shelf>(
+    alloc: Global,
+    command: &C,
+    file: &String,
+    shelf: &mut F,
+) -> Result<StatusText, Memory>
+    requires { C.ready command.now }
+    ensures keeps_files { F.held shelf.new ≡ F.held shelf.old }
+    ensures keeps_count { F.faults shelf.old ≤ F.faults shelf.new }
+    ensures fault { IfOk result (λ said.
+        F.faults shelf.old < F.faults shelf.new → said.status ≡ Status.ReadFault) }
+    ensures says { IfOk result (λ said. OnPlan (seen_of F.Shelf shelf.old shelf.new) (F.fetches shelf.old)
+        (Reads (C.kind command.now) (string_bytes file.now) (λ thing. Answers (C.answers command.now thing)))
+        said.status said.text.items) }
+{
+    match take(alloc, command, file, shelf)? {
+        Got::Answer(said) => Ok(said),
+        Got::Thing(thing) => command.answer(alloc, &thing),
+    }
+}
