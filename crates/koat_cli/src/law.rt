@@ -82,7 +82,8 @@ pub fn worked_replay_texts_hold()
 {}
 
 /// Worked values of the answers to an analysis, a replay, a check, a lasso and a linear program, where a shelf lacks a
-/// file: the first word is the program, and is read first. The function has no code but the law of replays: its contract is these values.
+/// file: the first word is the program, and is read first. The function has no code but the law of replays: its
+/// contract is these values.
 pub fn worked_missing_files_hold()
     ensures { FilesAreReadInOrder }
 {
