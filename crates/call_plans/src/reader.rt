@@ -2,7 +2,7 @@
 
 ghost use Rattle.std.specs.Prelude.{◌≡◌, ℕ, List, IfOk};
 ghost use Rattle.call_plans.specs.Kinds.{TextKind};
-ghost use Rattle.call_plans.specs.Plans.{Cases, End};
+ghost use Rattle.call_plans.specs.Plans.{Cases};
 ghost use Rattle.call_plans.specs.Steps.{IsRead};
 
 use crate::status::Status;
@@ -35,7 +35,7 @@ pub trait Reader {
 
     ghost ready: { Self → Type 0 };
 
-    ghost answers: { Self → Plain → Cases } = { λ _ _. End };
+    ghost answers: { Self → Plain → Cases };
 
     /// The greatest number of bytes of a text.
     fn limit(&self) -> u64

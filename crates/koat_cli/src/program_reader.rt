@@ -3,6 +3,7 @@
 ghost use Rattle.std.specs.Prelude.{⊤};
 ghost use Rattle.its_model.specs.Views.{program_of};
 ghost use Rattle.model.specs.Programs as plain;
+ghost use Rattle.call_plans.specs.Plans.{End};
 ghost use Rattle.koat_cli.specs.ProgramTexts.{programs};
 
 use crate::refusal::refusal;
@@ -26,6 +27,8 @@ impl Reader for Programs {
     ghost plain = { program_of };
 
     ghost ready = { λ _. ⊤ };
+
+    ghost answers = { λ _ _. End };
 
     fn limit(&self) -> u64 {
         4_194_304
