@@ -27,7 +27,7 @@ use Rattle.size_nodes.specs.Members.{IsMemberOfProgram, AreMembersOfProgram}
 use Rattle.time_bounds.specs.Candidates.{IsAccepted}
 use Rattle.time_bounds.proofs.RowLaws.{RowsAt, rows_at}
 
--- both arms that are found of a place of a rule are accepted
+-- both side bounds that are found for a place of a rule are accepted
 pub accepted : (p : Program) (prepared_rules : List RuleRows) (k pivots : ℕ) (m : RuleRows) (result_variable : ResultVariable) (e : GuardFeasibility) (l : LocalBound)
     → IsValid p → AreRowsOf prepared_rules p → k < length prepared_rules → m ≡ get_or prepared_rules k m → result_variable.rule ≡ suc k → 1 ≤ result_variable.place
     → result_variable.place ≤ length m.new_values.items → IsLocal (prepared_of m) result_variable pivots e (HasBound l) → IsAccepted p (record { result_variable = result_variable; local = l })

@@ -58,7 +58,7 @@ module _ {F T : Type 0} (means : shelf.Ghosts F) (before middle after : F) (kind
       (λ (a : StatusText). OnPlan (seen_of means before after) (means.fetches before) (Reads kind file next) a.status a.text.items)
       (λ a. behind a.status a.text.items held steady counted last gives) on
 
--- what a table tells is answered by the plan that answers by it, where nothing is fetched
+-- if nothing is fetched, a plan answers by its table
 pub told_ok : {E : Type 0} (seen : Seen) (count : Option ℕ) (cases : Cases) (said : Result StatusText E)
     → seen.fetches_after ≡ count → IfOk said (λ a. Tells cases a.status a.text.items)
     → IfOk said (λ a. OnPlan seen count (Answers cases) a.status a.text.items)

@@ -1,4 +1,4 @@
--- When nothing stands against texts of linear programs, what they come to, and so which linear programs are answered.
+-- When texts of linear programs have no fault, the states that they lead to, and so which linear programs are answered.
 use Rattle.std.proofs.Common.{◌≡◌, ℕ, ◌+◌, ◌<◌, ◌≤◌, Bool, true, false, None, List, [], ◌∷◌, ◌++◌, length, refl, ap, sym}
 use Rattle.std.proofs.Common.{subst, ◌∙◌, arith, append_assoc, append-nil, length-append}
 use Rattle.std.specs.Prelude.{ℤ, pos, negsuc, unsigned_abs, nat_le, nat_lt, codes}
@@ -25,7 +25,7 @@ use Rattle.lp_text.proofs.LpParts.{lp_derived, lp_spells}
 abbrev at : State → Spelling State
 at s = record { own = s; numeral = fresh; within = Words; values = [] }
 
--- nothing stands against parts from a state on, and what they come to
+-- from this state the parts have no fault; and the state that they lead to
 abbrev StandsFrom : State → List (Part ℕ Numbered) → Type 0
 StandsFrom s xs = Stand (fold_of lp_bytes) (numbers_of lp_bytes) (at s) xs
 
@@ -233,7 +233,7 @@ minus_head : (z : ℤ) → MinusStands lp_bytes empty z
 minus_head (pos k) = tt
 minus_head (negsuc k) = refl
 
--- a linear program stands exactly where it is within the limits
+-- the text of a linear program has no fault exactly if the program is within the limits
 lp_stands : (p : Lp) → IsWithin p → StandsFrom empty (lp_parts 0 p)
 lp_stands p h =
     let columns : unsigned_abs p.columns ≡ h.columns = ap unsigned_abs h.counted in

@@ -46,7 +46,7 @@ determined = record {
   of_missing = refl;
 }
 
--- the lines of costs, and what tells them apart
+-- the lines of costs, and texts that distinguish reports
 cost_texts : CostTexts
 unfolding text_of_report digits
 cost_texts = record {

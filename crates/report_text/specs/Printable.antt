@@ -71,7 +71,7 @@ IsPrintableCause (causes.Budget pivots) = IsShort pivots
 IsPrintableCause (causes.Wide entries) = IsShort entries
 IsPrintableCause causes.Scale = ⊤
 
--- the numbers of a trip fit
+-- the numbers of a limit hit fit
 pub record IsPrintableLimitHit (t : LimitHit) : Type 0 where
   pub question : IsPrintableQuestion t.question
   pub cause : IsPrintableCause t.cause
