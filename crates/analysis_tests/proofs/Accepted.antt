@@ -62,7 +62,7 @@ given_alone p g prepared_rules ms m valid graph rows all some is =
     let k = subst (IsAccepted p) first (all 0 (member_of m) (omega (arith, some, length-map ms member_of))) in
     record { valid = valid; graph = graph; rows = rows; shape = k.shape; up = k.up; low = k.low }
 
--- and that for the size of the members of a loop
+-- what the search for the sizes of the members of a loop is given
 pub given_loop : (p : Program) (g : Graph) (prepared_rules : List RuleRows) (ms : List code.Member) → IsValid p → IsGraphOf g p → AreRowsOf prepared_rules p
     → All (IsAccepted p) (map member_of ms) → 0 < length ms → AreAscending (map member_of ms) → AreMembersOfProgram p g prepared_rules (map member_of ms)
 given_loop p g prepared_rules ms valid graph rows all some ascending = record {

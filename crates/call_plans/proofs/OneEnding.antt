@@ -99,7 +99,7 @@ pub last_unique : (seen : Seen) (count : Option ℕ) (plan : Plan) (s t : Status
 last_unique seen count (Answers cases) s t x y last lawful a b = told_unique cases s t x y lawful a.1 b.1
 last_unique seen count (Reads kind file next) s t x y last lawful a b = absurd last
 
--- and a call ends with a status exactly if it is that of the answer
+-- if no file is read, a call ends with a status exactly if it is that of the answer
 pub last_exactly : (seen : Seen) (files : Files) (count : Option ℕ) (plan : Plan) (s : Status) (x : List ℕ) → IsLast plan
     → IsLawful plan → OnPlan seen count plan s x → (t : Status) → (s ≡ t) ↔ EndsOn files plan t
 last_exactly seen files count (Answers cases) s x last lawful on t =

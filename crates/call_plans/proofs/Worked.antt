@@ -129,7 +129,7 @@ some = Of 2 (record {
   stands = (codes "op", (refl, refl));
 }) (refl, inr (inl (refl, (omega arith, refl))))
 
--- and with one answer
+-- each file has one answer
 one : (files : Files) (taken : ℕ) (s t : Status) (x y : List ℕ) → Said files taken s x → Said files taken t y
     → (s ≡ t) × (x ≡ y)
 one files taken s t x y a b =

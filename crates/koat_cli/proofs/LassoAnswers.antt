@@ -50,7 +50,7 @@ no_first_fault p bytes l x h first =
     (answer_is (reader (lassos_of p)) (reader_laws (lassos_of p) (lassos_lawful p)) (length bytes) (tokens bytes)) in
     right.faultless x first.is
 
--- and other bytes have one at most
+-- bytes that are no lasso file have at most one first fault
 one_first_fault : (p : Program) (bytes : List ℕ) (x y : Fault RunKind)
     → IsFirst (reader (lassos_of p)) (length bytes) (tokens bytes) x
     → IsFirst (reader (lassos_of p)) (length bytes) (tokens bytes) y → x ≡ y

@@ -76,7 +76,7 @@ module _ (laws : Determined) where
       report_rows (IsAnalysisWithFacts p n) (StatesFacts p n) (facts_report_unique laws p n)
       (λ r x h. record { facts = h.facts; kept = h.found.kept; found = h.found.found }) (facts_text_unique laws p n)
 
-  -- and of a number
+  -- the answers about a number are rows
   number_rows : (task : NumberTask) (n : ℕ) → AreRows (number_answers task n)
   number_rows Generate n =
       (record { one = λ x y a b. a.result_is ∙ sym b.result_is; comes = λ x a. tt; alone = λ s h never. never }, tt)

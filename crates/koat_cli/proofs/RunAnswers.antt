@@ -37,7 +37,7 @@ no_first_fault p bytes r x h first =
     (answer_is (reader (runs_of p)) (reader_laws (runs_of p) (runs_lawful p)) (length bytes) (tokens bytes)) in
     right.faultless x first.is
 
--- and other bytes have one at most
+-- bytes that are no run file have at most one first fault
 pub one_first_fault : (p : Program) (bytes : List ℕ) (x y : Fault RunKind)
     → IsFirst (reader (runs_of p)) (length bytes) (tokens bytes) x
     → IsFirst (reader (runs_of p)) (length bytes) (tokens bytes) y → x ≡ y

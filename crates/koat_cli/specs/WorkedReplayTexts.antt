@@ -43,7 +43,7 @@ paying = record {
 abbrev pub silent_on_cost : Report
 silent_on_cost = record paying { costs = None ∷ Some (Uncosted (SizeLarge 9)) ∷ []; total = None }
 
--- and one of the loop where a round costs nothing
+-- the report of the loop in which a round costs nothing
 abbrev pub free : Report
 free = record paying { costs = None ∷ Some (Costed (Constant 0)) ∷ []; total = Some (Constant 1) }
 

@@ -39,7 +39,7 @@ less_room n k l = grind (arith, nat_tests)
 room_less : (n k : ℕ) → nat_le n k ≡ false → k < n
 room_less n k h = grind (arith, nat_tests)
 
--- and none are lacking exactly where that test fails
+-- the test for lacking numbers fails exactly if none are lacking
 not_lacking : (n k : ℕ) → n ≤ k → nat_lt k n ≡ false
 not_lacking n k l = grind (arith, nat_tests)
 
@@ -280,7 +280,7 @@ stand_lp p h =
       few_rows = (let l = rows.1 in omega (arith, l));
     }
 
--- and comes to itself
+-- reading the text of a linear program ends with this program
 lp_comes : (p : Lp) → (comes empty (lp_parts 0 p)).own.lp ≡ p
 lp_comes p =
     ap (λ (s : Spelling State). s.own.lp)
@@ -297,7 +297,7 @@ stands_written bytes p e =
     let same : w.0 ≡ p = sym (lp_comes w.0) ∙ w.3 in
     record { text = ap text_of (sym same) ∙ (sym (lp_spells w.0) ∙ w.1); within = subst IsWithin same (stand_lp w.0 w.2) }
 
--- and the other way round
+-- bytes that are the text of a linear program within the limits have no fault
 pub written_stands : (bytes : List ℕ) (p : Lp) → IsTextWithin bytes p
     → answer (reader lps) (length bytes) (tokens bytes) ≡ Stands p
 written_stands bytes p h =

@@ -35,7 +35,7 @@ ended_large = determined_before large_determined (codes "\n") Any (λ u s. tt)
 abbrev time_kind : List ℕ → ℕ
 time_kind w = if get_or w 0 0 == 110 then 0 else if (get_or w 0 0 == 108) && (get_or w 1 0 == 97) then 2 else 1
 
--- the same of the reason
+-- the kind of a reason why a time is missing, of the reason itself
 abbrev kind_of_time : NoTime → ℕ
 kind_of_time (NoFunction g) = 0
 kind_of_time (TimeTripped t) = 1
@@ -51,7 +51,7 @@ size_kind w =
     else if (get_or w 0 0 == 108) && (get_or w 2 0 == 111) then 0
     else 1
 
--- the same of the reason
+-- the kind of a reason why a size is missing, of the reason itself
 abbrev kind_of_size : NoSize → ℕ
 kind_of_size (SizeUnbounded side ray kept) = 0
 kind_of_size (SizeTripped t) = 1

@@ -101,7 +101,7 @@ cost_texts = record {
   left_out = λ h. (let no = h.costs in cc);
 }
 
--- and what they don't
+-- reports that texts don't distinguish
 untold : TextsDontTell
 unfolding text_of_report digits
 untold = record {

@@ -76,7 +76,7 @@ pub record IsPrintableLimitHit (t : LimitHit) : Type 0 where
   pub question : IsPrintableQuestion t.question
   pub cause : IsPrintableCause t.cause
 
--- and those of a rule and a place
+-- the numbers of a rule and a place fit
 pub record IsPrintableResultVariable (s : ResultVariable) : Type 0 where
   pub rule : IsShort s.rule
   pub place : IsShort s.place
