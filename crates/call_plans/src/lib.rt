@@ -1,8 +1,8 @@
 //! Plans of calls: which files a call reads, in which order and of which kinds, and the table by which it answers.
 //!
 //! Builds on `model` and `outside_io`. A command is one line of a table of plans. How a call ends, what its status
-//! means and when it comes are defined and proved here once for every plan: a file is lacking, too long, refused, or has
-//! a meaning, and only then the next file is fetched. [`take`] fetches a file and reads it by a [`Reader`].
+//! means and when it comes are defined and proved here once for every plan: a file is lacking, too long, refused, or
+//! has a meaning, and only then the next file is fetched. [`take`] fetches a file and reads it by a [`Reader`].
 #![tactic(auto)]
 
 mod law;
