@@ -123,7 +123,7 @@ uses-over_first n ns = go (is_in 0 ns)
     go true = (tt, cites-over_first n (once (filter (λ m. not (m == 0)) ns)))
     go false = cites-over_first n (once (filter (λ m. not (m == 0)) ns))
 
--- nor does the lemma of a derivation
+-- the lemma of a derivation writes no bound
 lemma-over_first : (n : ℕ) (number : ℕ → ℕ → ℕ) (node : Node) (premises : List ResultVariable) → IsOverFirst n (lemma_by number node premises)
 lemma-over_first n number (EmptyBy t multipliers) premises = tt
 lemma-over_first n number (UnreachedBy t) premises = uses-over_first n (map (λ k. number k.rule k.place) premises)

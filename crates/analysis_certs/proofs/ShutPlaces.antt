@@ -65,7 +65,7 @@ module _ (p : Program) (pivots : ℕ) (valid : IsValid p) where
         (some_same h.place.symbol x.symbol (sym h.place.target ∙ h.leads)) h.place.last;
   }
 
-  -- the same for those of the gap for which a rule has no time
+  -- the shut places of the gap for which a rule has no time are places of symbols
   places-of : (fs : List Derivation) (t : ℕ) (g : Gap)
       → IsNoBound (searches_of_program p pivots) (setting_of p) fs t 0 (OfTime (NoFunction g)) → HasItsPlaces p g
   places-of fs t g h = by-target h.target h.asked h.tells
@@ -92,7 +92,7 @@ module _ (p : Program) (pivots : ℕ) (valid : IsValid p) where
           by-answer u (subst (IsRule p) (sym asked.1) asked.0) tells tells.asked.answer tells.asked.answered tells.tells
       by-target (SizesOf keys) asked tells = absurd asked
 
-  -- the same for those of each gap that times name
+  -- the shut places of each gap that times name are places of symbols
   pub named-places : (fs : List Derivation) (gaps : List code.Gap) (t n count : ℕ) (entries : List TimeEntry)
       → AreGapsInOrder n entries count → AreTimesOf (searches_of_program p pivots) p fs t (map (time_of gaps) entries)
       → (j : ℕ) → n < j → j ≤ count → HasItsPlaces p (numbered_gap gaps j)

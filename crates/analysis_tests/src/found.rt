@@ -98,7 +98,7 @@ fn each_part_of_a_function_is_rounded_up(rt: HostRuntime) -> Result<(), Fail> {
     Ok(())
 }
 
-// A loop that doesn't fall gets a gap, and one that exceeds a limit the trip.
+// A loop that doesn't fall gets a gap, and one that exceeds a limit the limit hit.
 #[test]
 fn missing_times_have_reasons(rt: HostRuntime) -> Result<(), Fail> {
     let alloc = rt.alloc();

@@ -231,8 +231,8 @@ fn a_place_trips_where_a_question_does(rt: HostRuntime) -> Result<(), Fail> {
     Ok(())
 }
 
-// A place without a form on some side is tripped where the question whether the rows have a point was, and one with
-// arms isn't.
+// A place without a form on some side hits a limit where the question whether the rows have a point did, and one
+// with side bounds doesn't.
 #[test]
 fn the_limit_hit_of_the_emptiness_question_counts_where_no_form_is_found(
     rt: HostRuntime,

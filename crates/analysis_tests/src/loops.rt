@@ -128,14 +128,14 @@ const PROGRAMS: &[(&str, &str, &[bool], &str)] = &[
         &[true],
         "1.1 loops; ",
     ),
-    // The low arm alone reads the place itself; the up arm is 0.
+    // The lower side bound alone reads the place itself; the upper one is 0.
     (
         "a loop by the low arm",
         "l0(A) -> Com_1(l0(C)) :|: C <= 0 && C >= A",
         &[true],
         "1.1 loops; ",
     ),
-    // The new value isn't bounded above, so that the place has no arms, and nothing flows into it.
+    // The new value isn't bounded above, so that the place has no side bounds, and nothing flows into it.
     (
         "a place without arms",
         "l0(A) -> Com_1(l0(C)) :|: C >= A",

@@ -19,7 +19,7 @@ use std::process::Abort;
 
 const PIVOTS: u32 = 10_000;
 
-// That it isn't known whether the rows of a rule have a point. No arm depends on it.
+// That it isn't known whether the rows of a rule have a point. No side bound depends on it.
 fn unknown(rule: u32) -> GuardFeasibility
     ensures { ¬ SaysEmpty result }
 {

@@ -180,7 +180,7 @@ pub(crate) const PLACES: &[(&str, &str, u32, u32, &str)] = &[
 ];
 
 // Rules, a place of rule 1, how many pivots are allowed, and the answer. A copied place takes one pivot a question. Of
-// a place whose up side is loose after 3 pivots, the low side needs 6; its limit counts before the looseness.
+// a place whose upper side is unbounded after 3 pivots, the lower side needs 6; its limit comes before that answer.
 pub(crate) const TRIPS: &[(&str, u32, u32, &str)] = &[
     (
         "l0(A) -> Com_1(l1(A))",

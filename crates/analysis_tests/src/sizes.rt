@@ -136,11 +136,11 @@ const BEFORE: &str = "l0(A) -> Com_1(l1(A)) l1(A) -> Com_1(l2(A))";
 
 const TWICE_BEFORE: &str = "l0(A) -> Com_1(l1(A)) l0(A) -> Com_1(l1(A)) l1(A) -> Com_1(l2(A))";
 
-// The up arm of 1.2 reads the second place, and its low arm the first.
+// The upper side bound of 1.2 reads the second place, and its lower one the first.
 const BETWEEN: &str = "l0(A,B) -> Com_1(l1(A,C)) :|: C <= B && C >= 0 - A";
 
 const SPREADS: &[Spread] = &[
-    // Both arms are the start argument.
+    // Both side bounds are the start argument.
     (
         "l0(A) -> Com_1(l1(A))",
         (1, 1),
@@ -164,14 +164,14 @@ const SPREADS: &[Spread] = &[
     ),
     (TWICE_BEFORE, (3, 1), &[(2, 1, V(1), 2)], "missing 1.1"),
     (TWICE_BEFORE, (3, 1), &[(1, 1, V(0), 4)], "missing 2.1"),
-    // A number reads nothing; its low arm is -5, which counts as 0.
+    // A number reads nothing; its lower side bound is -5, which counts as 0.
     (
         "l0(A) -> Com_1(l1(5))",
         (1, 1),
         &[],
         "spread by [] 1.1 Const(5)",
     ),
-    // The up arm is looked at before the low arm.
+    // The upper side bound is looked at before the lower one.
     (BETWEEN, (1, 2), &[], "missing 0.2"),
     (BETWEEN, (1, 2), &[(0, 2, V(1), 0)], "missing 0.1"),
     (BETWEEN, (1, 2), &[(0, 1, V(0), 0)], "missing 0.2"),
@@ -181,8 +181,8 @@ const SPREADS: &[Spread] = &[
         &[(0, 1, V(0), 0), (0, 2, V(1), 0)],
         "spread by [Start] 1.2 Max([Var(0), Var(1)])",
     ),
-    // A maximum over one rule of a maximum of two arms 0 + 1*size has 10 nodes and twice those of the size, which
-    // are one more than its parts: 10 + 2*2043 is 4,096, the limit, and 10 + 2*2044 is too many.
+    // A maximum over one rule of a maximum of two side bounds 0 + 1*size has 10 nodes and twice those of the size,
+    // which are one more than its parts: 10 + 2*2043 is 4,096, the limit, and 10 + 2*2044 is too many.
     (
         "l0(A) -> Com_1(l1(A))",
         (1, 1),
@@ -231,7 +231,7 @@ const NESTED: &str = "l0(A,B) -> Com_1(l1(A,B)) l1(A,B) -> Com_1(l2(A,A)) :|: A 
 const DOUBLING: &str = "l0(A,B) -> Com_1(l1(A,B)) l1(A,B) -> Com_1(l1(A - 1,2*B)) :|: A >= 1
     l1(A,B) -> Com_1(l2(B,B)) :|: A <= 0 l2(A,B) -> Com_1(l2(A - 1,B)) :|: A >= 1";
 
-// The up arm of 2.1 is A + B, its low arm A + C.
+// The upper side bound of 2.1 is A + B, its lower one A + C.
 const BETWEEN_SUMS: &str = "l0(A,B,C) -> Com_1(l1(A,B,C))
     l1(A,B,C) -> Com_1(l1(D,B,C)) :|: D <= A + B && D >= 0 - A - C";
 
@@ -279,7 +279,7 @@ const CYCLES: &[Cycle] = &[
             2.1 Prod([Const(3), Power(2, Var(1)), Power(3, Var(2)), Var(0)]) \
             3.1 Prod([Const(3), Power(2, Var(1)), Power(3, Var(2)), Var(0)])",
     ),
-    // A missing size comes before a bent member, and that before a missing time.
+    // A missing size comes before a nonlinear member, and that before a missing time.
     (SQUARING, &[(2, 1), (3, 1)], &[], "missing 1.1"),
     (SQUARING, &[(2, 1), (3, 1)], &[(1, 1, V(0), 1)], "bent 3.1"),
     (SQUARING, &[(2, 1)], &[(1, 1, V(0), 1)], "missing 3.1"),
@@ -304,7 +304,7 @@ const CYCLES: &[Cycle] = &[
         &[(1, 2, V(1), 5), (2, 0, V(0), 2)],
         "cycle by [Cite(5), Cite(2)] 2.2 Prod([Const(2), Power(2, Var(0)), Var(1)])",
     ),
-    // After each rule before the up arm is looked at before the low arm.
+    // After each rule before the upper side bound is looked at before the lower one.
     (BETWEEN_SUMS, &[(2, 1)], &[], "missing 1.1"),
     (BETWEEN_SUMS, &[(2, 1)], &[(1, 1, V(0), 1)], "missing 1.2"),
     (

@@ -14,7 +14,7 @@ pub never-budget : (p : LinearProgram) (allowed k : ℕ) → bases_of p ≤ allo
 never-budget p allowed k l (fits, (same, trips)) =
     let few = pivots-few p allowed trips.last trips.reached.is in absurd (omega (arith, l, few))
 
--- so it is where the number of bases itself is allowed
+-- if the number of bases itself is allowed, no answer is that the pivots don't suffice
 pub no-stop : (p : LinearProgram) (k j : ℕ) → below_limit (bases_of p) ≡ Some k → ¬ IsStop p k (Budget j)
 no-stop p k j e stop =
     let same = (some-limit (bases_of p) k e).0 in never-budget p k j (omega (arith, same)) stop

@@ -23,7 +23,7 @@ module _ (a s b t c u : ℤ) (ps : pos 0 <ℤ s) (pt : pos 0 <ℤ t) (pu : pos 0
       chain : (v w x y l r : ℤ) → v ≤ℤ w → x ≤ℤ y → l ≡ v → w ≡ x → y ≡ r → l ≤ℤ r
       chain v w x y l r h k e f g = omega (arith, ints)
 
-  -- the same where the first order is strict
+  -- a/s < b/t and b/t ≤ c/u give a/s < c/u
   pub lt-le : (a *ℤ t) <ℤ (b *ℤ s) → (b *ℤ u) ≤ℤ (c *ℤ t) → (a *ℤ u) <ℤ (c *ℤ s)
   lt-le h k =
       lt-of-mul_ℤ t _ _ pt
@@ -33,7 +33,7 @@ module _ (a s b t c u : ℤ) (ps : pos 0 <ℤ s) (pt : pos 0 <ℤ t) (pu : pos 0
       chain : (v w x y l r : ℤ) → v <ℤ w → x ≤ℤ y → l ≡ v → w ≡ x → y ≡ r → l <ℤ r
       chain v w x y l r h k e f g = omega (arith, ints)
 
-  -- the same where the second order is strict
+  -- a/s ≤ b/t and b/t < c/u give a/s < c/u
   pub le-lt : (a *ℤ t) ≤ℤ (b *ℤ s) → (b *ℤ u) <ℤ (c *ℤ t) → (a *ℤ u) <ℤ (c *ℤ s)
   le-lt h k =
       lt-of-mul_ℤ t _ _ pt

@@ -211,7 +211,7 @@ module _ (p : LinearProgram) (a b : ℕ) (w : Walk p a b) where
         from : (x y z : ℤ) → x -ℤ y ≡ z → pos 0 ≤ℤ z → y ≤ℤ x
         from x y z e h = omega (arith, ints)
 
-    -- and raises it where the right side is over 0
+    -- a step raises the objective if the right side is over 0
     higher : (i : ℕ) → a ≤ i → i < b → pos 0 <ℤ side i → (objective i *ℤ scale (suc i)) <ℤ (objective (suc i) *ℤ scale i)
     higher i l m h =
         from _ _ _ (rises i l m) (mul-positive_ℤ _ _ (opposite i l m) (mul-positive_ℤ _ _ h (over i l (omega arith))))

@@ -43,7 +43,7 @@ module _ {F T : Type 0} (means : shelf.Ghosts F) (before middle after : F) (kind
       Of t given (subst (λ (count : Option ℕ). OnPlan (seen_of means before after) count (next t) s x) counted
       (subst (λ (seen : Seen). OnPlan seen (means.fetches middle) (next t) s x) same on))
 
-  -- the same for what is answered if memory suffices
+  -- a plan answers as its rest does after a file that gave a thing, if memory suffices
   pub behind_ok : {E : Type 0} (said : Result StatusText E) → means.held middle ≡ means.held before
       → means.faults before ≤ means.faults middle → ¬ (means.faults before < means.faults middle)
       → means.fetches middle ≡ one_more (means.fetches before)
@@ -58,7 +58,7 @@ module _ {F T : Type 0} (means : shelf.Ghosts F) (before middle after : F) (kind
       (λ (a : StatusText). OnPlan (seen_of means before after) (means.fetches before) (Reads kind file next) a.status a.text.items)
       (λ a. behind a.status a.text.items held steady counted last gives) on
 
--- what a table tells is answered by the plan that answers by it, where nothing is fetched
+-- if nothing is fetched, a plan answers by its table
 pub told_ok : {E : Type 0} (seen : Seen) (count : Option ℕ) (cases : Cases) (said : Result StatusText E)
     → seen.fetches_after ≡ count → IfOk said (λ a. Tells cases a.status a.text.items)
     → IfOk said (λ a. OnPlan seen count (Answers cases) a.status a.text.items)

@@ -12,7 +12,7 @@ use Rattle.call_plans.specs.Meanings.{Appended, Wrote, WroteRefusal, MayMiss}
 use Rattle.call_plans.specs.Lawful.{HasSorts}
 use Rattle.call_plans.proofs.Rows.{told_answer}
 
--- the sorts are apart
+-- no status is of two sorts
 answer_refusal : (r : Sort) → r ≡ Answer → r ≡ Refusal → ⊥
 answer_refusal r a b = let e : Answer ≡ Refusal = sym a ∙ b in cc
 
@@ -30,7 +30,7 @@ module _ {T : Type 0} (kind : TextKind T) (sorted : sort_of kind.refused ≡ Ref
   refused_refusal : (s : Status) → s ≡ kind.refused → sort_of s ≡ Refusal
   refused_refusal s e = ap sort_of e ∙ sorted
 
-  -- where a file gives no text the status isn't that of an answer
+  -- if a file gives no text, the status isn't that of an answer
   no_text_no_answer : (seen : Seen) (file : List ℕ) (s : Status) (x : List ℕ) → IsNoText kind seen file s x
       → sort_of s ≡ Answer → ⊥
   no_text_no_answer seen file s x (Unread h) is = answer_other (sort_of s) is (fault_other s h.ends)
@@ -46,7 +46,7 @@ wrote_of seen put count (Reads kind file next) s x sorts is (Without counted h) 
 wrote_of seen put count (Reads kind file next) s x sorts is (Of t gives on) appended =
     (t, (gives, wrote_of seen put (one_more count) (next t) s x (sorts.1 t) is on appended))
 
--- with that of a refusal a text that refuses a file
+-- with the status of a refusal a text that refuses a file was written
 pub refused_of : (seen : Seen) (put : Put) (count : Option ℕ) (plan : Plan) (s : Status) (x : List ℕ) → HasSorts plan
     → sort_of s ≡ Refusal → OnPlan seen count plan s x → Appended put x → WroteRefusal seen put plan s
 refused_of seen put count (Answers cases) s x sorts is on appended =
@@ -60,7 +60,7 @@ refused_of seen put count (Reads kind file next) s x sorts is (Without counted (
 refused_of seen put count (Reads kind file next) s x sorts is (Of t gives on) appended =
     inr (t, (gives, refused_of seen put (one_more count) (next t) s x (sorts.1 t) is on appended))
 
--- and with a fault of reading some file of the plan may fail
+-- with a fault of reading, a fetch of some file of the plan may fail
 pub missed_of : (seen : Seen) (count : Option ℕ) (plan : Plan) (s : Status) (x : List ℕ) → HasSorts plan
     → s ≡ ReadFault → OnPlan seen count plan s x → MayMiss seen plan
 missed_of seen count (Answers cases) s x sorts is on =

@@ -1,4 +1,4 @@
--- Contents of a shelf determine how a call ends, and what it answers.
+-- The contents of a shelf determine how a call ends, and its answer.
 use Rattle.std.proofs.Common.{◌≡◌, ◌≤◌, ◌<◌, ◌↔◌, ℕ, List, length, Option, Some, None, refl, sym, ◌∙◌, ap, subst, arith}
 use Rattle.std.specs.FinMap.{get}
 use Rattle.outside_io.specs.Files.{Files}
@@ -13,14 +13,14 @@ use Rattle.call_plans.specs.Lawful.{IsDecided, IsLawful}
 use Rattle.call_plans.proofs.Rows.{told_comes, come_unique, told_unique}
 use Rattle.call_plans.proofs.HeldPlans.{HeldOn, held_of, ends_held}
 
--- what is there isn't missing, and is one
+-- a file that is there isn't lacking, and has one content
 not_there : (there : Option (List ℕ)) (bytes : List ℕ) → there ≡ None → there ≡ Some bytes → ⊥
 not_there there bytes none some = let e : ◌≡◌ {A = Option (List ℕ)} None (Some bytes) = sym none ∙ some in cc
 
 there_unique : (there : Option (List ℕ)) (a b : List ℕ) → there ≡ Some a → there ≡ Some b → a ≡ b
 there_unique there a b left right = let e : Some a ≡ Some b = sym left ∙ right in cc
 
--- a file is one of the four
+-- two cases of one file (lacking, too long, refused, or with a meaning) are the same
 module _ {T : Type 0} (kind : TextKind T) (decided : IsDecided kind) (there : Option (List ℕ)) (Goal : Type 0)
     (MissingA MissingB LongA LongB : Type 0) (BadA BadB : List ℕ → Type 0) (NextA NextB : T → Type 0) where
   too_long : (a b : List ℕ) → there ≡ Some a → there ≡ Some b → kind.limit < length a → length b ≤ kind.limit → ⊥
@@ -54,7 +54,7 @@ module _ {T : Type 0} (kind : TextKind T) (decided : IsDecided kind) (there : Op
       (subst (λ (bytes : List ℕ). kind.StandsFor bytes u) (there_unique there c a f e) others) stands in
       n a t stands h (subst NextB same k)
 
--- one status and one text are answered on files
+-- on given files a plan answers with at most one status and one text
 pub held_unique : (files : Files) (plan : Plan) (s t : Status) (x y : List ℕ) → IsLawful plan → HeldOn files plan s x
     → HeldOn files plan t y → (s ≡ t) × (x ≡ y)
 held_unique files (Answers cases) s t x y lawful a b = told_unique cases s t x y lawful a b
@@ -67,7 +67,7 @@ held_unique files (Reads {T} kind file next) s t x y lawful a b =
     (λ bytes h k. (h.0 ∙ sym k.0, lawful.0.one_refusal bytes x y h.1 k.1))
     (λ bytes u stands h k. held_unique files (next u) s t x y (lawful.1 bytes u stands) h k) a b
 
--- a call ends with one status on files
+-- on given files a call ends with at most one status
 pub ends_unique : (files : Files) (plan : Plan) (s t : Status) → IsLawful plan → EndsOn files plan s
     → EndsOn files plan t → s ≡ t
 ends_unique files (Answers cases) s t lawful a b = come_unique cases s t lawful a b
@@ -79,27 +79,27 @@ ends_unique files (Reads {T} kind file next) s t lawful a b =
 
 module _ (seen : Seen) (files : Files) (count : Option ℕ) (plan : Plan) (held : seen.held ≡ Some files)
     (lawful : IsLawful plan) where
-  -- what is answered from what was seen is answered with the status that these files determine, and with no other
+  -- the status of an answer is the only one with which a call with this plan ends on these files
   pub exactly_where : (s : Status) (x : List ℕ) → IsHonest seen s → OnPlan seen count plan s x → (t : Status)
       → (s ≡ t) ↔ EndsOn files plan t
   exactly_where s x honest on t =
       let ends = ends_held files plan s x lawful (held_of seen files count plan s x held honest lawful on) in
       (λ e. subst (λ (r : Status). EndsOn files plan r) e ends, λ other. ends_unique files plan s t lawful ends other)
 
-  -- and with one text
+  -- the status and the text of an answer are unique
   pub answer_unique : (s t : Status) (x y : List ℕ) → IsHonest seen s → IsHonest seen t → OnPlan seen count plan s x
       → OnPlan seen count plan t y → (s ≡ t) × (x ≡ y)
   answer_unique s t x y honest also a b =
       held_unique files plan s t x y lawful (held_of seen files count plan s x held honest lawful a)
       (held_of seen files count plan t y held also lawful b)
 
--- where no file is read, one status and one text are answered, whatever the shelf discloses
+-- if no file is read, the status and the text of an answer are unique, whatever the shelf discloses
 pub last_unique : (seen : Seen) (count : Option ℕ) (plan : Plan) (s t : Status) (x y : List ℕ) → IsLast plan
     → IsLawful plan → OnPlan seen count plan s x → OnPlan seen count plan t y → (s ≡ t) × (x ≡ y)
 last_unique seen count (Answers cases) s t x y last lawful a b = told_unique cases s t x y lawful a.1 b.1
 last_unique seen count (Reads kind file next) s t x y last lawful a b = absurd last
 
--- so the status is the one that the table says
+-- if no file is read, a call ends with a status exactly if it is that of the answer
 pub last_exactly : (seen : Seen) (files : Files) (count : Option ℕ) (plan : Plan) (s : Status) (x : List ℕ) → IsLast plan
     → IsLawful plan → OnPlan seen count plan s x → (t : Status) → (s ≡ t) ↔ EndsOn files plan t
 last_exactly seen files count (Answers cases) s x last lawful on t =

@@ -22,13 +22,13 @@ pub row_of : {When : Type 0} {Text : List ℕ → Type 0} {more : Cases} → ((x
 row_of {When} {Text} {more} one comes apart =
     record { one = one; comes = comes; alone = λ s. none_comes When more s apart }
 
--- a status with a text of a row comes
+-- if a table answers with a status and a text, the status comes
 pub told_comes : (cases : Cases) (s : Status) (x : List ℕ) → AreRows cases → Tells cases s x → Comes cases s
 told_comes End s x rows told = told
 told_comes (Case t When Text more) s x rows (inl told) = inl (told.0, rows.0.comes x told.1)
 told_comes (Case t When Text more) s x rows (inr told) = inr (told_comes more s x rows.1 told)
 
--- one status comes
+-- at most one status comes
 pub come_unique : (cases : Cases) (s t : Status) → AreRows cases → Comes cases s → Comes cases t → s ≡ t
 come_unique End s t rows a b = absurd a
 come_unique (Case r When Text more) s t rows (inl a) (inl b) = a.0 ∙ sym b.0
@@ -36,7 +36,7 @@ come_unique (Case r When Text more) s t rows (inl a) (inr b) = absurd (rows.0.al
 come_unique (Case r When Text more) s t rows (inr a) (inl b) = absurd (rows.0.alone s b.1 a)
 come_unique (Case r When Text more) s t rows (inr a) (inr b) = come_unique more s t rows.1 a b
 
--- one status with one text is told
+-- a table answers with at most one status and one text
 pub told_unique : (cases : Cases) (s t : Status) (x y : List ℕ) → AreRows cases → Tells cases s x → Tells cases t y
     → (s ≡ t) × (x ≡ y)
 told_unique End s t x y rows a b = absurd a
@@ -47,7 +47,7 @@ told_unique (Case r When Text more) s t x y rows (inr a) (inl b) =
     absurd (rows.0.alone s (rows.0.comes y b.1) (told_comes more s x rows.1 a))
 told_unique (Case r When Text more) s t x y rows (inr a) (inr b) = told_unique more s t x y rows.1 a b
 
--- a status that is told is that of an answer
+-- the status with which a table answers is that of an answer
 pub told_answer : (cases : Cases) (s : Status) (x : List ℕ) → HaveAnswers cases → Tells cases s x → sort_of s ≡ Answer
 told_answer End s x sorts told = absurd told
 told_answer (Case t When Text more) s x sorts (inl told) =

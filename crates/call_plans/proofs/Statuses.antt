@@ -18,14 +18,14 @@ abbrev pub OfPlan : (Status → Type 0) → Plan → Type 0
 OfPlan Holds (Answers cases) = OfRows Holds cases
 OfPlan Holds (Reads {T} kind file next) = Holds ReadFault × (Holds kind.refused × ((t : T) → OfPlan Holds (next t)))
 
--- so it holds of what a table tells
+-- what holds of each status of a table holds of the one with which it answers
 of_rows : (Holds : Status → Type 0) (cases : Cases) (s : Status) (x : List ℕ) → OfRows Holds cases → Tells cases s x
     → Holds s
 of_rows Holds End s x all told = absurd told
 of_rows Holds (Case t When Text more) s x all (inl told) = subst Holds (sym told.0) all.0
 of_rows Holds (Case t When Text more) s x all (inr told) = of_rows Holds more s x all.1 told
 
--- and of what is answered by a plan
+-- what holds of each status of a plan holds of the one with which it answers
 pub of_plan : (Holds : Status → Type 0) (seen : Seen) (count : Option ℕ) (plan : Plan) (s : Status) (x : List ℕ)
     → OfPlan Holds plan → OnPlan seen count plan s x → Holds s
 of_plan Holds seen count (Answers cases) s x all on = of_rows Holds cases s x all on.1

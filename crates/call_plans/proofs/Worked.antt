@@ -129,7 +129,7 @@ some = Of 2 (record {
   stands = (codes "op", (refl, refl));
 }) (refl, inr (inl (refl, (omega arith, refl))))
 
--- and with one answer
+-- each file has one answer
 one : (files : Files) (taken : ℕ) (s t : Status) (x y : List ℕ) → Said files taken s x → Said files taken t y
     → (s ≡ t) × (x ≡ y)
 one files taken s t x y a b =
@@ -181,7 +181,7 @@ worked = record {
   fetched_never = λ s x h. let e = fetched_one (with_bytes (codes "n")) 1 4 s x (omega arith) h in omega (arith, e);
 }
 
--- what is told with `Done`, and with the status of no row
+-- what a table answers with `Done`, and with the status of no row
 told_done : (n : ℕ) (x : List ℕ) → Tells (table n) Done x → (n ≡ 0) × (x ≡ codes "none")
 told_done n x (inl h) = h.1
 told_done n x (inr (inl h)) = let e : Done ≡ Unknown = h.0 in cc

@@ -195,7 +195,7 @@ other =
     (omega arith) (λ last. refl))
     (refl, inr (inl (refl, (one_not_zero, refl)))))
 
--- and answered so alone
+-- each pair of files has one answer
 only_bad : (fetches taken : ℕ) (s : Status) (x : List ℕ) → Said (with_bytes (codes "m")) fetches taken s x
     → (fetches ≡ 1) × ((s ≡ ProgramRefused) × (x ≡ codes "bad"))
 only_bad fetches taken s x (Without counted h) = (

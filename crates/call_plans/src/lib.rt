@@ -1,4 +1,4 @@
-//! Plans of calls: which files a call reads, one behind the other, of which kinds, and by which table it answers.
+//! Plans of calls: which files a call reads, in which order and of which kinds, and the table by which it answers.
 //!
 //! Builds on `model` and `outside_io`. A command is one line of a table of plans. How a call ends, what its status means
 //! and when it comes are defined and proved here once for every plan: a file is lacking, too long, refused, or stands

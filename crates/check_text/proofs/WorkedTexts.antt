@@ -13,7 +13,7 @@ other_order : fact_lines (codes "A" ∷ []) (Time 1 (Constant 1) ∷ Time 2 (Con
 unfolding digits
 other_order e = let digit : 49 ≡ 50 = ap (λ (w : List ℕ). get_or w 5 0) e in omega (arith, digit)
 
--- and so is the first number of a node
+-- the texts of refusals at lemma 1 node 20 and at lemma 20 node 1 differ
 other_node : no_lemma_text 1 20 Shape ≢ no_lemma_text 20 1 Shape
 unfolding digits
 other_node e = let digit : 49 ≡ 50 = ap (λ (w : List ℕ). get_or w 9 0) e in omega (arith, digit)

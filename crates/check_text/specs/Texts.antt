@@ -47,7 +47,7 @@ gap_lines (g ∷ gs) = gap_line g ++ gap_lines gs
 unfoldable pub accepted_text : Program → List Fact → List Gap → List ℕ
 accepted_text p facts gaps = codes "accepted\n" ++ (fact_lines p.start_names facts ++ gap_lines gaps)
 
--- an arm: its rule, its place and its side
+-- a side bound: its rule, its place and its side
 abbrev pub side_bound_text : ℕ → ℕ → List ℕ → List ℕ
 side_bound_text rule place side = codes "arm " ++ (place_text rule place ++ side)
 

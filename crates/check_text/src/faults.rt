@@ -106,7 +106,7 @@ fn push_result_variable(
     push_place(text, rule, place)
 }
 
-// An arm: its rule, its place and its side.
+// A side bound: its rule, its place and its side.
 fn push_side_bound(text: &mut Vec<u8>, rule: u32, place: u32, side: &[u8]) -> Result<(), Memory>
     ensures { OnOk result (text.new.items ≡ text.old.items ++ side_bound_text rule place side.now) }
 {

@@ -26,7 +26,7 @@ gives_of items behind proper = record {
   has_positionals = refl;
 }
 
--- the same for words, values and positionals that are given by equations
+-- what items give, for words, values and positionals that are given by equations
 pub gives_along : (xs ys vs ws ps qs : Words) → xs ≡ ys → vs ≡ ws → ps ≡ qs → Gives ys ws qs → Gives xs vs ps
 gives_along xs ys vs ws ps qs e f g h = record {
   items = h.items;
@@ -96,7 +96,7 @@ apart_not_plain word e h = (let no_ : false ≡ true = subst (λ (w : Word). IsT
 joined_not_plain : (word v : Word) → word ≡ codes "--pivots=" ++ v → IsTrue (is_plain word) → ⊥
 joined_not_plain word v e h = (let no_ : false ≡ true = subst (λ (w : Word). IsTrue (is_plain w)) e h in cc)
 
--- and differ from one another
+-- `--`, `--pivots` and `--pivots=` with a value differ from one another
 end_not_apart : (word : Word) → word ≡ codes "--" → word ≡ codes "--pivots" → ⊥
 end_not_apart word e f = omega (arith, ap (λ (w : Word). get_or w 2 0) (sym e ∙ f))
 

@@ -68,7 +68,7 @@ found_listed word (d ∷ cs) c e = go (pointwise nat_eq word (word_of d)) e (fou
     go true e rest = let same : d ≡ c = cc in (0, omega arith, same)
     go false e rest = let at = rest e in (suc at.0, omega (arith, at.1), at.2)
 
--- so each command is listed
+-- each command is in the list of all commands
 pub command_listed : (c : Command) → Contains all_commands c
 command_listed c = found_listed (word_of c) all_commands c (named_first c)
 
@@ -78,7 +78,7 @@ one_command c d e =
     let same : Some c ≡ Some d = sym (named_first c) ∙ (ap (λ (w : Word). first_named w all_commands) e ∙ named_first d) in
     cc
 
--- and a word that none of the listed commands has is that of no command
+-- a word that none of the listed commands has is that of no command
 pub no_command : (word : Word) → first_named word all_commands ≡ None → (c : Command) → word ≢ word_of c
 no_command word none c e =
     let some : None ≡ Some c = sym none ∙ (ap (λ (w : Word). first_named w all_commands) e ∙ named_first c) in

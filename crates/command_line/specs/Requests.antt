@@ -59,7 +59,7 @@ command_of (OfFile task file) = commands.OfFile task
 abbrev pub default_pivots : ℕ
 default_pivots = 10000
 
--- and this many can be allowed at most
+-- the most pivots that can be allowed
 abbrev pub maximum_pivots : ℕ
 maximum_pivots = 1000000
 

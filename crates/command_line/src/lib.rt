@@ -1,7 +1,7 @@
 //! Parses the command line: what the words after the program's name request.
 //!
-//! Builds on `text_core`. Main guarantee: `command_line` returns the request of the words exactly where they are a command
-//! line, and none exactly where they aren't.
+//! Builds on `text_core`. Main guarantee: `asks` returns the request of the words exactly if they are a command line,
+//! and none exactly if they aren't.
 #![tactic(auto)]
 
 mod command;

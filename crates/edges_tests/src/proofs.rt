@@ -106,7 +106,7 @@ lemma cost 1 lin 72057579542413141 [0 0] [268435459 268435459 268435399 26843539
 end
 ";
 
-// The file of the program with a cost, with an arm below the cost, and with the first line of files without costs.
+// The file of the program with a cost, with a side bound below it, and with the first line of files without costs.
 const TOO_CHEAP: &str = "koat-proof 2
 lemma rank 1 set [1] den 1 forms [l0 [0 1]; l1 [0 0]] moves [[]] floor [] uses {start}
 lemma spread 1.1 up lin 1 [1 0] [] low lin 1 [-1 0] [] uses {start}

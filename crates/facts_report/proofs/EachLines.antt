@@ -21,7 +21,7 @@ each_more f n =
     ∙ (ap (λ (m : ℕ). lines_of_each f (range_with_len 0 n) ++ lines_of_each f (m ∷ [])) (let z : 0 + n ≡ n = omega arith in z)
     ∙ ap (λ (t : List ℕ). lines_of_each f (range_with_len 0 n) ++ t) (append-nil (f n))))
 
--- so one number more is written
+-- after the lines of the first n numbers that of number n is written
 pub each_pushed : (f : ℕ → List ℕ) (n : ℕ) (base old new : List ℕ) → old ≡ base ++ lines_of_each f (range_with_len 0 n)
     → new ≡ old ++ f n → new ≡ base ++ lines_of_each f (range_with_len 0 (n + 1))
 each_pushed f n base old new e h =
@@ -29,7 +29,7 @@ each_pushed f n base old new e h =
     ∙ (ap (λ (t : List ℕ). t ++ f n) e
     ∙ (append_assoc base (lines_of_each f (range_with_len 0 n)) (f n) ∙ ap (λ (t : List ℕ). base ++ t) (sym (each_more f n))))
 
--- and nine are all
+-- the lines of all nine numbers are written
 pub each_whole : (f : ℕ → List ℕ) (n : ℕ) (base new : List ℕ) → n ≡ 9 → new ≡ base ++ lines_of_each f (range_with_len 0 n)
     → new ≡ base ++ lines_of_each f (range_with_len 0 9)
 each_whole f n base new e h = h ∙ ap (λ (k : ℕ). base ++ lines_of_each f (range_with_len 0 k)) e

@@ -10,7 +10,7 @@ use Rattle.time_bounds.proofs.OneAnalysis.{analysis_one}
 use Rattle.time_bounds.proofs.OneProgram.{program_searches_one}
 use Rattle.facts_report.specs.WithFacts.{IsFoundWithFacts, AreOneDerivation, ReportsWithFactsAreOne}
 
--- two finds are one
+-- the facts and the report found with them are unique
 one_derivation : (p : Program) (pivots : ℕ) (facts others : List LocFact) (r q : Report) → IsFoundWithFacts p pivots facts r
     → IsFoundWithFacts p pivots others q → AreOneDerivation facts others r q
 one_derivation p pivots facts others r q a b =

@@ -33,7 +33,7 @@ targets_same : (p : Program) (kept : List LocFact) (rules : List Rule)
 targets_same p kept [] = refl
 targets_same p kept (r ∷ rules) = ap (λ (ns : List ℕ). arity_of p r.target ∷ ns) (targets_same p kept rules)
 
--- and the same rules have a cost
+-- the rules of a strengthened program have a cost exactly if those of the program do
 costs_kept : (kept : List LocFact) (rules : List Rule)
     → map (λ rule. is_some rule.cost) (map (strengthened_rule kept) rules) ≡ map (λ rule. is_some rule.cost) rules
 costs_kept kept [] = refl
@@ -48,7 +48,7 @@ report_on p kept r h = record {
   sizes = h.sizes ∙ targets_same p kept p.rules;
 }
 
--- and each bound of it holds for the program
+-- each bound of a report on a strengthened program holds for the program itself
 report_holds : (p : Program) (kept : List LocFact) (r : Report) → IsValid p → AreHeld p kept
     → ReportHolds (strengthened kept p) r → ReportHolds p r
 report_holds p kept r valid held h = record {
@@ -58,7 +58,7 @@ report_holds p kept r valid held h = record {
   sizes = λ t i b e. strengthening-changes-no-run.bounds p kept valid held (Size t i b) (h.sizes t i b e);
 }
 
--- so what an analysis finds of it is found with the facts
+-- the report of the analysis of a strengthened program is found with the facts
 pub found_with : (p q : Program) (pivots : ℕ) (kept : List LocFact) (proofs : List (List FactProof)) (r : Report) → IsValid p
     → AreKept p pivots kept → AreProved p kept proofs → q ≡ strengthened kept p → IsAnalysis q pivots r → ReportHolds q r
     → ReasonsAreTrue q pivots r → IsReportOn q r → IsFoundWithFacts p pivots kept r

@@ -104,7 +104,7 @@ module _ (b : RankedSet) (shut : List SymbolPlace) (pivots : ℕ) (empties : Lis
       ∙ length-map b.set (λ t. point_in (answer_for empties t))) in
       omega (arith, same, ap length read.same_set)
 
--- and it shuts places of symbols of the program
+-- the shut places of a gap that is read off are places of the program's symbols
 gap_fits : (p : Program) (pivots : ℕ) (b : Bounds) (t : ℕ) (set : List ℕ) (shut : List SymbolPlace)
     (empties : List GuardFeasibility) (g : Gap) → IsValid p → AreShutOf p b set shut
     → IsReadOff (ranked_set p set t shut) shut pivots empties g → HasShortNumbers g
@@ -208,7 +208,7 @@ module _ (p : Program) (pivots : ℕ) (valid : IsValid p) (fs : List Derivation)
       (bound_fits p b (good.each t i b h.0) fits.0, sizes_fit t (suc i) sizes h.1 fits.1)
   sizes_fit t i (Unsized why ∷ sizes) h fits = (fits.0, sizes_fit t (suc i) sizes h.1 fits.1)
 
-  -- and those of each rule from t on
+  -- the sizes of the rules from t on are printable
   rows_fit : (t : ℕ) (rows : List (List Size)) → AreSizeRowsOf (searches_of_program p pivots) p fs t rows
       → AllByRecursion (AllByRecursion SizeFits) rows → AllByRecursion (AllByRecursion (IsPrintableSize p)) rows
   rows_fit t [] h fits = tt
@@ -219,7 +219,7 @@ abbrev ArePrintableCosts : Program → ℕ → List Derivation → Type 0
 ArePrintableCosts p pivots fs = (t : ℕ) (by : CostBy) → IsCostOf p pivots (over (bounds_of p fs)) t (BoundedBy by)
     → IsPrintableBound (length p.start_names) (stated_cost (setting_of p) (over (bounds_of p fs)) t by)
 
--- so the costs from rule k on are printable
+-- the costs from rule k on are printable
 costs_fit : (p : Program) (pivots : ℕ) (fs : List Derivation) → ArePrintableCosts p pivots fs → (k : ℕ)
     (costs : List (Option RuleCost)) → AreCostsOver p pivots (bounds_of p fs) k costs → AllByRecursion CostFits costs
     → AllByRecursion (IsPrintableCost p) costs
@@ -249,7 +249,7 @@ spendings_fit p (t ∷ times) [] h k = tt
 spendings_fit p (t ∷ times) (c ∷ costs) h k =
     spent_fits p t c (spendings times costs) h.0 k.0 (spendings_fit p times costs h.1 k.1)
 
--- and so is the total of printable bounds
+-- the total of printable bounds is printable
 total_fits : (p : Program) (spent : List (Option Bound)) (total : Option Bound)
     → ArePrintable (length p.start_names) spent → total ≡ total_of spent → TotalFits total → IsPrintableTotal p total
 total_fits p spent None h e fits = tt
@@ -279,7 +279,7 @@ analysis_fits p pivots r valid h fits = record {
     costs : AllByRecursion (IsPrintableCost p) r.costs
     costs = costs_fit p pivots h.derivations good_costs 1 r.costs h.costs fits.costs
 
--- so it is determined by its text
+-- the report of an analysis whose numbers fit is determined by its text
 pub reports_are_determined : AnalysisTextsStateOneReport
 reports_are_determined = record {
   printable = analysis_fits;

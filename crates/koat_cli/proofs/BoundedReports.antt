@@ -17,7 +17,7 @@ all_spent (Timed b ∷ times) (Some (Costed c) ∷ costs) timed costed = all_spe
 all_spent (Timed b ∷ times) (Some (Uncosted why) ∷ costs) timed costed = absurd (false≢true costed)
 all_spent (Untimed why ∷ times) (c ∷ costs) timed costed = absurd (false≢true timed)
 
--- so there is a total
+-- a report on a program that is bounded has a total
 pub total_where_bounded : (p : Program) (r : Report) → IsReportOn p r → is_bounded r ≡ true → IsSome r.total
 total_where_bounded p r on bounded =
     let parts = and_parts (list_all is_timed r.times) (list_all is_costed r.costs) bounded in

@@ -46,7 +46,7 @@ module _ (laws : Determined) where
       exactly_where call.shelf files call.fetches_before (plan_of r) on.held (plans_lawful laws r) s w.text honest
       (answer_of call r s w.text asked w.says) t
 
-  -- and from the table alone where no file is read
+  -- if no file is read, the status follows from the table alone
   without_file : (call : Call) (put : Put) (files : Files) (r : Request) (s t : Status) → Asks call.words r
       → IsLast (plan_of r) → EndsWell s call put → (s ≡ t) ↔ EndsOn files (plan_of r) t
   without_file call put files r s t asked last h =

@@ -23,7 +23,7 @@ sum_seen f g view same (x ∷ xs) =
 abbrev pub one_where : Bool → ℕ
 one_where b = cond b 1 0
 
--- the same for a count
+-- a count over entries is the count over what they mean
 count_seen : {X Y : Type 0} (p : X → Bool) (q : Y → Bool) (view : X → Y) → ((x : X) → p x ≡ q (view x)) → (xs : List X)
     → count_by p xs ≡ count_by q (map view xs)
 count_seen p q view same xs = sum_seen (λ x. one_where (p x)) (λ y. one_where (q y)) view (λ x. ap one_where (same x)) xs
@@ -46,7 +46,7 @@ sizes_counted items rows =
     sum_seen (λ row. count_by is_known_size (items row)) (λ row. count_by is_sized row) (λ row. map size_of (items row))
     (λ row. count_seen is_known_size is_sized size_of known_is_sized (items row)) rows
 
--- and so are all places
+-- there are as many places as the report has
 pub places_counted : {R : Type 0} (items : R → List SizeEntry) (rows : List R)
     → sum_by (λ row. length (items row)) rows ≡ sum_by (λ row. length row) (map (λ row. map size_of (items row)) rows)
 places_counted items rows =
@@ -57,7 +57,7 @@ places_counted items rows =
 abbrev pub Adds : {X : Type 0} → (X → ℕ) → List X → ℕ → ℕ → Type 0
 Adds f xs i n = (n ≡ sum_by f (take i xs)) × (n ≤ i * 18446744073709551616)
 
--- the same with one more
+-- such a sum and the number of one more element
 pub adds_more : {X : Type 0} (f : X → ℕ) (xs : List X) (i n m : ℕ) (x : X) → i < length xs → Adds f xs i n → x ≡ get_or xs i x
     → m ≡ f x → m < 18446744073709551616 → Adds f xs (i + 1) (n + m)
 adds_more f xs i n m x lt h e is small =

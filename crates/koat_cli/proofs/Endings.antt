@@ -40,7 +40,7 @@ ended_whole call put s x said fault appended counted = record {
   no_put = λ e. absurd (not_memory call s x said e);
 }
 
--- and one at whose text the sink had a fault with that of this fault
+-- a call at whose text the sink had a fault ends with the status of this fault
 pub ended_in_part : (call : Call) (put : Put) (s : Status) (x : List ℕ) → Says call s x
     → (call.shelf.faults_before < call.shelf.faults_after → s ≡ ReadFault) → Rose put.faults_before put.faults_after
     → AppendsPrefix put.written_before put.written_after x → put.puts_after ≡ one_more put.puts_before

@@ -100,7 +100,7 @@ module _ (s : Status) (call : Call) (put : Put) (ends : Ends s call put) where
       let found = asked_where call s wrote.text whole.1.1 wrote.says in
       (found.0, (found.1.0, missed_of call.shelf call.fetches_before (plan_of found.0) s wrote.text (plans_sorted found.0) is found.1.1))
 
-  -- and with that of the usage text this was written
+  -- the status `Usage` is neither `WriteFault` nor `Memory`, so the usage text was written whole
   usage_whole : s ≡ Usage → (s ≢ WriteFault) × (s ≢ Memory)
   usage_whole is = (
     λ e. let same : Usage ≡ WriteFault = sym is ∙ e in let never : ⊥ = cc in never,

@@ -27,7 +27,7 @@ two_each (r ∷ rules) =
     one_more (with_left (symbols_of rules) r.left) (term_in r.target).name (length (term_in r.target).arguments) in
     omega (arith, so_far, left, right)
 
--- so at most 1,000 rules have at most 2,000
+-- a program of at most 1,000 rules has at most 2,000 symbols
 few_from : (start : Name) (rules : List WrittenRule) (o : Option LeftTerm) (p : Program) → program_from start rules o ≡ Some p
     → length rules ≤ 1000 → length p.symbols ≤ 2000
 few_from start rules None p e few = absurd (none_is_some e)
@@ -41,7 +41,7 @@ few_of_parts None (Some rules) p e within = absurd (none_is_some e)
 few_of_parts (Some start) None p e within = absurd (none_is_some e)
 few_of_parts (Some start) (Some rules) p e within = few_from start rules (first_leaving start rules) p e within.0
 
--- and they can be numbered in 32 bits
+-- the symbols of a program that is read can be numbered in 32 bits
 pub few_symbols : (bytes : List ℕ) (p : Program) → SpellsWithin bytes p → length p.symbols < 2 ^ 32
 few_symbols bytes p h =
     let few = few_of_parts (start_of h.spells.written) (rules_of h.spells.written) p h.spells.numbered h.within.rules in

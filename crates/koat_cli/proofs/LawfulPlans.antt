@@ -74,7 +74,7 @@ module _ (laws : Determined) where
       report_rows (IsAnalysisWithFacts p n) (StatesFacts p n) (facts_report_unique laws p n)
       (λ r x h. record { facts = h.facts; kept = h.found.kept; found = h.found.found }) (facts_text_unique laws p n)
 
-  -- and of a number
+  -- the answers about a number are rows
   number_rows : (task : NumberTask) (n : ℕ) → AreRows (number_answers task n)
   number_rows Generate n = (row_of (λ x y a b. a.result_is ∙ sym b.result_is) (λ x a. tt) tt, tt)
   number_rows Selfrun n =

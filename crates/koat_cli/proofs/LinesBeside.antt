@@ -98,7 +98,7 @@ costs_beside at spent entries =
     spent entries
     ∙ ap (λ (ns : List ℕ). lines_beside (spent_line at) 1 ns (map rule_cost_of entries)) (same_list spent)
 
--- and those of the places after a rule are those of their sizes
+-- the lines of the places after a rule are those of their sizes
 pub places_beside : (at : List ℕ) (rule : ℕ) (numbers : List ℕ) (entries : List SizeEntry)
     → place_lines at rule 1 numbers entries ≡ greatest_lines at rule numbers (map size_of entries)
 places_beside at rule numbers entries =
@@ -107,7 +107,7 @@ places_beside at rule numbers entries =
     ∙ ap (λ (ns : List ℕ). lines_beside (λ place n s. greatest_line rule place n (size_value at s)) 1 ns (map size_of entries))
     (same_list numbers)
 
--- the same for those of all rules
+-- the lines of the places after all rules are those of their sizes
 pub rows_beside : {R S : Type 0} (items : R → List ℕ) (entries : S → List SizeEntry) (at : List ℕ) (rows : List R) (sizes : List S)
     → lines_beside (λ rule r s. place_lines at rule 1 (items r) (entries s)) 1 rows sizes
     ≡ lines_beside (greatest_lines at) 1 (map items rows) (map (λ s. map size_of (entries s)) sizes)

@@ -69,7 +69,7 @@ never_memory call x said =
     let h = asked_where call Memory x memory_differs.1 said in
     other_apart Memory refl memory_differs.0 (sort_answered call h.0 Memory x h.1.1)
 
--- so the status of an answer, or of a refusal, comes with a text that was written whole
+-- the status of an answer, or of a refusal, is none of `WriteFault`, `Memory` and `Usage`
 pub answer_whole : (s : Status) → sort_of s ≡ Answer → (s ≢ WriteFault) × ((s ≢ Memory) × (s ≢ Usage))
 answer_whole s is = (
   λ e. let same : Answer ≡ Other = sym is ∙ ap sort_of e in let never : ⊥ = cc in never,

@@ -57,7 +57,7 @@ one_refusal p f x y (AtGap a) (AtGap b) =
     let one = file-refusals-in-line.one (setting_of p) (forms_at p) f a.gap b.gap a.fault b.fault a.refused b.refused in
     a.result_is ∙ (ap (λ (n : ℕ). no_gap_text p n a.fault) one.0 ∙ (ap (λ (r : GapFault). no_gap_text p b.gap r) one.1 ∙ sym b.result_is))
 
--- and it is accepted with one text
+-- a proof file is accepted with one text
 pub one_acceptance : (p : Program) (f : ProofFile) (x y : List ℕ) → IsAcceptance p f x → IsAcceptance p f y → x ≡ y
 one_acceptance p f x y a b =
     let same : a.facts ≡ b.facts = a.accepted.result_is ∙ sym b.accepted.result_is in

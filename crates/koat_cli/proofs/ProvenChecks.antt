@@ -88,7 +88,7 @@ module _ (bytes text : List ℕ) (w : WroteProofText bytes text) where
       by_wrote ((ends_mean w.status w.call w.put w.ends).answered (OfProgram Prove w.pivots w.file) w.asked
       (proved_answer w.status w.proved))
 
-  -- so a check of it ends with `Done`
+  -- a check of a proof file that `prove` wrote ends with `Done`
   ends_done : length text ≤ proof_limit → (call : Call) (put : Put) (h : AsksToCheck call put bytes text) → EndsOn h.files (plan_of (OfPair Check h.file h.second)) Done
   ends_done short call put h =
       let a : Accepted bytes text = accepted in

@@ -9,7 +9,7 @@ use Rattle.call_plans.specs.Lawful.{AreRows}
 use Rattle.call_plans.proofs.Rows.{row_of}
 use Rattle.koat_cli.specs.Found.{status_of, OfReport, by_report}
 
--- a text of a report with the report's status is told by the table
+-- the table answers with the report's status and a text of the report
 pub report_told : (Found : Report → Type 0) (Text : Report → List ℕ → Type 0) (r : Report) (s : Status) (x : List ℕ)
     → s ≡ status_of r → Text r x → Tells (by_report Found Text) s x
 report_told Found Text r s x ends h = go (is_bounded r) refl ends

@@ -45,13 +45,13 @@ row_places p (r ∷ rules) (s ∷ rows) zero row valid same e =
 row_places p (r ∷ rules) (s ∷ rows) (suc j) row valid same e =
     row_places p rules rows j row valid.1 (ap (λ (ns : List ℕ). drop 1 ns) same) e
 
--- and as many rows as there are rules
+-- a report on a program has as many rows of sizes as the program has rules
 as_many_rows : (p : Program) (r : Report) → IsReportOn p r → length r.sizes ≡ length p.rules
 as_many_rows p r on =
     sym (length-map r.sizes length)
     ∙ (ap (λ (ns : List ℕ). length ns) on.sizes ∙ length-map p.rules (λ (rule : Rule). arity_of p rule.target))
 
--- and an entry for the cost of each of them
+-- a report on a program has an entry for the cost of each rule
 as_many_costs : (p : Program) (r : Report) → IsReportOn p r → length r.costs ≡ length p.rules
 as_many_costs p r on =
     sym (length-map r.costs is_some)

@@ -16,11 +16,11 @@ use Rattle.koat_cli.specs.WorkedEnds.{without_words, behind_fault, left_with, Le
 none_asks : (request : Request) → Asks [] request → ⊥
 none_asks request h = omega (arith, ap length h.command)
 
--- so they get the usage text
+-- a call without words gets the usage text
 usage : Says without_words Usage usage_text
 usage = ToNothing none_asks (record { fetches = refl; result_is = refl; ends = refl })
 
--- and no other
+-- a call without words gets no other text
 only_text : (status : Status) (text : List ℕ) → Says without_words status text → text ≡ usage_text
 only_text status text (ToNothing none h) = h.result_is
 only_text status text (ToRequest request asked h) = absurd (none_asks request asked)
@@ -59,7 +59,7 @@ first_bytes bytes h = go (left bytes h)
     go (zero, within, e) = (ap (λ (bs : List ℕ). get_or bs 4 117) e, ap (λ (bs : List ℕ). get_or bs 0 0) e)
     go (suc k, within, e) = (ap (λ (bs : List ℕ). get_or bs 4 117) e, ap (λ (bs : List ℕ). get_or bs 0 0) e)
 
--- and there are no more bytes than both have
+-- the sink has no more bytes than the old text and the usage text together
 few_bytes : (bytes : List ℕ) → Left bytes → length bytes ≤ 263
 few_bytes bytes h = let l = left bytes h in omega (arith, ap length l.2, length-take-le l.0 usage_text l.1, l.1)
 

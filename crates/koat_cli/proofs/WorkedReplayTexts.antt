@@ -44,7 +44,7 @@ paid_within cost spent c s = record {
   greatest = ((omega arith, tt), ((omega arith, tt), tt));
 }
 
--- the same for tallies that are within bounds
+-- which tallies are within the bounds of a report
 pub tallies_bounded : TalliesAreBounded
 tallies_bounded = record {
   whole = record {

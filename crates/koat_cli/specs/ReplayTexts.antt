@@ -30,7 +30,7 @@ abbrev pub size_value : List ℕ → Size → List ℕ
 size_value at (Sized b) = bound_value at (Some b)
 size_value at (Unsized why) = bound_value at None
 
--- a number beside a value, at the end of a line; what steps cost together is itself told up to 2^127
+-- a number beside a value, at the end of a line; what steps cost together is itself printed up to 2^127
 abbrev pub beside_end : ℕ → List ℕ → List ℕ
 beside_end n value = decimal n ++ (codes " of " ++ (value ++ codes "\n"))
 

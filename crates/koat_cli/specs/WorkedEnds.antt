@@ -19,7 +19,7 @@ untold faults = record {
 abbrev pub without_words : Call
 without_words = record { words = []; fetches_before = Some 7; shelf = untold 0 }
 
--- the same call on a shelf that had a fault in it
+-- a call without words, on a shelf that had a fault
 abbrev pub behind_fault : Call
 behind_fault = record { words = []; fetches_before = Some 7; shelf = untold 1 }
 

@@ -25,7 +25,7 @@ abbrev pub Analysed : Seen → Status → List ℕ → Type 0
 Analysed seen status text =
     Says (record { words = codes "analyse" ∷ codes "p" ∷ []; fetches_before = Some 0; shelf = seen }) status text
 
--- so is `replay p -- -q`
+-- `replay p -- -q`, on a shelf of which this was seen, is answered with this status and this text
 abbrev pub Replayed : Seen → Status → List ℕ → Type 0
 Replayed seen status text =
     Says (record {
@@ -34,7 +34,7 @@ Replayed seen status text =
       shelf = seen;
     }) status text
 
--- so is `check p q`
+-- `check p q`, on a shelf of which this was seen, is answered with this status and this text
 abbrev pub Checked : Seen → Status → List ℕ → Type 0
 Checked seen status text =
     Says (record { words = codes "check" ∷ codes "p" ∷ codes "q" ∷ []; fetches_before = Some 0; shelf = seen })

@@ -43,7 +43,7 @@ paying = record {
 abbrev pub silent_on_cost : Report
 silent_on_cost = record paying { costs = None ∷ Some (Uncosted (SizeLarge 9)) ∷ []; total = None }
 
--- and one of the loop where a round costs nothing
+-- the report of the loop in which a round costs nothing
 abbrev pub free : Report
 free = record paying { costs = None ∷ Some (Costed (Constant 0)) ∷ []; total = Some (Constant 1) }
 
@@ -63,7 +63,7 @@ paid_steps = record four_steps { costs = 1 ∷ 6 ∷ []; spent = 7 }
 
 -- each number is beside the value of its bound at the inputs, a bound that is missing is unknown, and values are capped
 -- at 2^127, for a time, for a cost and for a size; a rule without a cost has no line of a cost, whatever its steps
--- cost; what was spent is told up to 2^127, too; the first bad step is stated by its number, and each kind of refusal
+-- cost; what was spent is capped, too; the first bad step is stated by its number, and each kind of refusal
 -- by its word; a run's text may have this many bytes
 pub record ReplaysAreTexts : Type 0 where
   pub whole : text_of_replay (3 ∷ []) four_steps counting

@@ -1,10 +1,9 @@
 //! The program's top call `run`, from the words of the command line to the exit status.
 //!
-//! Builds on all other crates of the program. Its contract is the main theorem: after status 0 of `analyse` the report
-//! on the sink is true on every run of the program that the file spells; after status 0 of `facts` so are the facts and
-//! the report; after status 0 of `check` so are the facts of the proof, whoever made it; after status 0 of `replay` each
-//! number of the tally on the sink is at most the value of the bound beside it; and after status 0 of `lasso` no bound
-//! holds on the use of a rule on the sink.
+//! Builds on all other crates of the program. Its contract is the main theorem: what is on the sink after status 0 is
+//! true on every run of the program that the file spells: with `analyse` the report, with `facts` the facts and the
+//! report, with `check` the facts of the proof, whoever made it. With `replay` each number of the tally is at most the
+//! value of the bound beside it, and with `lasso` no bound holds on the use of a rule that is listed.
 #![tactic(auto)]
 
 mod analysis;

@@ -8,7 +8,7 @@ use Rattle.lasso_check.specs.Checks.{IsFirstDifference}
 same_config : (b c : Config) → b.at ≡ c.at → b.values ≡ c.values → b ≡ c
 same_config b c e f = λ i. record { at = e i; values = f i }
 
--- so are those of which all values were compared
+-- configurations with the same symbol of which all values were compared are the same
 pub all_compared : (b c : Config) (n : ℕ) → b.at ≡ c.at → length b.values ≡ length c.values → length b.values ≤ n
     → take n b.values ≡ take n c.values → b ≡ c
 all_compared b c n at long all same =

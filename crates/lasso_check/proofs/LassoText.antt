@@ -219,7 +219,7 @@ module _ (p : Program) where
         count = (let l = v.2 (omega arith) in omega (arith, l));
       }
 
-  -- and comes to itself
+  -- reading the text of a lasso ends with this lasso
   lasso_comes : (w : WholeLasso) → IsWithin p (whole_of w)
       → (comes (from empty 0 false) (lasso_parts 0 w)).own.lasso ≡ whole_of w
   lasso_comes w h = stem_comes w.parts.stem w.parts.turn (started w) 0 h.stem h.turn
@@ -247,7 +247,7 @@ module _ (p : Program) where
         within = subst (IsWithin p) same h;
       }
 
-  -- and the other way round
+  -- bytes that are the text of a lasso within the limits have no fault
   pub written_stands : (bytes : List ℕ) (l : Lasso) → IsTextWithin p bytes l
       → answer (reader (lassos_of p)) (length bytes) (tokens bytes) ≡ Stands l
   written_stands bytes l h =

@@ -40,7 +40,7 @@ within_short p l h = record {
   turn = steps_short p l.turn h.turn;
 }
 
--- so is a text
+-- a text is that of one lasso at most
 pub one_lasso : OneLasso
 one_lasso = record {
   each = go;

@@ -64,7 +64,7 @@ module _ (law : ReplaysAreDecided) (p : Program) (l : Lasso) where
       let behind : k.behind ≡ h.at = same_end p l.start (both_back l) k.behind h.at k.whole.run h.whole.run in
       no_difference k.before k.behind place (before ∙ sym behind) k.first
 
-  -- nor has it a bad step, and one that is open has none
+  -- a turn that leads back has no bad step, and one that is open has none
   pub round_not_bad : (bad : BadStep) → GoesRoundInRange p l → IsFirstBadStep p l.start (both_back l) bad → ⊥
   round_not_bad bad h k = law.none_bad p l.start (both_back l) bad (h.at, h.whole) k
 
@@ -92,7 +92,7 @@ module _ (law : ReplaysAreDecided) (p : Program) (l : Lasso) where
   verdict-unique (OpenAt i) (Bad b) h k = absurd (open_not_bad i b h k)
   verdict-unique (OpenAt i) (OpenAt j) h k = ap (λ (x : ℕ). OpenAt x) (open-unique i j h k)
 
--- so it is for all lassos
+-- a lasso has at most one verdict
 pub one_verdict : ReplaysAreDecided → LassosHaveOneVerdict
 one_verdict law = record { one = λ p l v w h k. verdict-unique law p l v w h k }
 

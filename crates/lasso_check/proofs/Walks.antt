@@ -42,7 +42,7 @@ turn_step l i n x low e at =
     ∙ (sym (get_or-append-add (map step_of l.stem.items) (map step_of l.turn.items) i (step_of x))
     ∙ ap (λ (k : ℕ). get_or (run_along (lasso_of l)).steps k (step_of x)) position))
 
--- and its own in the turn
+-- a step of the turn has its own position in the turn
 pub own_step : (l : file.Lasso) (i : ℕ) (x : code.Step) → i < length l.turn.items → x ≡ get_or l.turn.items i x
     → step_of x ≡ get_or (map step_of l.turn.items) i (step_of x)
 own_step l i x low e = ap step_of e ∙ sym (get_or-map step_of l.turn.items i x (step_of x) low)
@@ -96,7 +96,7 @@ take-append (x ∷ xs) ys = ap (λ (zs : List Step). x ∷ zs) (take-append xs y
 pub stem_first : (l : Lasso) → first_steps (run_along l) (length l.stem) ≡ stem_back l
 stem_first l = ap reverse (take-append l.stem l.turn)
 
--- and as many as both parts have are those of both
+-- the first steps, as many as both parts have, are those of both
 pub both_first : (l : Lasso) → first_steps (run_along l) (length l.stem + length l.turn) ≡ both_back l
 both_first l =
     ap reverse (take_all (length l.stem + length l.turn) (l.stem ++ l.turn) (omega (arith, length-append l.stem l.turn)))

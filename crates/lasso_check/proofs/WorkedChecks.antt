@@ -51,7 +51,7 @@ bad_not_open : (n : ℕ) (f : StepFault) (i : ℕ) → bad n f ≡ OpenAt i → 
 bad_not_open n f i e = cc
 
 module _ (law : ReplayStepsHaveNoFault) (decided : ReplaysAreDecided) where
-  -- a run in range with one step more, against which nothing stands
+  -- a run in range, longer by one step that has no fault
   more : (p : Program) (z : ℤ) (earlier : List Step) (t : ℕ) (r : Rule) (c : Config) → RunsInRange p (z ∷ []) earlier c
       → rule_at p t ≡ Some r → length c.values ≡ r.left → replay_fault p c (by_rule t) ≡ None
       → RunsInRange p (z ∷ []) (by_rule t ∷ earlier) (after r c)

@@ -18,7 +18,7 @@ limit_at_step s l = ap (λ (b : Bool). when b Limit) (le-leb 1000000 (steps_in s
 no_limit_before : (s : State) → steps_in s.lasso ≤ 999999 → (lasso_bytes small_program).against_byte s 115 ≡ None
 no_limit_before s l = ap (λ (b : Bool). when b Limit) (lt-leb 1000000 (steps_in s.lasso) (omega (arith, l)))
 
--- and no other byte begins a line of a step
+-- no byte but the first one of a line of a step has this fault
 no_other_limit : (s : State) (b : ℕ) → b ≢ 115 → (lasso_bytes small_program).against_byte s b ≡ None
 no_other_limit s b d = ap (λ (c : Bool). if c then when (is_full (steps_in s.lasso)) Limit else None) (ne_eqb b 115 d)
 

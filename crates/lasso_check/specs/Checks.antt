@@ -42,7 +42,7 @@ is_used_in steps t = nat_lt 0 (count t steps)
 abbrev pub rules_of_turn : Program → Lasso → List ℕ
 rules_of_turn p l = filter (is_used_in (turn_back l)) (rule_numbers p)
 
--- what is told of a turn that leads back: its rules, and what it costs
+-- the result for a turn that leads back: its rules, and what it costs
 pub record Turn : Type 0 where
   pub rules : List ℕ
   pub cost : ℕ

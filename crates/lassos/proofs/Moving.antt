@@ -93,7 +93,7 @@ step_on p b s c ds es n h = record {
   };
 }
 
--- so does a path
+-- a path that moves leads on from the moved configuration
 pub path_on : (p : Program) (c : Config) (ds : List ℤ) (steps : List Step) (d : Config) (es : List ℤ) (n : ℕ)
     → PathMoves p c ds steps d es → LeadsTo p (moved_config c ds n) steps (moved_config d es n)
 path_on p c ds [] d es n (e, same) =

@@ -61,7 +61,7 @@ turn_from : (update : Term) (z : ℤ) → pos 1 ≤ℤ z
 turn_from update z low =
     record { rule = one_place_rule 1 1 update positive; numbered = refl; leads = turn_leads update z low }
 
--- and nowhere else
+-- the second rule leads nowhere else
 turn_shows : (update : Term) (z : ℤ) (b c : Config) → b ≡ one_value 1 z → IsStep (looping_by update) b (by_rule 2) c
     → (pos 1 ≤ℤ z) × (c.values ≡ value update (z ∷ []) ∷ [])
 turn_shows update z b c from step =

@@ -22,14 +22,14 @@ module _ (p q : LinearProgram) (agree : Agree p q) where
   bases-same =
       ap (λ (n : ℕ). choose (n + p.rows) p.rows) agree.columns ∙ ap (λ (m : ℕ). choose (q.columns + m) m) agree.rows
 
-  -- the same answers within as many pivots
+  -- linear programs that agree have the same answers within as many pivots
   answer-same : (a : Result Solved SolveError) → IsAnswer p (bases_of p) a → IsAnswer q (bases_of q) a
   answer-same a h = subst (λ (n : ℕ). IsAnswer q n a) bases-same (answers-agree p q (bases_of p) a agree h)
 
   few-same : bases_of p < 2 ^ 32 → bases_of q < 2 ^ 32
   few-same l = subst (λ (n : ℕ). n < 2 ^ 32) bases-same l
 
-  -- and the same ends
+  -- linear programs that agree have the same ends
   end-same : (r : Result Solved WholeError) → IsWholeEnd p r → IsWholeEnd q r
   end-same (Ok s) h = let a = answer-same (Ok s) (h.1, h.2) in (few-same h.0, a.0, a.1)
   end-same (Err (Range k)) h = let a = answer-same (Err (stop.Range k)) (h.1, h.2) in (few-same h.0, a.0, a.1)
@@ -37,7 +37,7 @@ module _ (p q : LinearProgram) (agree : Agree p q) where
   end-same (Err TooMany) h = subst (λ (n : ℕ). 2 ^ 32 ≤ n) bases-same h
   end-same (Err Memory) h = tt
 
-  -- so they have the same answers
+  -- an answer to one of two linear programs that agree is one to the other
   pub lp_answers-agree : (a : LpAnswer) → IsAnswerTo p a → IsAnswerTo q a
   lp_answers-agree (Ended text) h =
       record { end = h.end; reached = end-same (Ok h.end) h.reached; result_is = h.result_is }

@@ -22,7 +22,7 @@ line-same letter i f g (e, d) =
     ap (λ (z : ℤ). letter ++ (decimal i ++ (codes " = " ++ (fraction_text z f.den ++ codes "\n")))) e
     ∙ ap (λ (z : ℤ). letter ++ (decimal i ++ (codes " = " ++ (fraction_text g.num z ++ codes "\n")))) d
 
--- and lists of them the same lines
+-- lists of fractions with the same numerators and denominators have the same lines
 lines-same : (letter : List ℕ) (i : ℕ) (fs gs : List Frac) → AreSameFractions fs gs
     → value_lines letter i fs ≡ value_lines letter i gs
 lines-same letter i [] [] h = refl

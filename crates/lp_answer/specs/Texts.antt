@@ -11,21 +11,21 @@ use Rattle.lp_text.specs.text_core.Readers.{Fault}
 use Rattle.lp_text.specs.declared.kind.LpKind.{LpKind}
 use Rattle.lp_text.specs.declared.kind.LpKind.TheVariants.{Syntax, NumberTooLarge, Limit}
 
--- a fraction: its numerator, and behind a `/` its denominator, unless that is 1
+-- a fraction: its numerator and, unless the denominator is 1, a `/` and the denominator
 abbrev pub fraction_text : ℤ → ℤ → List ℕ
 fraction_text n d = signed_decimal n ++ (if int_eq d (pos 1) then [] else codes "/" ++ signed_decimal d)
 
--- the value of an unknown or of a row: its letter, its number from 0, and the value
+-- the line of an unknown or of a row: its letter, its number from 0, and its value
 abbrev pub value_line : List ℕ → ℕ → Frac → List ℕ
 value_line letter i value =
     letter ++ (decimal i ++ (codes " = " ++ (fraction_text value.num value.den ++ codes "\n")))
 
--- the values from number i on, line by line
+-- the lines of values, whose numbers begin with i
 abbrev pub value_lines : List ℕ → ℕ → List Frac → List ℕ
 value_lines letter i [] = []
 value_lines letter i (value ∷ values) = value_line letter i value ++ value_lines letter (i + 1) values
 
--- how an end begins, and its pivots
+-- the first line of an end: its word, and the number of pivots
 abbrev pub end_line : List ℕ → ℕ → List ℕ
 end_line word pivots = word ++ (codes " after " ++ (decimal pivots ++ codes " pivots\n"))
 
@@ -42,13 +42,13 @@ stop_text (Wide entries) = None
 stop_text TooMany = Some (codes "too many bases\n")
 stop_text Memory = None
 
--- what is wrong with the text of a linear program
+-- the kind of a fault in the text of a linear program
 abbrev pub kind_text : LpKind → List ℕ
 kind_text Syntax = codes "Syntax"
 kind_text NumberTooLarge = codes "NumberTooLarge"
 kind_text Limit = codes "Limit"
 
--- a refusal: the byte, from 0, and what is wrong there
+-- a refusal: the byte, from 0, and the kind of the fault there
 abbrev pub refusal_line : ℕ → List ℕ → List ℕ
 refusal_line at kind = codes "program refused at " ++ (decimal at ++ (codes ": " ++ (kind ++ codes "\n")))
 

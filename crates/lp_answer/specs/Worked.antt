@@ -6,7 +6,7 @@ use Rattle.lp_text.specs.declared.kind.LpKind.TheVariants.{Syntax, NumberTooLarg
 use Rattle.lp_answer.specs.Texts.{fraction_text, value_lines, end_line, stop_text, refusal_text}
 
 pub record AnswersAreWorkedOut : Type 0 where
-  -- whole numbers have no denominator, and a sign stands before the numerator
+  -- whole numbers are printed without a denominator, and a sign comes before the numerator
   pub whole : fraction_text (pos 3) (pos 1) ≡ codes "3"
   pub below : fraction_text (negsuc 6) (pos 1) ≡ codes "-7"
   pub half : fraction_text (pos 1) (pos 2) ≡ codes "1/2"

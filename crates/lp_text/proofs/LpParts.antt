@@ -49,7 +49,7 @@ abbrev pub rows_parts : List Row → List (Part ℕ Numbered)
 rows_parts [] = says (codes "end") (Says 10 ∷ [])
 rows_parts (r ∷ rs) = says (codes "row ") (item_parts r.numbers r.right ++ rows_parts rs)
 
--- what stands behind the second costs, and behind the first ones
+-- the lines after the second costs, and after the first ones
 abbrev pub behind_second : Lp → List (Part ℕ Numbered)
 behind_second p = Does 10 ∷ rows_parts p.rows
 
@@ -86,7 +86,7 @@ abs-with_sign false n = refl
 abs-with_sign true zero = refl
 abs-with_sign true (suc n) = refl
 
--- nothing stands against a number of columns that is from 1 to 64 alone
+-- a number of columns has no fault exactly if it is neither too large nor beyond the limit
 pub columns_taken : (z : ℤ) → against_columns z ≡ None → (is_too_large z ≡ false) × (is_beyond z ≡ false)
 columns_taken z h = go (is_too_large z) refl h
   where
@@ -99,7 +99,7 @@ pub taken_columns : (z : ℤ) → is_too_large z ≡ false → is_beyond z ≡ f
 taken_columns z h k =
     ap (λ (v : Bool). if v then Some NumberTooLarge else when (is_beyond z) Limit) h ∙ when_none (is_beyond z) Limit k
 
--- nothing stands against a number of a row that isn't one too many or too large
+-- a number of a row has no fault exactly if it is neither one too many nor too large
 pub entry_taken : (columns count : ℕ) (z : ℤ) → against_entry columns count z ≡ None
     → (nat_le columns count ≡ false) × (is_too_large z ≡ false)
 entry_taken columns count z h = go (nat_le columns count) refl h
@@ -115,7 +115,7 @@ taken_entry columns count z h k =
     ap (λ (v : Bool). if v then Some Syntax else when (is_too_large z) NumberTooLarge) h
     ∙ when_none (is_too_large z) NumberTooLarge k
 
--- a signed number against which nothing stands is within the limit
+-- a signed number without a fault is within the limit
 signed_small : (section : Section) (s : State) (z : ℤ) → against_signed_in section s z ≡ None → is_too_large z ≡ false
 signed_small Head s z h = (columns_taken z h).0
 signed_small First s z h = none_when (is_too_large z) NumberTooLarge h

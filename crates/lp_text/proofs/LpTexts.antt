@@ -1,4 +1,4 @@
--- When nothing stands against texts of linear programs, what they come to, and so which linear programs are answered.
+-- When texts of linear programs have no fault, the states that they lead to, and so which linear programs are answered.
 use Rattle.std.proofs.Common.{◌≡◌, ℕ, ◌+◌, ◌<◌, ◌≤◌, Bool, true, false, None, List, [], ◌∷◌, ◌++◌, length, refl, ap, sym}
 use Rattle.std.proofs.Common.{subst, ◌∙◌, arith, append_assoc, append-nil, length-append}
 use Rattle.std.specs.Prelude.{ℤ, pos, negsuc, unsigned_abs, nat_le, nat_lt, codes}
@@ -25,7 +25,7 @@ use Rattle.lp_text.proofs.LpParts.{lp_derived, lp_spells}
 abbrev at : State → Spelling State
 at s = record { own = s; numeral = fresh; within = Words; values = [] }
 
--- nothing stands against parts from a state on, and what they come to
+-- from this state the parts have no fault; and the state that they lead to
 abbrev StandsFrom : State → List (Part ℕ Numbered) → Type 0
 StandsFrom s xs = Stand (fold_of lp_bytes) (numbers_of lp_bytes) (at s) xs
 
@@ -39,7 +39,7 @@ less_room n k l = grind (arith, nat_tests)
 room_less : (n k : ℕ) → nat_le n k ≡ false → k < n
 room_less n k h = grind (arith, nat_tests)
 
--- and none are lacking exactly where that test fails
+-- the test for lacking numbers fails exactly if none are lacking
 not_lacking : (n k : ℕ) → n ≤ k → nat_lt k n ≡ false
 not_lacking n k l = grind (arith, nat_tests)
 
@@ -233,7 +233,7 @@ minus_head : (z : ℤ) → MinusStands lp_bytes empty z
 minus_head (pos k) = tt
 minus_head (negsuc k) = refl
 
--- a linear program stands exactly where it is within the limits
+-- the text of a linear program has no fault exactly if the program is within the limits
 lp_stands : (p : Lp) → IsWithin p → StandsFrom empty (lp_parts 0 p)
 lp_stands p h =
     let columns : unsigned_abs p.columns ≡ h.columns = ap unsigned_abs h.counted in
@@ -280,7 +280,7 @@ stand_lp p h =
       few_rows = (let l = rows.1 in omega (arith, l));
     }
 
--- and comes to itself
+-- reading the text of a linear program ends with this program
 lp_comes : (p : Lp) → (comes empty (lp_parts 0 p)).own.lp ≡ p
 lp_comes p =
     ap (λ (s : Spelling State). s.own.lp)
@@ -297,7 +297,7 @@ stands_written bytes p e =
     let same : w.0 ≡ p = sym (lp_comes w.0) ∙ w.3 in
     record { text = ap text_of (sym same) ∙ (sym (lp_spells w.0) ∙ w.1); within = subst IsWithin same (stand_lp w.0 w.2) }
 
--- and the other way round
+-- bytes that are the text of a linear program within the limits have no fault
 pub written_stands : (bytes : List ℕ) (p : Lp) → IsTextWithin bytes p
     → answer (reader lps) (length bytes) (tokens bytes) ≡ Stands p
 written_stands bytes p h =

@@ -1,4 +1,4 @@
--- The texts of linear programs: what is remembered of one, and what stands against it.
+-- The texts of linear programs: the state of reading, and the faults of tokens.
 use Rattle.std.specs.Prelude.{ℕ, Bool, ◌||◌, ◌==◌, nat_lt, nat_le, int_lt, if◌then◌else◌, ℤ, pos, unsigned_abs}
 use Rattle.std.specs.Prelude.{List, [], ◌∷◌, ◌++◌, length, Option, Some, None}
 use Rattle.text_grammar.specs.text_core.Choices.{when}
@@ -36,15 +36,15 @@ is_too_large z = nat_lt number_limit (unsigned_abs z)
 abbrev pub is_beyond : ℤ → Bool
 is_beyond z = int_lt z (pos 1) || int_lt (pos size_limit) z
 
--- what stands against a number of columns: that it is too large, or beyond the limit
+-- the fault of a number of columns: it is too large, or beyond the limit
 abbrev pub against_columns : ℤ → Option LpKind
 against_columns z = if is_too_large z then Some NumberTooLarge else when (is_beyond z) Limit
 
--- what stands against a number of a row, behind so many: that it is one too many, or too large
+-- the fault of a number of a row, after so many: it is one too many, or too large
 abbrev pub against_entry : ℕ → ℕ → ℤ → Option LpKind
 against_entry columns count z = if nat_le columns count then Some Syntax else when (is_too_large z) NumberTooLarge
 
--- what stands against a signed number
+-- the fault of a signed number
 abbrev pub against_signed_in : Section → State → ℤ → Option LpKind
 against_signed_in Head s z = against_columns z
 against_signed_in Rows s z = against_entry (columns_of s) (length s.numbers) z
@@ -52,16 +52,16 @@ against_signed_in First s z = when (is_too_large z) NumberTooLarge
 against_signed_in Second s z = when (is_too_large z) NumberTooLarge
 against_signed_in Right s z = when (is_too_large z) NumberTooLarge
 
--- what stands against a byte of a line of costs, of which so many have been read: against a blank, that there is one for
--- each column, and against a line feed, that there isn't
+-- the fault of a byte of a line of costs, of which so many have been read: of a blank, that there is one for
+-- each column, and of a line feed, that there isn't
 abbrev pub against_costs : ℕ → ℕ → ℕ → Option LpKind
 against_costs columns count b =
     if b == 32 then when (nat_le columns count) Syntax
     else if b == 10 then when (nat_lt count columns) Syntax
     else None
 
--- what stands against a byte behind so many rows and so many numbers of a row: against an `r`, that a row too many
--- begins with it; against `=`, that numbers are lacking; and against a `-`, that none is
+-- the fault of a byte after so many rows and so many numbers of a row: of an `r`, that a row too many begins with
+-- it; of `=`, that numbers are lacking; and of a `-`, that none is
 abbrev pub against_row : ℕ → ℕ → ℕ → ℕ → Option LpKind
 against_row columns rows count b =
     if b == 114 then when (nat_le size_limit rows) Limit
@@ -69,7 +69,7 @@ against_row columns rows count b =
     else if b == 45 then when (nat_le columns count) Syntax
     else None
 
--- what stands against a byte
+-- the fault of a byte
 abbrev pub against_byte_in : Section → State → ℕ → Option LpKind
 against_byte_in Head s b = None
 against_byte_in First s b = against_costs (columns_of s) (length s.lp.first) b

@@ -3,7 +3,7 @@
 /// What is being read.
 #[derive(Clone, Copy, Debug, PartialEq, Eq)]
 pub enum Section {
-    /// What stands before the first costs.
+    /// The lines before the first costs.
     Head,
     /// The first costs, or the word behind them.
     First,

@@ -1,4 +1,4 @@
-//! Texts of linear programs as texts in bytes: what is remembered of one while it is read, and what stands against it.
+//! Texts of linear programs as texts in bytes: the state of reading, and the faults of tokens.
 
 ghost use Rattle.std.specs.Prelude.{◌≡◌};
 ghost use Rattle.lp_text.specs.Lps.{Lp};
@@ -29,7 +29,7 @@ pub struct State {
     pub numbers: Vec<i128>,
 }
 
-// What stands against a byte of a line of costs, of which `count` have been read.
+// The fault of a byte of a line of costs, of which `count` have been read.
 fn against_costs(columns: u128, count: u128, byte: u8) -> Option<LpKind>
     ensures { result ≡ against_costs_at columns count byte }
 {
@@ -40,7 +40,7 @@ fn against_costs(columns: u128, count: u128, byte: u8) -> Option<LpKind>
     }
 }
 
-// What stands against a byte of a row behind so many numbers, and behind so many rows.
+// The fault of a byte of a row after so many numbers, and after so many rows.
 fn against_row(columns: u128, rows: u128, count: u128, byte: u8) -> Option<LpKind>
     ensures { result ≡ against_row_at columns rows count byte }
 {
@@ -52,7 +52,7 @@ fn against_row(columns: u128, rows: u128, count: u128, byte: u8) -> Option<LpKin
     }
 }
 
-// What stands against a number of columns.
+// The fault of a number of columns.
 fn against_columns(number: i128) -> Option<LpKind>
     ensures { result ≡ against_columns_at number }
 {

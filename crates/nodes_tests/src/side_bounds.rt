@@ -27,7 +27,7 @@ fn sizes(alloc: Global) -> Result<Vec<Fact>, Memory> {
     ]?)
 }
 
-// These places, with arms of no importance.
+// These places, with side bounds that don't matter.
 fn members(alloc: Global, result_variables: &[(u32, u32)]) -> Result<Vec<Member>, Memory> {
     let mut members = Vec::new(alloc);
     for (rule, place) in result_variables {
@@ -45,7 +45,7 @@ fn members(alloc: Global, result_variables: &[(u32, u32)]) -> Result<Vec<Member>
     Ok(members)
 }
 
-// What is shown, the denominator, coefficients and constant of an arm, the members, and the arm after rule 1.
+// What is shown, the denominator, coefficients and constant of a side bound, the members, and the one after rule 1.
 const LINEAR: &[(&str, u64, [i64; 3], i64, &[(u32, u32)], &str)] = &[
     (
         "each part is rounded up",

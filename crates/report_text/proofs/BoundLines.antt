@@ -38,7 +38,7 @@ listed_plain (n ∷ names) are zero = name_plain n are.0
 listed_plain (n ∷ names) are (suc i) = listed_plain names are.2 i
 
 module _ (names : List Name) (are : AreNames names) where
-  -- the same for a piece
+  -- the text of a piece of a bound is plain
   piece_plain : (piece : Piece) → list_all is_plain (spelled names piece) ≡ true
   piece_plain (Variable i) = listed_plain names are i
   piece_plain (Number n) = all_plain n
@@ -52,7 +52,7 @@ module _ (names : List Name) (are : AreNames names) where
   piece_plain Comma = refl
   piece_plain Wrong = refl
 
-  -- and pieces are
+  -- the texts of pieces of a bound are plain
   pieces_plain : (ps : List Piece) → list_all is_plain (bytes_of names ps) ≡ true
   pieces_plain [] = refl
   pieces_plain (piece ∷ ps) = both_plain (spelled names piece) (bytes_of names ps) (piece_plain piece) (pieces_plain ps)

@@ -52,7 +52,7 @@ all_weaker p q leads (c ∷ xs) h =
 digit_counts : (c : ℕ) → is_ascii_digit c ≡ true → counts c ≡ true
 digit_counts c h = rw h refl
 
--- and no line feed
+-- a digit is no line feed
 digit_plain : (c : ℕ) → is_ascii_digit c ≡ true → is_plain c ≡ true
 digit_plain c h = grind (arith, nat_tests)
 
@@ -60,7 +60,7 @@ digit_plain c h = grind (arith, nat_tests)
 pub all_count : (n : ℕ) → list_all counts (decimal n) ≡ true
 all_count n = all_weaker is_ascii_digit counts digit_counts (decimal n) (all_digits n)
 
--- and none is a line feed
+-- no byte of a numeral is a line feed
 pub all_plain : (n : ℕ) → list_all is_plain (decimal n) ≡ true
 all_plain n = all_weaker is_ascii_digit is_plain digit_plain (decimal n) (all_digits n)
 

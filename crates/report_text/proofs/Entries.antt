@@ -26,7 +26,7 @@ line_of names gaps n (times.Gap g) = refl
 line_of names gaps n (times.OutOfLimits t) = refl
 line_of names gaps n (times.Large nodes) = refl
 
--- and the lines of all rules
+-- the lines of all rules are those of their times
 pub times_same : (names : List Name) (gaps : List Gap) (es : List TimeEntry)
     → numbered_lines (entry_line names) 1 es ≡ numbered_lines (time_line names) 1 (map (time_of gaps) es)
 times_same names gaps es = numbered_same (entry_line names) (time_line names) (time_of gaps) (line_of names gaps) 1 es
@@ -42,7 +42,7 @@ pub costs_same : (names : List Name) (es : List (Option CostEntry))
     → numbered_lines (λ rule c. cost_line names rule (rule_cost_of c)) 1 es ≡ numbered_lines (cost_line names) 1 (map rule_cost_of es)
 costs_same names es = numbered_same (λ rule c. cost_line names rule (rule_cost_of c)) (cost_line names) rule_cost_of (λ n e. refl) 1 es
 
--- and so are the lines that say why their bounds are missing
+-- the lines that say why bounds on costs are missing are those of the report
 pub why_costs_same : (es : List (Option CostEntry))
     → numbered_lines (λ rule c. why_cost rule (rule_cost_of c)) 1 es ≡ numbered_lines why_cost 1 (map rule_cost_of es)
 why_costs_same es = numbered_same (λ rule c. why_cost rule (rule_cost_of c)) why_cost rule_cost_of (λ n e. refl) 1 es

@@ -62,7 +62,7 @@ module _ (names : List Name) (are : AreNames names) where
   total_ends (Some b) = bound_line names are b
   total_ends None = none_line
 
-  -- the same for a size
+  -- a size ends its line
   size_ends : (s : Size) → IsLine (size_end names s)
   size_ends (Sized b) = bound_line names are b
   size_ends (Unsized w) = none_line

@@ -48,7 +48,7 @@ ended_point = determined_before point_determined (codes "\n") Any (λ u s. refl)
 line_determined : (word : List ℕ) (rule : ℕ) → Determines IsPrintablePoint (point_line word rule) Any
 line_determined word rule = determined_behind (determined_behind (determined_behind (determined_behind (determined_behind ended_point (codes ": ")) (decimal rule)) (codes " ")) word) (codes "  ")
 
--- and what it begins with
+-- the beginning of the line of a point
 line_begins : (word : List ℕ) (rule : ℕ) (p : ScaledPoint) (more u : List ℕ)
     → (point_line word rule p ++ more) ++ u ≡ codes "  " ++ (word ++ ((codes " " ++ (decimal rule ++ (codes ": " ++ (point_text p ++ codes "\n")))) ++ (more ++ u)))
 line_begins word rule p more u =

@@ -2,7 +2,7 @@
 pub mod Lists
 -- entries of an outcome as those of its report
 pub mod Entries
--- texts that determine their subject: numbers, lists, points, trips, symbols' places, gaps and reasons
+-- texts that determine their subject: numbers, lists, points, limit hits, symbols' places, gaps and reasons
 pub mod TellingTexts
 pub mod Digits
 pub mod Commas

@@ -94,14 +94,14 @@ three_pushed old p q r a b c d e f ep ea eq eb er ec =
     ∙ (ap (λ (t : List ℕ). (old ++ (d ++ e)) ++ t) ec
     ∙ (append_assoc old (d ++ e) f ∙ ap (λ (t : List ℕ). old ++ t) (append_assoc d e f))))
 
--- the same for four pieces
+-- four appended pieces follow the text in order, each given by an equation
 pub four_pushed : (old p q r s a b c d e f g h : List ℕ) → p ≡ old ++ a → a ≡ e → q ≡ p ++ b → b ≡ f → r ≡ q ++ c → c ≡ g
     → s ≡ r ++ d → d ≡ h → s ≡ old ++ (e ++ (f ++ (g ++ h)))
 four_pushed old p q r s a b c d e f g h ep ea eq eb er ec es ed =
     let whole : s ≡ ((old ++ e) ++ f) ++ g ++ h = cc in
     whole ∙ (append_assoc ((old ++ e) ++ f) g h ∙ (append_assoc (old ++ e) f (g ++ h) ∙ append_assoc old e (f ++ (g ++ h))))
 
--- and for five pieces
+-- five appended pieces follow the text in order, each given by an equation
 pub five_pushed : (old p q r s t a b c d e f g h i j : List ℕ) → p ≡ old ++ a → a ≡ f → q ≡ p ++ b → b ≡ g → r ≡ q ++ c
     → c ≡ h → s ≡ r ++ d → d ≡ i → t ≡ s ++ e → e ≡ j → t ≡ old ++ (f ++ (g ++ (h ++ (i ++ j))))
 five_pushed old p q r s t a b c d e f g h i j ep ea eq eb er ec es ed et ee =

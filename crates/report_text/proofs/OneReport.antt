@@ -1,4 +1,4 @@
--- A text states one report at most: it is read line by line from the front.
+-- A text states at most one report: it is read line by line.
 use Rattle.std.proofs.Common.{◌≡◌, ℕ, zero, suc, ◌+◌, ◌^◌, ◌≤◌, List, [], ◌∷◌, ◌++◌, length, map, get_or, drop}
 use Rattle.std.proofs.Common.{Bool, Option, is_some, slice_get, refl, sym, ◌∙◌, ap, append_assoc, arith}
 use Rattle.std.specs.List.{AllByRecursion, list_all}
@@ -30,7 +30,7 @@ arity_small (x ∷ symbols) (suc s) are = arity_small symbols s are.1
 abbrev HasPlaces : Program → List (List Size) → List Rule → Type 0
 HasPlaces p rows rules = map length rows ≡ map (λ rule. arity_of p rule.target) rules
 
--- so they are short
+-- the rows of sizes of a report are short
 rows_short : (p : Program) → IsValid p → (rows : List (List Size)) (rules : List Rule) → HasPlaces p rows rules → AllByRecursion (λ row. 1 + length row ≤ 2 ^ 64) rows
 rows_short p valid [] rules e = tt
 rows_short p valid (row ∷ rows) [] e = absurd cc
@@ -39,7 +39,7 @@ rows_short p valid (row ∷ rows) (rule ∷ rules) e =
     let same : length row ≡ arity_of p rule.target = ap (λ (xs : List ℕ). get_or xs 0 0) e in
     (omega (arith, few, same), rows_short p valid rows rules (ap (drop 1) e))
 
--- and those of two reports are paired
+-- the rows of sizes of two reports on one program are paired
 rows_paired : (p : Program) (rs ss : List (List Size)) (rules : List Rule) → HasPlaces p rs rules → HasPlaces p ss rules → Pairs (λ r s. length r ≡ length s) rs ss
 rows_paired p [] [] rules a b = tt
 rows_paired p [] (s ∷ ss) [] a b = absurd cc
@@ -69,7 +69,7 @@ costs_paired [] (d ∷ ds) e = absurd cc
 costs_paired (c ∷ cs) [] e = absurd cc
 costs_paired (c ∷ cs) (d ∷ ds) e = (ap (λ (bs : List Bool). get_or bs 0 (is_some c)) e, costs_paired cs ds (ap (drop 1) e))
 
--- and there are as many as rules
+-- there are as many entries for costs as rules
 costs_many : (cs : List (Option RuleCost)) (rules : List Rule) → map is_some cs ≡ map (λ rule. is_some rule.cost) rules → length cs ≡ length rules
 costs_many cs rules e = sym (length-map cs is_some) ∙ (ap length e ∙ length-map rules (λ rule. is_some rule.cost))
 

@@ -40,7 +40,7 @@ first_is (questions.Rank rule) u = refl
 first_is (questions.Local rule place) u = refl
 first_is (questions.Cost rule) u = refl
 
--- the same for that of a limit
+-- the first byte of the text of a limit
 first_cause_is : (c : LimitCause) (u : List ℕ) → get_or (cause_text c ++ u) 0 0 ≡ first_of_cause c
 first_cause_is (causes.Range pivot) u = refl
 first_cause_is (causes.Budget pivots) u = refl

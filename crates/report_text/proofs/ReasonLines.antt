@@ -23,7 +23,7 @@ use Rattle.report_text.proofs.Questions.{limit_hit_determined, large_determined}
 use Rattle.report_text.proofs.SymbolNames.{names_of}
 use Rattle.report_text.proofs.GapLines.{Whys, gap_determined}
 
--- a trip at the end of a line
+-- a limit hit at the end of a line
 ended_limit_hit : Determines IsPrintableLimitHit (λ t. limit_hit_text t ++ codes "\n") Any
 ended_limit_hit = determined_before limit_hit_determined (codes "\n") Any (λ u s. refl)
 
@@ -35,7 +35,7 @@ ended_large = determined_before large_determined (codes "\n") Any (λ u s. tt)
 abbrev time_kind : List ℕ → ℕ
 time_kind w = if get_or w 0 0 == 110 then 0 else if (get_or w 0 0 == 108) && (get_or w 1 0 == 97) then 2 else 1
 
--- the same of the reason
+-- the kind of a reason why a time is missing, of the reason itself
 abbrev kind_of_time : NoTime → ℕ
 kind_of_time (NoFunction g) = 0
 kind_of_time (TimeTripped t) = 1
@@ -51,7 +51,7 @@ size_kind w =
     else if (get_or w 0 0 == 108) && (get_or w 2 0 == 111) then 0
     else 1
 
--- the same of the reason
+-- the kind of a reason why a size is missing, of the reason itself
 abbrev kind_of_size : NoSize → ℕ
 kind_of_size (SizeUnbounded side ray kept) = 0
 kind_of_size (SizeTripped t) = 1
@@ -99,7 +99,7 @@ no_time_determined symbols are = record { each = λ x y u v p q s t e. go x y u 
     go (TimeLarge m) (TimeLarge n) u v p q s t e k = let r = ended_large.each m n u v p q tt tt e in (ap TimeLarge r.0, r.1)
     go x y u v p q s t e k = absurd (omega (arith, k))
 
--- the rest of a loose side's lines: the ray and the point
+-- the remaining lines of an unbounded side: the ray and the point
 unbounded_determined : Determines (λ (z : List ℤ × ScaledPoint). AllByRecursion IsShortSigned z.0 × IsPrintablePoint z.1)
     (λ (z : List ℤ × ScaledPoint). codes "  ray: " ++ (parts_text z.0 ++ (codes "\n  kept: " ++ (point_text z.1 ++ codes "\n")))) Any
 unbounded_determined = determined_behind (determined_both parts_determined (determined_behind (determined_before point_determined (codes "\n") Any (λ u s. refl)) (codes "\n  kept: ")) (λ p u fits after. tt)) (codes "  ray: ")
@@ -111,11 +111,11 @@ side_one Low Low u v e = (refl, same_behind (codes "loose low\n") u v e)
 side_one Up Low u v e = absurd (let no : 117 ≡ 108 = ap (λ (x : List ℕ). get_or x 6 0) e in omega (arith, no))
 side_one Low Up u v e = absurd (let no : 108 ≡ 117 = ap (λ (x : List ℕ). get_or x 6 0) e in omega (arith, no))
 
--- the side of a loose place
+-- which side of a place is unbounded
 side_determined : Determines (λ (x : Side). ⊤) side_text Any
 side_determined = record { each = λ x y u v p q s t e. side_one x y u v e }
 
--- a spot behind a word, at the end of a line
+-- a result variable after a word, at the end of a line
 spotted : (w : List ℕ) → Determines IsPrintableResultVariable (λ s. w ++ (result_variable_text s ++ codes "\n")) Any
 spotted w = determined_behind (determined_before result_variable_determined (codes "\n") Any (λ u s. refl)) w
 

@@ -37,7 +37,7 @@ valid_names (s ∷ symbols) are = (are.0.name, valid_names symbols are.1)
 byte_plain : (c : ℕ) → continues_name c ≡ true → is_plain c ≡ true
 byte_plain c h = grind (arith, nat_tests)
 
--- nor is its first one
+-- the first byte of a name is no line feed
 first_plain : (c : ℕ) → begins_name c ≡ true → is_plain c ≡ true
 first_plain c h = byte_plain c (rw h refl)
 

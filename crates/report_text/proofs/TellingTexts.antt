@@ -27,11 +27,11 @@ pub same_behind : (w u v : List ℕ) → w ++ u ≡ w ++ v → u ≡ v
 same_behind [] u v e = e
 same_behind (c ∷ w) u v e = same_behind w u v (ap (drop 1) e)
 
--- the same, where more follows
+-- the text after the same words, if more follows
 pub inside : (w x y u v : List ℕ) → (w ++ x) ++ u ≡ (w ++ y) ++ v → x ++ u ≡ y ++ v
 inside w x y u v e = same_behind w (x ++ u) (y ++ v) (sym (append_assoc w x u) ∙ (e ∙ append_assoc w y v))
 
--- and where three texts come before
+-- the text after three texts that are the same
 pub inside_three : (a b c x y u v : List ℕ) → (a ++ (b ++ (c ++ x))) ++ u ≡ (a ++ (b ++ (c ++ y))) ++ v → x ++ u ≡ y ++ v
 inside_three a b c x y u v e = inside c x y u v (inside b (c ++ x) (c ++ y) u v (inside a (b ++ (c ++ x)) (b ++ (c ++ y)) u v e))
 

@@ -189,7 +189,7 @@ row_other lead is rule k (Unsized w ∷ row) u h = record {
       is.other (sym (here ∙ is.has x));
 }
 
--- nor do those of all places
+-- the reasons of all places of all rules don't begin like those of times and of costs
 sizes_other : (lead : List ℕ) → IsOtherLead lead → (k : ℕ) (rows : List (List Size)) → IsLater lead (numbered_lines why_sizes k rows)
 sizes_other lead is k [] = record {
   whys = tt;
@@ -199,7 +199,7 @@ sizes_other lead is k [] = record {
 }
 sizes_other lead is k (row ∷ rows) = row_other lead is k 1 row (numbered_lines why_sizes (suc k) rows) (sizes_other lead is (suc k) rows)
 
--- so the reasons of places are later than those of costs
+-- the reasons of places come after those of costs
 pub sizes_no_cost : (n k : ℕ) (rows : List (List Size)) → IsLater (cost_lead n) (numbered_lines why_sizes k rows)
 sizes_no_cost n k rows =
     sizes_other (cost_lead n) (record { fifth = 99; has = λ w. refl; some = λ e. omega (arith, e); other = λ e. omega (arith, e) }) k rows

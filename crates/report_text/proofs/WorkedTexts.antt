@@ -46,7 +46,7 @@ determined = record {
   of_missing = refl;
 }
 
--- the lines of costs, and what tells them apart
+-- the lines of costs, and texts that distinguish reports
 cost_texts : CostTexts
 unfolding text_of_report digits
 cost_texts = record {
@@ -101,7 +101,7 @@ cost_texts = record {
   left_out = λ h. (let no = h.costs in cc);
 }
 
--- and what they don't
+-- reports that texts don't distinguish
 untold : TextsDontTell
 unfolding text_of_report digits
 untold = record {

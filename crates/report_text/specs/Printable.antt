@@ -71,12 +71,12 @@ IsPrintableCause (causes.Budget pivots) = IsShort pivots
 IsPrintableCause (causes.Wide entries) = IsShort entries
 IsPrintableCause causes.Scale = ⊤
 
--- the numbers of a trip fit
+-- the numbers of a limit hit fit
 pub record IsPrintableLimitHit (t : LimitHit) : Type 0 where
   pub question : IsPrintableQuestion t.question
   pub cause : IsPrintableCause t.cause
 
--- and those of a rule and a place
+-- the numbers of a rule and a place fit
 pub record IsPrintableResultVariable (s : ResultVariable) : Type 0 where
   pub rule : IsShort s.rule
   pub place : IsShort s.place

@@ -75,7 +75,7 @@ no_time_text symbols (NoFunction g) = gap_text symbols g
 no_time_text symbols (TimeTripped t) = limit_hit_text t ++ codes "\n"
 no_time_text symbols (TimeLarge nodes) = large_text nodes ++ codes "\n"
 
--- a loose side, with its ray and the point from which it starts
+-- an unbounded side, with its ray and the point from which it starts
 abbrev pub side_text : Side → List ℕ
 side_text Up = codes "loose up\n"
 side_text Low = codes "loose low\n"

@@ -156,7 +156,7 @@ fn push_size_start(text: &mut Vec<u8>, rule: u64, place: u64) -> Result<(), Memo
     text.extend_from_slice(b": ")
 }
 
-// A loose side, its ray, and the point from which it starts.
+// An unbounded side, its ray, and the point from which it starts.
 fn push_unbounded(text: &mut Vec<u8>, unbounded: &UnboundedSide) -> Result<(), Memory>
     ensures { OnOk result (text.new.items ≡ text.old.items ++ no_size_text (unbounded_of unbounded.now)) }
 {
@@ -168,7 +168,7 @@ fn push_unbounded(text: &mut Vec<u8>, unbounded: &UnboundedSide) -> Result<(), M
     text.extend_from_slice(b"\n")
 }
 
-// Which side is loose.
+// Which side is unbounded.
 fn push_side(text: &mut Vec<u8>, up: bool) -> Result<(), Memory>
     ensures { OnOk result (text.new.items ≡ text.old.items ++ side_text (side_by up)) }
 {

@@ -1,4 +1,4 @@
-//! Trips in a report.
+//! Limit hits in a report.
 
 ghost use Rattle.std.specs.Prelude.{◌≡◌, ◌++◌, decimal, OnOk};
 ghost use Rattle.report_text.specs.Reasons.{question_text, cause_text, limit_hit_text, large_text};
