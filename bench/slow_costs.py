@@ -1,8 +1,8 @@
 """The bounds on costs in a report, plainly and slowly, by their description alone: nothing of the crates is used.
 
 `Costs(program, pivots, times, sizes)` takes a program of `slow_forms.py`, the pivots that a linear program may take,
-and the bounds on times and sizes of a report. `answer(rule)` is what the analysis answers of a rule's cost: a bound with
-the lemma that states it, or why there is none. Every linear program is written out and followed by Bland's rule over
+and the bounds on times and sizes of a report. `answer(rule)` is what the analysis answers of a rule's cost: a bound
+with the lemma that states it, or why there is none. Every linear program is written out and followed by Bland's rule over
 fractions, so that the side bound, the limit and the ray are those of the program, number by number.
 """
 
@@ -77,9 +77,9 @@ def solved(columns, first, second, rows, right, pivots):
         made += 1
 
 
-def follows(forms, sought, fixed, value, pivots):
-    """The side bound of a form in the arguments that is at least the value wherever the rows hold: one with coefficients
-    at the places sought and a constant, where that is sought too, and otherwise these fixed coefficients."""
+def form_above(forms, sought, fixed, value, pivots):
+    """The side bound of a form in the arguments that is at least the value wherever the rows hold: one with
+    coefficients at the places sought and a constant, where that is sought too, and else these fixed coefficients."""
     places, has_constant = sought
     width = 2 * len(places) + (2 if has_constant else 0)
     columns = width + len(forms.rows) + 1
@@ -205,10 +205,10 @@ class Costs:
                     asked.append((([], False), fixed))
             for sought, fixed in asked:
                 try:
-                    return follows(forms, sought, fixed, value, self.pivots)
+                    return form_above(forms, sought, fixed, value, self.pivots)
                 except Infeasible:
                     pass
-        return follows(forms, (every, True), none, value, self.pivots)
+        return form_above(forms, (every, True), none, value, self.pivots)
 
 
 def listed(numbers):
