@@ -1,6 +1,7 @@
 //! Reads a file and answers what its text stands for.
 
 ghost use Rattle.std.specs.Prelude.{◌≡◌, ◌≤◌, ◌<◌, List, ℕ, IfOk, string_bytes};
+ghost use Rattle.outside_io.specs.Counts.{one_more};
 ghost use Rattle.call_plans.specs.Calls.{seen_of};
 ghost use Rattle.call_plans.specs.Plans.{Answers, Reads, Tells, OnPlan};
 
@@ -41,6 +42,7 @@ pub fn answer_file<C: FileCommand, F: Shelf>(
     requires { C.ready command.now }
     ensures keeps_files { F.held shelf.new ≡ F.held shelf.old }
     ensures keeps_count { F.faults shelf.old ≤ F.faults shelf.new }
+    ensures counted { F.fetches shelf.new ≡ one_more (F.fetches shelf.old) }
     ensures fault { IfOk result (λ said.
         F.faults shelf.old < F.faults shelf.new → said.status ≡ Status.ReadFault) }
     ensures says { IfOk result (λ said. OnPlan (seen_of F.Shelf shelf.old shelf.new) (F.fetches shelf.old)

@@ -21,8 +21,8 @@ pub enum Read<T> {
 /// A reader of texts of one kind.
 ///
 /// Its meanings are `Plain`, the plain data that texts stand for; `kind`, the kind of the texts; `plain`, a thing as
-/// plain data; `ready`, what holds of a reader that may read; and `answers`, the table by which what a text stands for
-/// is answered, empty where a plan reads another file first.
+/// plain data; `ready`, what holds of a reader that may read; and `answers`, the table by which a `FileCommand` answers
+/// what a text stands for, which is `End` for a reader that is none.
 pub trait Reader {
     /// What a text stands for.
     type Thing: Drop;

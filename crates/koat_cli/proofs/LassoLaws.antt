@@ -1,22 +1,18 @@
--- A report whose bounds hold on all runs has no time for some rule of a lasso's turn, and so no analysis of a program
--- has one for a rule of a turn that `lasso` found of it.
+-- A report whose bounds hold on all runs has no time for some rule of a lasso's turn, and none for any rule of a turn that
+-- `lasso` wrote.
 use Rattle.std.proofs.Common.{◌≡◌, ◌≢◌, Bool, true, false, ℕ, zero, suc, ◌-◌, ◌≤◌, ◌<◌, List, [], ◌∷◌, ◌++◌, length, ℤ}
 use Rattle.std.proofs.Common.{Option, Some, refl, sym, ◌∙◌, subst, arith, inl, inr}
-use Rattle.std.proofs.lemmas.Bool.{and_parts, both_ways}
 use Rattle.std.proofs.lemmas.List.Elements.{All-weaker}
-use Rattle.std.specs.Prelude.{⊤, slice_get}
-use Rattle.std.specs.FinMap.{get}
+use Rattle.std.specs.Prelude.{slice_get}
 use Rattle.std.specs.List.{All, list_all}
-use Rattle.model.specs.Facts.{HoldsTime}
+use Rattle.model.specs.Facts.{HoldsTime, HoldsTotal}
 use Rattle.model.specs.Programs.{Program, Rule, rule_at}
 use Rattle.model.specs.Runs.{Config, Step, IsRun}
 use Rattle.model.specs.Bounds.{Bound}
-use Rattle.its_reader.specs.its_text.Spelling.{SpellsWithin}
-use Rattle.its_reader.proofs.its_text.ReaderLaws.{one_program}
 use Rattle.command_line.specs.Lines.{Word}
 use Rattle.command_line.specs.Requests.{OfPair}
 use Rattle.command_line.specs.declared.task.PairTask.TheVariants.{Lasso as LassoTask}
-use Rattle.outcome.specs.Reports.{Time, Timed, Untimed, Report, is_timed, is_costed}
+use Rattle.outcome.specs.Reports.{Time, Timed, Untimed, Report, is_timed}
 use Rattle.outcome.specs.Holding.{IsReportOn, ReportHolds, numbered_entry}
 use Rattle.run_replay.proofs.RuleNumbers.{rule_some}
 use Rattle.lassos.specs.Lassos.{IsUsed}
@@ -26,16 +22,12 @@ use Rattle.lasso_check.specs.Lassos.{Lasso, stem_back, turn_back}
 use Rattle.lasso_check.proofs.Endlessness.{goes_round}
 use Rattle.call_plans.specs.declared.status.Status.TheVariants.{Done, NotARun}
 use Rattle.call_plans.specs.Calls.{Put}
-use Rattle.call_plans.specs.Gives.{Gives}
 use Rattle.call_plans.specs.Meanings.{Appended, Wrote}
-use Rattle.call_plans.proofs.GivenFiles.{given}
 use Rattle.koat_cli.specs.Calls.{Call}
 use Rattle.koat_cli.specs.Commands.Lasso.{StatesTurn}
 use Rattle.koat_cli.specs.Ends.{Ends}
-use Rattle.koat_cli.specs.LassoLaws.{HasBytes, EndsEndless, AsksToAnalyse, AnalysesMissTimes, LassosLeaveTimesMissing}
-use Rattle.koat_cli.specs.ProgramTexts.{programs}
+use Rattle.koat_cli.specs.LassoLaws.{WroteTurn, LassosLeaveTimesMissing}
 use Rattle.koat_cli.specs.RequestPlans.{plan_of}
-use Rattle.koat_cli.specs.WroteReport.{WroteReport}
 use Rattle.koat_cli.proofs.EndsMean.{ends_mean}
 
 -- some rule of the program is used in a turn
@@ -75,91 +67,33 @@ module _ (endless : LassosAreEndless) (no_time : EndlessRulesHaveNoTime) (p : Pr
 done_differs : Done ≡ NotARun → ⊥
 done_differs e = cc
 
--- what is there is one
-there_unique : (there : Option (List ℕ)) (a b : List ℕ) → there ≡ Some a → there ≡ Some b → a ≡ b
-there_unique there a b left right = let e : Some a ≡ Some b = sym left ∙ right in cc
-
--- a file that gives a program has its bytes
-given_spells : (call : Call) (file : Word) (bytes : List ℕ) (Last : Type 0) (p : Program) → HasBytes call file bytes
-    → Gives programs call.shelf file Last p → SpellsWithin bytes p
-given_spells call file bytes Last p has gives =
-    let same : gives.bytes ≡ bytes =
-    there_unique (get has.files file) gives.bytes bytes
-    (given call.shelf.held has.files file gives.bytes has.held gives.held) has.there in
-    subst (λ (b : List ℕ). SpellsWithin b p) same gives.stands
-
--- a lasso of a program that these bytes spell has a turn, and a text states it
-record StatesTurnOf (bytes : List ℕ) (put : Put) : Type 0 where
-  pub program : Program
-  pub spelled : SpellsWithin bytes program
-  pub lasso : Lasso
-  pub text : List ℕ
-  pub stated : StatesTurn program lasso text
-  pub appended : Appended put text
-
-turn_stated : (bytes : List ℕ) (call : Call) (put : Put) (e : EndsEndless bytes call put)
-    → Wrote call.shelf put (plan_of (OfPair LassoTask e.file e.second)) Done → StatesTurnOf bytes put
-turn_stated bytes call put e (p, (gives, (l, (also, (x, (inl told, appended)))))) = record {
+-- what was written of a lasso is its turn, and no report whose bounds hold on every run has a time for a rule of it, or a
+-- total where it costs something
+turn_written : (call : Call) (put : Put) (file second : Word)
+    → Wrote call.shelf put (plan_of (OfPair LassoTask file second)) Done → WroteTurn call put file
+turn_written call put file second (p, (gives, (l, (also, (x, (inl told, appended)))))) = record {
   program = p;
-  spelled = given_spells call e.file bytes ⊥ p e.held gives;
+  given = gives;
   lasso = l;
-  text = x;
-  stated = told.1;
-  appended = appended;
+  turn = told.1.turn;
+  is_turn = told.1.is_turn;
+  written = subst (λ (y : List ℕ). Appended put y) told.1.result_is appended;
+  no_time = λ report holds.
+      All-weaker (λ (rule : ℕ). (time : Bound) → ¬ (HoldsTime p rule time))
+      (λ (rule : ℕ). (time : Bound) → numbered_entry report.times rule ≢ Some (Timed time))
+      (λ rule none time entry. none time (holds.times rule time entry)) told.1.turn.rules told.1.no_time;
+  no_total = λ costs report holds total is. told.1.no_total costs total (holds.total total is);
 }
-turn_stated bytes call put e (p, (gives, (l, (also, (x, (inr (inl told), appended)))))) =
+turn_written call put file second (p, (gives, (l, (also, (x, (inr (inl told), appended)))))) =
     absurd (done_differs told.0)
-turn_stated bytes call put e (p, (gives, (l, (also, (x, (inr (inr (inl told)), appended)))))) =
+turn_written call put file second (p, (gives, (l, (also, (x, (inr (inr (inl told)), appended)))))) =
     absurd (done_differs told.0)
-turn_stated bytes call put e (p, (gives, (l, (also, (x, (inr (inr (inr never)), appended)))))) = absurd never
-
--- no analysis of the program has a time for a rule of the turn, and none ends with `Done`
-module _ (missing : (p : Program) (l : Lasso) (r : Report) → GoesRoundInRange p l → IsReportOn p r → ReportHolds p r
-    → list_all is_timed r.times ≡ false)
-    (bytes : List ℕ) (put : Put) (t : StatesTurnOf bytes put) where
-  same_program : (pivots : ℕ) (call : Call) (other : Put) (r : Report) (a : AsksToAnalyse bytes pivots call)
-      → (w : WroteReport call other pivots a.file r) → w.program ≡ t.program
-  same_program pivots call other r a w =
-      one_program.each bytes w.program t.program (given_spells call a.file bytes ⊤ w.program a.held w.given).spells
-      t.spelled.spells
-
-  report_holds : (pivots : ℕ) (call : Call) (other : Put) (r : Report) (a : AsksToAnalyse bytes pivots call)
-      → WroteReport call other pivots a.file r → IsReportOn t.program r × ReportHolds t.program r
-  report_holds pivots call other r a w =
-      subst (λ (p : Program). IsReportOn p r × ReportHolds p r) (same_program pivots call other r a w)
-      (w.stated.report, w.found.true_on_all_runs)
-
-  no_time : (pivots : ℕ) (call : Call) (other : Put) (r : Report) (a : AsksToAnalyse bytes pivots call)
-      → WroteReport call other pivots a.file r
-      → All (λ rule. (time : Bound) → numbered_entry r.times rule ≢ Some (Timed time)) t.stated.turn.rules
-  no_time pivots call other r a w =
-      All-weaker (λ (rule : ℕ). (time : Bound) → ¬ (HoldsTime t.program rule time))
-      (λ (rule : ℕ). (time : Bound) → numbered_entry r.times rule ≢ Some (Timed time))
-      (λ rule none time entry. none time ((report_holds pivots call other r a w).1.times rule time entry))
-      t.stated.turn.rules t.stated.no_time
-
-  not_done : (pivots : ℕ) (call : Call) (other : Put) → AsksToAnalyse bytes pivots call → ¬ (Ends Done call other)
-  not_done pivots call other a ends =
-      let d = (ends_mean Done call other ends).done pivots a.file a.asked refl in
-      let on = report_holds pivots call other d.0 a d.1 in
-      both_ways (list_all is_timed d.0.times)
-      (missing t.program t.lasso d.0 t.stated.is_turn.round on.0 on.1)
-      (and_parts (list_all is_timed d.0.times) (list_all is_costed d.0.costs) d.2).0
-
-  misses : AnalysesMissTimes bytes t.stated.turn.rules
-  misses = record { no_time = no_time; not_done = not_done }
+turn_written call put file second (p, (gives, (l, (also, (x, (inr (inr (inr never)), appended)))))) = absurd never
 
 pub times_missing : LassosAreEndless → EndlessRulesHaveNoTime → LassosLeaveTimesMissing
 times_missing endless none = record {
   each = λ p l r round on holds. some_untimed endless none p l r round on holds;
-  of_calls = λ bytes call put e.
-      let t : StatesTurnOf bytes put =
-      turn_stated bytes call put e
-      ((ends_mean Done call put e.ends).answered (OfPair LassoTask e.file e.second) e.asked refl) in (
-        t.stated.turn,
-        (
-          subst (λ (x : List ℕ). Appended put x) t.stated.result_is t.appended,
-          misses (λ p l r. some_untimed endless none p l r) bytes put t,
-        ),
-      );
+  of_calls = λ call put file second asked ends.
+      turn_written call put file second
+      ((ends_mean Done call put ends).answered (OfPair LassoTask file second) asked refl);
 }

@@ -40,13 +40,13 @@ Checked seen status text =
     Says (record { words = codes "check" ∷ codes "p" ∷ codes "q" ∷ []; fetches_before = Some 0; shelf = seen })
     status text
 
--- so is `lasso p q`
+-- `lasso p q`, on a shelf of which this was seen, is answered with this status and this text
 abbrev pub Turned : Seen → Status → List ℕ → Type 0
 Turned seen status text =
     Says (record { words = codes "lasso" ∷ codes "p" ∷ codes "q" ∷ []; fetches_before = Some 0; shelf = seen })
     status text
 
--- and so is `lp p`
+-- `lp p`, on a shelf of which this was seen, is answered with this status and this text
 abbrev pub Solved : Seen → Status → List ℕ → Type 0
 Solved seen status text =
     Says (record { words = codes "lp" ∷ codes "p" ∷ []; fetches_before = Some 0; shelf = seen }) status text

@@ -53,8 +53,9 @@ pub fn analysis_texts_state_one_report()
     ensures { AnalysisTextsStateOneReport }
 {}
 
-/// The law that no report on a program with a lasso has a time for every rule, where its bounds hold on all runs. Its
-/// contract is the law; it has no code but the law of lassos.
+/// The law that no report on a program with a lasso has a time for every rule, where its bounds hold on all runs; and
+/// that where `lasso` ended with `Done`, no such report on the program in its first file has a time for a rule of the
+/// turn that was written. Its contract is the law; it has no code but the law of lassos.
 pub fn lassos_leave_times_missing()
     ensures { LassosLeaveTimesMissing }
 {

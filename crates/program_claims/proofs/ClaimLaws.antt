@@ -1,7 +1,7 @@
 -- What an accepted claim comes to holds on all runs of the program.
 use Rattle.std.proofs.Common.{◌≡◌, ◌≢◌, ◌⊎◌, inl, inr, ◌≤◌, ℕ, zero, suc, ◌==◌, true, false, List, [], ◌∷◌}
 use Rattle.std.proofs.Common.{map, Option, Some, None, refl, sym, ap, ◌∙◌, subst, arith}
-use Rattle.std.specs.Prelude.{ℤ, pos, neg_ℤ, ◌≤ℤ◌, slice_get, ⊤}
+use Rattle.std.specs.Prelude.{ℤ, pos, negsuc, neg_ℤ, ◌≤ℤ◌, nat_abs, Bool, slice_get, if◌then◌else◌, ⊤}
 use Rattle.std.specs.Option.{option_map}
 use Rattle.std.proofs.lemmas.Int.{ints}
 use Rattle.std.proofs.lemmas.Bool.Decides.{eqb_tells}
@@ -18,22 +18,26 @@ use Rattle.refinement.specs.Laws.{same_numbers}
 use Rattle.refinement.proofs.Bounds.{cost-below}
 use Rattle.refinement.proofs.Keeping.{simulation_keeps_bounds}
 use Rattle.signed_bounds.specs.Bounds.{Signed, signed_val}
+use Rattle.signed_bounds.specs.Safe.{IsSafe, expands_to_squares}
+use Rattle.signed_bounds.specs.Within.{WithinHolds}
 use Rattle.potentials.specs.Sums.{Weight, weighed, charges, once_for, cost_for, cost_of_each, HoldsSum}
 use Rattle.potentials.proofs.SumLaws.{count-is, spent-is, spent-all-is}
-use Rattle.potential_nodes.specs.Facts.{SignedFact, AllSignedHold, sum_bound, one_form}
+use Rattle.potential_nodes.specs.Facts.{SignedFact, PeakFact, SizeFact, HoldsSigned, AllSignedHold, sum_bound, one_form}
+use Rattle.potential_nodes.specs.Facts.{is_never}
 use Rattle.potential_nodes.specs.FactMeanings.{HasUpdate}
-use Rattle.potential_nodes.proofs.FactLaws.{sum_bound-holds}
+use Rattle.potential_nodes.proofs.BoundLaws.{within-above}
+use Rattle.potential_nodes.proofs.FactLaws.{sum_bound-holds, never-steps}
 use Rattle.potential_nodes.proofs.FactMeaningLaws.{facts_bound_runs}
 use Rattle.program_claims.specs.Claims.{Claim, OnTime, OnCost, OnTotal, OnAbove, OnBelow}
 use Rattle.program_claims.specs.Claims.{Stated, Time, Cost, Total, Above, Below, HoldsOf, AllHoldOf}
 use Rattle.poly_terms.specs.Expanding.{expanded}
 use Rattle.program_claims.specs.Copies.{copies_of, charge_each, cost_charges, update_at, written_cost}
-use Rattle.program_claims.specs.Acceptance.{peaks_by, greatest, time_stated, cost_stated, above_stated, below_stated}
+use Rattle.program_claims.specs.Acceptance.{are_heads_within, time_stated, cost_stated, above_stated, below_stated}
 use Rattle.program_claims.specs.Acceptance.{stated_by, with_stated, all_stated}
 use Rattle.program_claims.specs.Laws.{AcceptedClaimsHold, OwnClaimsHold}
 use Rattle.program_claims.proofs.Weights.{weighed-at_most, weighed-below}
 use Rattle.program_claims.proofs.CopyLaws.{copy-charged, cost-charged}
-use Rattle.program_claims.proofs.PeakBounds.{IsBounded, copy-bounded, greatest-value}
+use Rattle.program_claims.proofs.PeakBounds.{HasHead, copy-bounded}
 
 -- an option that is mapped to something is there
 mapped : {A B : Type 0} (f : A → B) (o : Option A) (y : B) → option_map f o ≡ Some y
@@ -56,6 +60,20 @@ of-rule p t place u h = go (rule_at p t) refl place refl h
     go None e k at h' = absurd (none_some u h')
     go (Some r) e zero at h' = absurd (none_some u h')
     go (Some r) e (suc i) at h' = (r, i, e, at, h')
+
+-- an integer, and its opposite, are at most its absolute value
+pub up-to : (z : ℤ) (n : ℕ) → nat_abs z ≤ n → z ≤ℤ pos n
+up-to (pos m) n h = omega (arith, ints, h)
+up-to (negsuc m) n h = omega (arith, ints, h)
+
+pub down-to : (z : ℤ) (n : ℕ) → nat_abs z ≤ n → neg_ℤ z ≤ℤ pos n
+down-to (pos m) n h = omega (arith, ints, h)
+down-to (negsuc m) n h = omega (arith, ints, h)
+
+-- the same value at the end of the run below
+ends-same : (o : Projection) (c end : Config) (i : ℕ) → config_below o end ≡ c
+    → place_value end (suc i) ≡ place_value c (suc i)
+ends-same o c end i e = ap (λ (x : Config). place_value x (suc i)) e
 
 module _ (p q : Program) (o : Projection) (HasFacts : Config → Type 0) (simulates : Simulates q p o HasFacts)
     (facts : List SignedFact) (hold : AllSignedHold q facts) where
@@ -155,65 +173,94 @@ module _ (p q : Program) (o : Projection) (HasFacts : Config → Type 0) (simula
         update = ap (λ (us : List Term). slice_get us i) (b.copies.updates ∙ ap (λ (x : Rule). x.updates) same) ∙ at;
       }
 
-  -- the bound that is stated on a form at the last step of a lifted run
-  module _ (n : ℕ) (form : Polynomial) (ns : List ℕ) (all : List Signed)
-      (stated : peaks_by facts form (copies_of q o n) ns ≡ Some all) where
-    bounded : (t : ℕ) (copy : Rule) → rule_at q t ≡ Some copy → o.rule t ≡ n → IsBounded q t form all
-    bounded zero copy h below = absurd (none_some copy h)
-    bounded (suc k) copy h below =
-        copy-bounded q o n facts hold form 1 q.rules ns all stated k (suc k) copy h (omega arith) below
+  -- the value at a place at the end of a run of q, or its opposite, is at most the bound of a claim
+  module _ (within_holds : WithinHolds) (safe : IsSafe expands_to_squares) (n i : ℕ) (u : Term) (r : Rule)
+      (ns : List ℕ) (bound : Signed) (there : rule_at p n ≡ Some r) (at : slice_get r.updates i ≡ Some u) where
+    headed : (form : Polynomial)
+        → are_heads_within facts form (suc i) bound (copies_of q o n) ns ≡ true → (t : ℕ) (copy : Rule)
+        → rule_at q t ≡ Some copy → o.rule t ≡ n → HasHead q facts form (suc i) bound t
+    headed form stated zero copy h below = absurd (none_some copy h)
+    headed form stated (suc k) copy h below =
+        copy-bounded q facts hold form (suc i) bound o n 1 q.rules ns stated k (suc k) copy h (omega arith) below
 
-    -- what is at most that bound is at most the greatest
-    at-greatest : (z : ℤ) (start : List ℤ) (t : ℕ) (b : IsBounded q t form all) → z ≤ℤ pos (signed_val b.bound start)
-        → z ≤ℤ pos (signed_val (greatest all) start)
-    at-greatest z start t b h =
-        let most = b.at_most start in let same = greatest-value all start in omega (arith, ints, h, most, same)
+    above-end : (start : List ℤ) (s : Step) (earlier : List Step) (end : Config) → IsRun q start (s ∷ earlier) end
+        → o.rule s.rule ≡ n → HasUpdate q s.rule i u → HasHead q facts (expanded u) (suc i) bound s.rule
+        → place_value end (suc i) ≤ℤ pos (signed_val bound start)
+    above-end start s earlier end (b, run, step) below has h =
+        let most = within-above within_holds expands_to_squares safe h.own bound h.low start in go most h.why
+      where
+        go : signed_val h.own start ≤ signed_val bound start
+            → (is_never facts s.rule ≡ true) ⊎ (HoldsSigned q (PeakFact s.rule (expanded u) h.own)
+            ⊎ HoldsSigned q (SizeFact s.rule (suc i) h.own)) → place_value end (suc i) ≤ℤ pos (signed_val bound start)
+        go most (inl never) =
+            absurd (never-steps q s.rule facts hold never start b s end (record { earlier = earlier; run = run; step = step }) refl)
+        go most (inr (inl peak)) =
+            let low =
+            facts_bound_runs.above q s.rule i u (expanded u) h.own has (record { each = expanded-value u }) peak start s
+            earlier end (b, run, step) refl in
+            omega (arith, ints, low, most)
+        go most (inr (inr size)) =
+            let low = up-to (place_value end (suc i)) (signed_val h.own start)
+            (size.each start (s ∷ earlier) end (b, run, step) refl) in
+            omega (arith, ints, low, most)
 
-  -- the same value at the end of the run below
-  ends-same : (c end : Config) (i : ℕ) → config_below o end ≡ c → place_value end (suc i) ≡ place_value c (suc i)
-  ends-same c end i e = ap (λ (x : Config). place_value x (suc i)) e
+    below-end : (start : List ℤ) (s : Step) (earlier : List Step) (end : Config) → IsRun q start (s ∷ earlier) end
+        → o.rule s.rule ≡ n → HasUpdate q s.rule i u
+        → HasHead q facts (expanded (Negation u)) (suc i) bound s.rule
+        → neg_ℤ (place_value end (suc i)) ≤ℤ pos (signed_val bound start)
+    below-end start s earlier end (b, run, step) below has h =
+        let most = within-above within_holds expands_to_squares safe h.own bound h.low start in go most h.why
+      where
+        go : signed_val h.own start ≤ signed_val bound start
+            → (is_never facts s.rule ≡ true) ⊎ (HoldsSigned q (PeakFact s.rule (expanded (Negation u)) h.own)
+            ⊎ HoldsSigned q (SizeFact s.rule (suc i) h.own))
+            → neg_ℤ (place_value end (suc i)) ≤ℤ pos (signed_val bound start)
+        go most (inl never) =
+            absurd (never-steps q s.rule facts hold never start b s end (record { earlier = earlier; run = run; step = step }) refl)
+        go most (inr (inl peak)) =
+            let low =
+            facts_bound_runs.below q s.rule i u (expanded (Negation u)) h.own has (λ env. expanded-value (Negation u) env)
+            peak start s earlier end (b, run, step) refl in
+            omega (arith, ints, low, most)
+        go most (inr (inr size)) =
+            let low = down-to (place_value end (suc i)) (signed_val h.own start)
+            (size.each start (s ∷ earlier) end (b, run, step) refl) in
+            omega (arith, ints, low, most)
 
-  above-holds : (n i : ℕ) (u : Term) (r : Rule) (ns : List ℕ) (all : List Signed) → rule_at p n ≡ Some r
-      → slice_get r.updates i ≡ Some u → peaks_by facts (expanded u) (copies_of q o n) ns ≡ Some all
-      → HoldsOf p (Above n (suc i) (greatest all))
-  above-holds n i u r ns all there at stated = record {
-    each = λ start steps c run last.
-        let l = ((simulation_keeps_bounds HasFacts).lifts p q o simulates).each start steps c run in
-        let end = go start l.above l.end l.run (ap last_rule l.steps_below ∙ last) in
-        subst (λ (z : ℤ). z ≤ℤ pos (signed_val (greatest all) start)) (ends-same c l.end i l.end_below) end;
-  }
-    where
-      go : (start : List ℤ) (steps : List Step) (end : Config) → IsRun q start steps end
-          → last_rule (map (step_below o) steps) ≡ n
-          → place_value end (suc i) ≤ℤ pos (signed_val (greatest all) start)
-      go start [] end run last = absurd (numbered-above p n r there (sym last))
-      go start (s ∷ earlier) end (b, run, step) last =
-          let has = update-below n i u r there at s.rule step.rule step.numbered last in
-          let bound = bounded n (expanded u) ns all stated s.rule step.rule step.numbered last in
-          at-greatest n (expanded u) ns all stated (place_value end (suc i)) start s.rule bound
-          (facts_bound_runs.above q s.rule i u (expanded u) bound.bound has (record { each = expanded-value u })
-          bound.holds start s earlier end (b, run, step) refl)
+    above-holds : are_heads_within facts (expanded u) (suc i) bound (copies_of q o n) ns ≡ true
+        → HoldsOf p (Above n (suc i) bound)
+    above-holds stated = record {
+      each = λ start steps c run last.
+          let l = ((simulation_keeps_bounds HasFacts).lifts p q o simulates).each start steps c run in
+          let end = go start l.above l.end l.run (ap last_rule l.steps_below ∙ last) in
+          subst (λ (z : ℤ). z ≤ℤ pos (signed_val bound start)) (ends-same o c l.end i l.end_below) end;
+    }
+      where
+        go : (start : List ℤ) (steps : List Step) (end : Config) → IsRun q start steps end
+            → last_rule (map (step_below o) steps) ≡ n → place_value end (suc i) ≤ℤ pos (signed_val bound start)
+        go start [] end run last = absurd (numbered-above p n r there (sym last))
+        go start (s ∷ earlier) end (b, run, step) last =
+            above-end start s earlier end (b, run, step) last
+            (update-below n i u r there at s.rule step.rule step.numbered last)
+            (headed (expanded u) stated s.rule step.rule step.numbered last)
 
-  below-holds : (n i : ℕ) (u : Term) (r : Rule) (ns : List ℕ) (all : List Signed) → rule_at p n ≡ Some r
-      → slice_get r.updates i ≡ Some u → peaks_by facts (expanded (Negation u)) (copies_of q o n) ns ≡ Some all
-      → HoldsOf p (Below n (suc i) (greatest all))
-  below-holds n i u r ns all there at stated = record {
-    each = λ start steps c run last.
-        let l = ((simulation_keeps_bounds HasFacts).lifts p q o simulates).each start steps c run in
-        let end = go start l.above l.end l.run (ap last_rule l.steps_below ∙ last) in
-        subst (λ (z : ℤ). neg_ℤ z ≤ℤ pos (signed_val (greatest all) start)) (ends-same c l.end i l.end_below) end;
-  }
-    where
-      go : (start : List ℤ) (steps : List Step) (end : Config) → IsRun q start steps end
-          → last_rule (map (step_below o) steps) ≡ n
-          → neg_ℤ (place_value end (suc i)) ≤ℤ pos (signed_val (greatest all) start)
-      go start [] end run last = absurd (numbered-above p n r there (sym last))
-      go start (s ∷ earlier) end (b, run, step) last =
-          let has = update-below n i u r there at s.rule step.rule step.numbered last in
-          let bound = bounded n (expanded (Negation u)) ns all stated s.rule step.rule step.numbered last in
-          at-greatest n (expanded (Negation u)) ns all stated (neg_ℤ (place_value end (suc i))) start s.rule bound
-          (facts_bound_runs.below q s.rule i u (expanded (Negation u)) bound.bound has
-          (λ env. expanded-value (Negation u) env) bound.holds start s earlier end (b, run, step) refl)
+    below-holds : are_heads_within facts (expanded (Negation u)) (suc i) bound (copies_of q o n) ns ≡ true
+        → HoldsOf p (Below n (suc i) bound)
+    below-holds stated = record {
+      each = λ start steps c run last.
+          let l = ((simulation_keeps_bounds HasFacts).lifts p q o simulates).each start steps c run in
+          let end = go start l.above l.end l.run (ap last_rule l.steps_below ∙ last) in
+          subst (λ (z : ℤ). neg_ℤ z ≤ℤ pos (signed_val bound start)) (ends-same o c l.end i l.end_below) end;
+    }
+      where
+        go : (start : List ℤ) (steps : List Step) (end : Config) → IsRun q start steps end
+            → last_rule (map (step_below o) steps) ≡ n
+            → neg_ℤ (place_value end (suc i)) ≤ℤ pos (signed_val bound start)
+        go start [] end run last = absurd (numbered-above p n r there (sym last))
+        go start (s ∷ earlier) end (b, run, step) last =
+            below-end start s earlier end (b, run, step) last
+            (update-below n i u r there at s.rule step.rule step.numbered last)
+            (headed (expanded (Negation u)) stated s.rule step.rule step.numbered last)
 
   -- each kind of claim
   time-claim : (n m : ℕ) (x : Option Rule) → rule_at p n ≡ x → (s : Stated)
@@ -237,47 +284,64 @@ module _ (p q : Program) (o : Projection) (HasFacts : Config → Type 0) (simula
       let (b, stated, is) = mapped Total (sum_bound facts (cost_charges 1 q.rules) m) s h in
       subst (λ (x : Stated). HoldsOf p x) (sym is) (total-holds m b stated)
 
-  above-claim : (n place : ℕ) (ns : List ℕ) (y : Option Term) → update_at (rule_at p n) place ≡ y → (s : Stated)
-      → above_stated q o facts n place ns y ≡ Some s → HoldsOf p s
-  above-claim n place ns None e s h = absurd (none_some s h)
-  above-claim n place ns (Some u) e s h =
-      let (r, i, there, same, at) = of-rule p n place u e in
-      let (all, stated, is) =
-      mapped (λ bounds. Above n place (greatest bounds)) (peaks_by facts (expanded u) (copies_of q o n) ns) s h in
-      subst (λ (x : Stated). HoldsOf p x) (sym (is ∙ ap (λ (k : ℕ). Above n k (greatest all)) same))
-      (above-holds n i u r ns all there at stated)
+  module _ (within_holds : WithinHolds) (safe : IsSafe expands_to_squares) where
+    above-claim : (n place : ℕ) (ns : List ℕ) (bound : Signed) (y : Option Term) → update_at (rule_at p n) place ≡ y
+        → (s : Stated) → above_stated q o facts n place ns bound y ≡ Some s → HoldsOf p s
+    above-claim n place ns bound None e s h = absurd (none_some s h)
+    above-claim n place ns bound (Some u) e s h =
+        go (are_heads_within facts (expanded u) place bound (copies_of q o n) ns) refl h (of-rule p n place u e)
+      where
+        go : (v : Bool) → are_heads_within facts (expanded u) place bound (copies_of q o n) ns ≡ v
+            → (if v then Some (Above n place bound) else None) ≡ Some s
+            → (r : Rule) × (i : ℕ) × (rule_at p n ≡ Some r) × (place ≡ suc i) × (slice_get r.updates i ≡ Some u)
+            → HoldsOf p s
+        go false stated k at = absurd (none_some s k)
+        go true stated k (r, i, there, same, at) =
+            let fits : are_heads_within facts (expanded u) (suc i) bound (copies_of q o n) ns ≡ true =
+            subst (λ (j : ℕ). are_heads_within facts (expanded u) j bound (copies_of q o n) ns ≡ true) same stated in
+            subst (λ (x : Stated). HoldsOf p x) (ap (λ (j : ℕ). Above n j bound) (sym same) ∙ some_same (Above n place bound) s k)
+            (above-holds within_holds safe n i u r ns bound there at fits)
 
-  below-claim : (n place : ℕ) (ns : List ℕ) (y : Option Term) → update_at (rule_at p n) place ≡ y → (s : Stated)
-      → below_stated q o facts n place ns y ≡ Some s → HoldsOf p s
-  below-claim n place ns None e s h = absurd (none_some s h)
-  below-claim n place ns (Some u) e s h =
-      let (r, i, there, same, at) = of-rule p n place u e in
-      let (all, stated, is) =
-      mapped (λ bounds. Below n place (greatest bounds)) (peaks_by facts (expanded (Negation u)) (copies_of q o n) ns) s
-      h in
-      subst (λ (x : Stated). HoldsOf p x) (sym (is ∙ ap (λ (k : ℕ). Below n k (greatest all)) same))
-      (below-holds n i u r ns all there at stated)
+    below-claim : (n place : ℕ) (ns : List ℕ) (bound : Signed) (y : Option Term) → update_at (rule_at p n) place ≡ y
+        → (s : Stated) → below_stated q o facts n place ns bound y ≡ Some s → HoldsOf p s
+    below-claim n place ns bound None e s h = absurd (none_some s h)
+    below-claim n place ns bound (Some u) e s h =
+        go (are_heads_within facts (expanded (Negation u)) place bound (copies_of q o n) ns) refl h (of-rule p n place u e)
+      where
+        go : (v : Bool) → are_heads_within facts (expanded (Negation u)) place bound (copies_of q o n) ns ≡ v
+            → (if v then Some (Below n place bound) else None) ≡ Some s
+            → (r : Rule) × (i : ℕ) × (rule_at p n ≡ Some r) × (place ≡ suc i) × (slice_get r.updates i ≡ Some u)
+            → HoldsOf p s
+        go false stated k at = absurd (none_some s k)
+        go true stated k (r, i, there, same, at) =
+            let fits : are_heads_within facts (expanded (Negation u)) (suc i) bound (copies_of q o n) ns ≡ true =
+            subst (λ (j : ℕ). are_heads_within facts (expanded (Negation u)) j bound (copies_of q o n) ns ≡ true) same
+            stated in
+            subst (λ (x : Stated). HoldsOf p x) (ap (λ (j : ℕ). Below n j bound) (sym same) ∙ some_same (Below n place bound) s k)
+            (below-holds within_holds safe n i u r ns bound there at fits)
 
-  claim-holds : (claim : Claim) (s : Stated) → stated_by p q o facts claim ≡ Some s → HoldsOf p s
-  claim-holds (OnTime n m) s h = time-claim n m (rule_at p n) refl s h
-  claim-holds (OnCost n m) s h = cost-claim n m (rule_at p n) refl (written_cost (rule_at p n)) refl s h
-  claim-holds (OnTotal m) s h = total-claim m s h
-  claim-holds (OnAbove n place ns) s h = above-claim n place ns (update_at (rule_at p n) place) refl s h
-  claim-holds (OnBelow n place ns) s h = below-claim n place ns (update_at (rule_at p n) place) refl s h
+    claim-holds : (claim : Claim) (s : Stated) → stated_by p q o facts claim ≡ Some s → HoldsOf p s
+    claim-holds (OnTime n m) s h = time-claim n m (rule_at p n) refl s h
+    claim-holds (OnCost n m) s h = cost-claim n m (rule_at p n) refl (written_cost (rule_at p n)) refl s h
+    claim-holds (OnTotal m) s h = total-claim m s h
+    claim-holds (OnAbove n place ns bound) s h = above-claim n place ns bound (update_at (rule_at p n) place) refl s h
+    claim-holds (OnBelow n place ns bound) s h = below-claim n place ns bound (update_at (rule_at p n) place) refl s h
 
-  claims-hold : (claims : List Claim) → AllHoldOf p (all_stated p q o facts claims)
-  claims-hold [] = tt
-  claims-hold (claim ∷ claims) = go (stated_by p q o facts claim) refl (claims-hold claims)
-    where
-      go : (x : Option Stated) → stated_by p q o facts claim ≡ x → AllHoldOf p (all_stated p q o facts claims)
-          → AllHoldOf p (with_stated x (all_stated p q o facts claims))
-      go None e ih = ih
-      go (Some s) e ih = (claim-holds claim s e, ih)
+    claims-hold : (claims : List Claim) → AllHoldOf p (all_stated p q o facts claims)
+    claims-hold [] = tt
+    claims-hold (claim ∷ claims) = go (stated_by p q o facts claim) refl (claims-hold claims)
+      where
+        go : (x : Option Stated) → stated_by p q o facts claim ≡ x → AllHoldOf p (all_stated p q o facts claims)
+            → AllHoldOf p (with_stated x (all_stated p q o facts claims))
+        go None e ih = ih
+        go (Some s) e ih = (claim-holds claim s e, ih)
 
-pub claims_hold : AcceptedClaimsHold
-claims_hold = record {
-  one = λ p s runs. claim-holds p (spelled p s) (projection_of p s) (HasFactsOf s) runs.simulates;
-  all = λ p s runs. claims-hold p (spelled p s) (projection_of p s) (HasFactsOf s) runs.simulates;
+pub claims_hold : WithinHolds → IsSafe expands_to_squares → AcceptedClaimsHold
+claims_hold within_holds safe = record {
+  one = λ p s runs facts hold. claim-holds p (spelled p s) (projection_of p s) (HasFactsOf s) runs.simulates facts hold
+      within_holds safe;
+  all = λ p s runs facts hold. claims-hold p (spelled p s) (projection_of p s) (HasFactsOf s) runs.simulates facts hold
+      within_holds safe;
 }
 
 -- a program simulates itself
@@ -307,5 +371,8 @@ itself p = record {
   kept = λ t r copy c d free facts h below guard leads. tt;
 }
 
-pub own_claims_hold : OwnClaimsHold
-own_claims_hold = record { all = λ p facts hold claims. claims-hold p p same_numbers (λ c. ⊤) (itself p) facts hold claims }
+pub own_claims_hold : WithinHolds → IsSafe expands_to_squares → OwnClaimsHold
+own_claims_hold within_holds safe = record {
+  all = λ p facts hold claims.
+      claims-hold p p same_numbers (λ c. ⊤) (itself p) facts hold within_holds safe claims;
+}

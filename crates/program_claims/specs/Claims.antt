@@ -8,15 +8,15 @@ use Rattle.signed_bounds.specs.Bounds.{Signed, signed_val}
 
 -- A claim, with the numbers of the lemmas that it cites: on how often a rule occurs; on what the steps of a rule cost
 -- together; on what all steps cost together; and on the value at a place after a rule, from above and from below, with
--- a lemma for each copy of the rule. Places are numbered from 1.
+-- a lemma for each copy of the rule, and the bound. Places are numbered from 1.
 pub data Claim : Type 0 where
   OnTime : ℕ → ℕ → Claim
   OnCost : ℕ → ℕ → Claim
   OnTotal : ℕ → Claim
-  OnAbove : ℕ → ℕ → List ℕ → Claim
-  OnBelow : ℕ → ℕ → List ℕ → Claim
+  OnAbove : ℕ → ℕ → List ℕ → Signed → Claim
+  OnBelow : ℕ → ℕ → List ℕ → Signed → Claim
 
--- what a claim comes to: a bound over the start values on how often a rule occurs, on what its steps cost, on what all
+-- what a claim states: a bound over the start values on how often a rule occurs, on what its steps cost, on what all
 -- steps cost, on the value at a place after a rule, and on the opposite of that value
 pub data Stated : Type 0 where
   Time : ℕ → Signed → Stated
@@ -49,7 +49,7 @@ pub record EndsAtLeast (p : Program) (rule place : ℕ) (bound : List ℤ → �
   pub each : (start : List ℤ) (steps : List Step) (c : Config) → IsRun p start steps c → last_rule steps ≡ rule
       → neg_ℤ (place_value c place) ≤ℤ pos (bound start)
 
--- what a claim comes to holds on all runs
+-- the statement holds on all runs
 abbrev pub HoldsOf : Program → Stated → Type 0
 HoldsOf p (Time rule b) = OccursAtMost p rule (signed_val b)
 HoldsOf p (Cost rule b) = SpendsAtMost p rule (signed_val b)
@@ -57,6 +57,6 @@ HoldsOf p (Total b) = SpendsInAllAtMost p (signed_val b)
 HoldsOf p (Above rule place b) = EndsAtMost p rule place (signed_val b)
 HoldsOf p (Below rule place b) = EndsAtLeast p rule place (signed_val b)
 
--- each of a list does
+-- every statement of a list holds on all runs
 abbrev pub AllHoldOf : Program → List Stated → Type 0
 AllHoldOf p stated = AllByRecursion (λ s. HoldsOf p s) stated

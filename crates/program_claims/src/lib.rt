@@ -3,22 +3,33 @@
 //! were worked out by hand.
 //!
 //! Builds on `refinement` (programs that simulate others) and `potential_nodes` (facts over start values). Main
-//! guarantee: what an accepted claim comes to holds on all runs of the program that is simulated.
+//! guarantee: what an accepted claim states holds on all runs of the program that is simulated.
 #![tactic(auto)]
 
-ghost use Rattle.program_claims.specs.Laws.{AcceptedClaimsHold, OwnClaimsHold};
+ghost use Rattle.program_claims.specs.Laws.{AcceptedClaimsHold, OwnClaimsHold, RefusedClaimsAreFirst};
 ghost use Rattle.program_claims.specs.Worked.{CopiesAreWorkedOut, ClaimsAreAccepted, ClaimsAreRefused};
 ghost use Rattle.program_claims.specs.Worked.{MeaningsAreWorkedOut};
 
-/// Where a program simulates another, and lemmas hold on its runs, what an accepted claim comes to holds on all runs of
-/// the other.
+/// Where a section spells the runs of a program, and lemmas hold on the runs of what it spells, what an accepted claim
+/// states holds on all runs of the program.
 pub fn accepted_claims_hold()
     ensures { AcceptedClaimsHold }
-{}
+{
+    signed_bounds::within_holds();
+    signed_bounds::squares_are_safe();
+}
 
 /// The same of a program and lemmas over itself.
 pub fn own_claims_hold()
     ensures { OwnClaimsHold }
+{
+    signed_bounds::within_holds();
+    signed_bounds::squares_are_safe();
+}
+
+/// Where no claim of a list is refused each is accepted, and a refusal is that of the first claim that isn't.
+pub fn refused_claims_are_first()
+    ensures { RefusedClaimsAreFirst }
 {}
 
 /// The copies of rules, and what their steps are charged, in a small program.
@@ -26,7 +37,7 @@ pub fn copies_are_worked_out()
     ensures { CopiesAreWorkedOut }
 {}
 
-/// Claims that are accepted, and what they come to.
+/// Claims that are accepted, and what they state.
 pub fn claims_are_accepted()
     ensures { ClaimsAreAccepted }
 {}
@@ -36,7 +47,7 @@ pub fn claims_are_refused()
     ensures { ClaimsAreRefused }
 {}
 
-/// What claims come to holds of a small program, or doesn't.
+/// What claims state holds of a small program, or doesn't.
 pub fn meanings_are_worked_out()
     ensures { MeaningsAreWorkedOut }
 {}
