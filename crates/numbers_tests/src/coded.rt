@@ -26,7 +26,7 @@ fn digits(alloc: Global, number: u32, count: u32, less: bool) -> Option<Vec<i128
 
 // The program with two rows whose numbers are the digits of a code less 1, and whose right sides and
 // costs come from the code too.
-pub(super) fn coded(alloc: Global, code: u32, cols: u32) -> Option<Problem> {
+pub(crate) fn coded(alloc: Global, code: u32, cols: u32) -> Option<Problem> {
     let mut entries = Vec::new(alloc);
     for row in 0..2u32 {
         for col in 0..cols {

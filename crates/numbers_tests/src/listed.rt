@@ -24,7 +24,7 @@ fn is_row_from(pairs: &[(u32, Frac)], from: u64) -> bool
 }
 
 /// Whether pairs are a valid list for a sparse row.
-pub(super) fn is_row(pairs: &[(u32, Frac)]) -> bool
+pub(crate) fn is_row(pairs: &[(u32, Frac)]) -> bool
     ensures { IsTrue result → IsRow pairs.now }
 {
     is_row_from(pairs, 0)

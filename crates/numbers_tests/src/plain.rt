@@ -1,12 +1,13 @@
 //! The simplex method as it is defined, slowly: exact fractions, and every number computed anew.
 
 use crate::coded::coded;
-use crate::rows::solved;
+use crate::words::number;
 use frac128::Frac;
-use simplex_core::{Problem, SolveError, Solved};
+use model::Memory;
+use sample_questions::is_proper;
+use simplex_core::{Problem, SolveError, Solved, solve};
 use std::alloc::Global;
 use std::cmp::Ordering;
-use std::test::Fail;
 
 // A tableau: the equations and then the three cost rows, with a column for each unknown, for each
 // equation's artificial unknown, and for the right sides.
@@ -326,7 +327,7 @@ impl Tableau {
     }
 }
 
-// The answer by the definition; none where memory or the numbers of 128 bits don't suffice.
+// The answer by the definition; None where memory or the numbers of 128 bits don't suffice.
 fn plain(alloc: Global, problem: &Problem, pivots: u32) -> Option<Result<Solved, SolveError>> {
     let mut tableau = first_tableau(alloc, problem)?;
     for made in 0..=pivots {
@@ -358,16 +359,22 @@ fn numbered(alloc: Global, number: u32) -> Option<Problem> {
     }
 }
 
-#[test]
-fn small_programs_are_solved_as_the_definition_says(rt: HostRuntime) -> Result<(), Fail> {
-    let alloc = rt.alloc();
-    for number in 0..512 {
-        let problem = numbered(alloc, number).ok_or("no such program")?;
+/// How many answers to the first linear programs there are within 0, 1, 2 and 40 pivots, and that each is the one by
+/// the definition; or the first program and number of pivots that differ.
+pub(crate) fn compared(alloc: Global, count: &str) -> Result<String, Memory> {
+    let count = number(count);
+    for program in 0..count {
+        let Some(problem) = numbered(alloc, program) else {
+            return format!(in alloc; "no program {program}");
+        };
+        if !is_proper(&problem) {
+            return format!(in alloc; "program {program} is not proper");
+        }
         for pivots in [0, 1, 2, 40] {
-            let got = solved(&rt, alloc, &problem, pivots);
-            let want = plain(alloc, &problem, pivots).ok_or("no answer by the definition")?;
-            assert_eq!(rt; got, want, "program {number} within {pivots} pivots");
+            if Some(solve(alloc, &problem, pivots)) != plain(alloc, &problem, pivots) {
+                return format!(in alloc; "program {program} within {pivots} pivots differs");
+            }
         }
     }
-    Ok(())
+    format!(in alloc; "{count} linear programs within 4 numbers of pivots, none differs")
 }

@@ -1,208 +1,126 @@
-//! Questions as they are written by the builder: the same linear programs as by hand, and what is found.
+//! Questions, their linear programs, and what is found of them.
 
 ghost use Rattle.simplex_core.specs.Problem.{IsProper};
 
-use crate::asked::{ASKED, Asked, Form, Found, Group};
-use crate::rows::{compare, problem_of, solved};
+use crate::solutions::costs_text;
+use crate::words::{cut, form, fraction_text, number};
+use frac128::Frac;
 use lp_builder::{Cost, Goal, Row};
 use model::Memory;
-use sample_questions::{Part, Shape, rank_problem};
-use simplex_core::{Answer, Numerators, Problem, Solved, solve_scaled};
+use sample_questions::{Part, Shape, problem_of, rank_problem};
+use simplex_core::{Answer, Numerators, Problem, solve_scaled};
 use std::alloc::Global;
-use std::process::Abort;
-use std::test::Fail;
 
-// A form as the builder takes it.
-fn row_of(alloc: Global, form: Form) -> Result<Row, Memory> {
-    Ok(Row {
-        coefs: Vec::from_slice(alloc, form.0)?,
-        constant: form.1,
-    })
-}
+// More pivots than any question here takes.
+const PIVOTS: u32 = 9_999;
 
-// Forms as the builder takes them.
-fn rows_of(alloc: Global, forms: &[Form]) -> Result<Vec<Row>, Memory> {
+// The forms of a text, with commas between them.
+fn forms(alloc: Global, text: &str) -> Result<Vec<Row>, Memory> {
     let mut rows = Vec::new(alloc);
-    for form in forms {
-        rows.push(row_of(alloc, *form)?)?;
+    for words in text.split(',') {
+        if !words.trim().is_empty() {
+            rows.push(form(alloc, words)?)?;
+        }
     }
     Ok(rows)
 }
 
-// Goals as the builder takes them.
-fn goals_of(alloc: Global, goals: &[(u32, Form)]) -> Result<Vec<Goal>, Memory> {
-    let mut made = Vec::new(alloc);
-    for (parameter, form) in goals {
-        made.push(Goal {
-            parameter: *parameter,
-            form: row_of(alloc, *form)?,
-        })?;
+// The goals of a text, with commas between them; each is its parameter, a colon, and its form.
+fn goals(alloc: Global, text: &str) -> Result<Vec<Goal>, Memory> {
+    let mut goals = Vec::new(alloc);
+    for goal in text.split(',') {
+        if let Some((parameter, words)) = goal.split_once(':') {
+            goals.push(Goal {
+                parameter: number(parameter),
+                form: form(alloc, words)?,
+            })?;
+        }
     }
-    Ok(made)
+    Ok(goals)
 }
 
-// The groups of a question as parts.
-fn parts_of(alloc: Global, groups: &[Group]) -> Result<Vec<Part>, Memory> {
-    let mut parts = Vec::new(alloc);
-    for group in groups {
-        parts.push(Part {
-            unknowns: group.unknowns,
-            rows: rows_of(alloc, group.rows)?,
-            goals: goals_of(alloc, group.goals)?,
-            fixed: row_of(alloc, group.fixed)?,
-        })?;
-    }
-    Ok(parts)
-}
-
-// The costs of the parameters.
-fn costs_of(alloc: Global, costs: &[(u32, u32)]) -> Result<Vec<Cost>, Memory> {
-    let mut made = Vec::new(alloc);
-    for (size, height) in costs {
-        made.push(Cost {
-            size: *size,
-            height: *height,
-        })?;
-    }
-    Ok(made)
-}
-
-// What is found, as `solve_scaled` answers it.
-fn answer_of(alloc: Global, found: Found) -> Result<Answer, Memory> {
-    Ok(match found {
-        Found::Solution(numbers, den) => Answer::Solution(Numerators {
-            numbers: Vec::from_slice(alloc, numbers)?,
-            den,
-        }),
-        Found::Dual(numbers, den) => Answer::Dual(Numerators {
-            numbers: Vec::from_slice(alloc, numbers)?,
-            den,
-        }),
+// The group of a text, whose parts semicolons divide: how many unknowns, the rows, the goals and the fixed form.
+fn part(alloc: Global, text: &str) -> Result<Part, Memory> {
+    let (unknowns, behind) = cut(text);
+    let (rows, behind) = cut(behind);
+    let (goal_forms, fixed) = cut(behind);
+    Ok(Part {
+        unknowns: number(unknowns),
+        rows: forms(alloc, rows)?,
+        goals: goals(alloc, goal_forms)?,
+        fixed: form(alloc, fixed)?,
     })
 }
 
-// Builds a question's problem, compares it with the one by hand, and solves both.
-fn compare_built(
-    rt: &impl Abort,
-    alloc: Global,
-    asked: &Asked,
-    position: usize,
-) -> Result<(), Fail> {
-    let parts = parts_of(alloc, asked.groups)?;
-    let costs = costs_of(alloc, asked.costs)?;
-    let Some(built) = sample_questions::problem_of(alloc, parts.as_slice(), costs.as_slice())?
-    else {
-        return Err("a question that can't be written")?;
+// The costs of parameters, with commas between them; each is of the size and of the height.
+fn costs(alloc: Global, text: &str) -> Result<Vec<Cost>, Memory> {
+    let mut costs = Vec::new(alloc);
+    for words in text.split(',') {
+        if let Some((size, height)) = words.trim().split_once(' ') {
+            costs.push(Cost {
+                size: number(size),
+                height: number(height),
+            })?;
+        }
+    }
+    Ok(costs)
+}
+
+/// The linear program of a question, or what is found of it. Bars divide the costs of the parameters and the groups.
+pub(crate) fn of_question(alloc: Global, call: &str, text: &str) -> Result<String, Memory> {
+    let (listed, groups) = text.split_once('|').unwrap_or((text, ""));
+    let mut parts = Vec::new(alloc);
+    for group in groups.split('|') {
+        parts.push(part(alloc, group)?)?;
+    }
+    match problem_of(alloc, &parts, &costs(alloc, listed)?)? {
+        None => String::from_str(alloc, "can't be written"),
+        Some(problem) => if call == "build" {
+            format!(in alloc; "{problem:?}")
+        } else {
+            format!(in alloc; "{:?}", solve_scaled(alloc, &problem, PIVOTS)?)
+        },
+    }
+}
+
+/// The measures of the rank question of a shape and a size, and the costs of its solution, also of that in integers.
+pub(crate) fn rank(alloc: Global, text: &str) -> Result<String, Memory> {
+    let (word, size) = text.split_once(' ').unwrap_or((text, ""));
+    let shape = match word {
+        "ring" => Shape::Ring,
+        "chain" => Shape::Chain,
+        _ => Shape::Loops,
     };
-    assert_eq!(rt;
-        built,
-        problem_of(alloc, &asked.by_hand)?,
-        "question {position}"
-    );
-    let answer = solve_scaled(alloc, &built, 1000)?;
-    assert_eq!(rt;
-        answer,
-        answer_of(alloc, asked.found)?,
-        "question {position}"
-    );
-    compare(rt, alloc, &asked.by_hand, position)
-}
-
-#[test]
-fn questions_are_built_as_by_hand(rt: HostRuntime) -> Result<(), Fail> {
-    for position in 0..ASKED.len() {
-        compare_built(&rt, rt.alloc(), &ASKED[position], position)?;
-    }
-    Ok(())
-}
-
-// The expected answer to the rank problem of a shape with 8 rules or loops.
-#[derive(Clone, Copy)]
-struct Known {
-    shape: Shape,
-    rows: u32,
-    columns: u32,
-    pivots: u32,
-    // The costs of the least solution, each over 8.
-    first: i128,
-    second: i128,
-}
-
-// In a ring the function at the first symbol falls by 1 in 8 rules, each of which takes 1: it is an eighth of the
-// variable. In the chains, without loops or with, it is 1 there, since only the last rule has to decrease. How many
-// pivots it takes was worked out by the plain method over fractions without a limit.
-const KNOWN: [Known; 3] = [
-    Known {
-        shape: Shape::Ring,
-        rows: 27,
-        columns: 66,
-        pivots: 40,
-        first: 1,
-        second: 0,
-    },
-    Known {
-        shape: Shape::Chain,
-        rows: 27,
-        columns: 63,
-        pivots: 27,
-        first: 0,
-        second: 8,
-    },
-    Known {
-        shape: Shape::Loops,
-        rows: 54,
-        columns: 86,
-        pivots: 39,
-        first: 0,
-        second: 8,
-    },
-];
-
-// The cost of a solution.
-fn cost(costs: &[i128], numbers: &[i64]) -> i128 {
-    let mut total = 0i128;
-    for (cost, number) in costs.iter().zip(numbers) {
-        total = total.saturating_add(cost.saturating_mul(i128::from(*number)));
-    }
-    total
-}
-
-// The pivots of a problem that has a solution.
-fn pivots_of(rt: &impl Abort, alloc: Global, problem: &Problem) -> Result<u32, Fail> {
-    match solved(rt, alloc, problem, 9_999)? {
-        Solved::Optimal { pivots, .. } => Ok(pivots),
-        Solved::Infeasible { .. } => Err("no function is found")?,
+    match rank_problem(alloc, shape, size.parse::<u16>().unwrap_or(0))? {
+        None => String::from_str(alloc, "can't be written"),
+        Some(problem) => rank_text(alloc, &problem),
     }
 }
 
-// The solution of a problem in integers.
-fn solution_of(alloc: Global, problem: &Problem) -> Result<Numerators, Fail>
+// The measures of a problem and the costs of its solutions.
+fn rank_text(alloc: Global, problem: &Problem) -> Result<String, Memory>
     requires { IsProper problem.now }
 {
-    match solve_scaled(alloc, problem, 9_999)? {
-        Answer::Solution(solution) => Ok(solution),
-        _ => Err("no function is found")?,
+    let measures = costs_text(alloc, problem, PIVOTS)?;
+    match solve_scaled(alloc, problem, PIVOTS)? {
+        Answer::Solution(solution) => {
+            let first = fraction_text(alloc, total(&problem.first, &solution))?;
+            let second = fraction_text(alloc, total(&problem.second, &solution))?;
+            format!(in alloc; "{measures}, in integers {first} {second}")
+        }
+        _ => String::from_str(alloc, "no function is found"),
     }
 }
 
-#[test]
-fn rings_and_chains_have_their_least_functions(rt: HostRuntime) -> Result<(), Fail> {
-    let alloc = rt.alloc();
-    for known in &KNOWN {
-        let Some(problem) = rank_problem(alloc, known.shape, 8)? else {
-            return Err("a shape that can't be written")?;
-        };
-        let pivots = pivots_of(&rt, alloc, &problem)?;
-        assert_eq!(rt;
-            (problem.rows, problem.cols, pivots),
-            (known.rows, known.columns, known.pivots)
-        );
-        let solution = solution_of(alloc, &problem)?;
-        let first = cost(&problem.first, &solution.numbers).saturating_mul(8);
-        let second = cost(&problem.second, &solution.numbers).saturating_mul(8);
-        let den = i128::try_from(solution.den)?;
-        assert_eq!(rt; first, known.first.saturating_mul(den));
-        assert_eq!(rt; second, known.second.saturating_mul(den));
+// The cost of a solution in integers.
+fn total(costs: &[i128], solution: &Numerators) -> Option<Frac> {
+    let mut sum = 0i128;
+    for (cost, number) in costs.iter().zip(&solution.numbers) {
+        sum = sum.checked_add(cost.checked_mul(i128::from(*number))?)?;
     }
-    Ok(())
+    let den = i128::try_from(solution.den).ok()?;
+    if den == 0 {
+        return None;
+    }
+    Frac::new(sum, den).ok()
 }

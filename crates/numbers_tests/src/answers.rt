@@ -1,0 +1,32 @@
+//! The answer to a line: a call, and behind a blank what it is made on.
+
+use crate::fractions::computed;
+use crate::many::many_rows;
+use crate::plain::compared;
+use crate::questions::{of_question, rank};
+use crate::solutions::of_program;
+use crate::sparse::summed;
+use model::Memory;
+use std::alloc::Global;
+
+/// Answers a line.
+///
+/// `solve`, `scale` and `costs` are followed by the allowed pivots and a linear program; `build` and `find` by a
+/// question; `rank` by a shape of rules and its size; `many` by the measures of a linear program of many rows; `plus`
+/// by a sparse row, a factor and a row; and the other calls by fractions. `plain` compares as many linear programs as
+/// its number says with a plain slow simplex method.
+pub(crate) fn answer(alloc: Global, line: &str) -> Result<String, Memory> {
+    let Some((call, rest)) = line.split_once(' ') else {
+        return String::from_str(alloc, line);
+    };
+    match call {
+        "#" => String::from_str(alloc, line),
+        "solve" | "scale" | "costs" => of_program(alloc, call, rest),
+        "build" | "find" => of_question(alloc, call, rest),
+        "rank" => rank(alloc, rest),
+        "many" => many_rows(alloc, rest),
+        "plain" => compared(alloc, rest),
+        "plus" => summed(alloc, rest),
+        _ => computed(alloc, call, rest),
+    }
+}

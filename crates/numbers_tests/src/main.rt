@@ -1,0 +1,25 @@
+//! Answers each line of the standard input by one line: what a public call makes of the fractions, the sparse rows, the
+//! linear program or the question in it. A line without a call, as a remark that begins with `#`, is written as it is.
+#![tactic(auto)]
+
+mod answers;
+mod coded;
+mod fractions;
+mod linear_programs;
+mod listed;
+mod many;
+mod plain;
+mod questions;
+mod solutions;
+mod sparse;
+mod words;
+
+use std::io;
+
+fn main(rt: HostRuntime) -> io::Result<()> {
+    for line in rt.lines(rt.alloc()) {
+        let text = answers::answer(rt.alloc(), line?.as_str())?;
+        println!(rt; "{text}")?;
+    }
+    Ok(())
+}
