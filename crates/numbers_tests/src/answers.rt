@@ -2,7 +2,6 @@
 
 use crate::fractions::computed;
 use crate::many::many_rows;
-use crate::plain::compared;
 use crate::questions::{of_question, rank};
 use crate::solutions::of_program;
 use crate::sparse::summed;
@@ -13,8 +12,7 @@ use std::alloc::Global;
 ///
 /// `solve`, `scale` and `costs` are followed by the allowed pivots and a linear program; `build` and `find` by a
 /// question; `rank` by a shape of rules and its size; `many` by the measures of a linear program of many rows; `plus`
-/// by a sparse row, a factor and a row; and the other calls by fractions. `plain` compares as many linear programs as
-/// its number says with a plain slow simplex method.
+/// by a sparse row, a factor and a row; and the other calls by fractions.
 pub(crate) fn answer(alloc: Global, line: &str) -> Result<String, Memory> {
     let Some((call, rest)) = line.split_once(' ') else {
         return String::from_str(alloc, line);
@@ -25,7 +23,6 @@ pub(crate) fn answer(alloc: Global, line: &str) -> Result<String, Memory> {
         "build" | "find" => of_question(alloc, call, rest),
         "rank" => rank(alloc, rest),
         "many" => many_rows(alloc, rest),
-        "plain" => compared(alloc, rest),
         "plus" => summed(alloc, rest),
         _ => computed(alloc, call, rest),
     }

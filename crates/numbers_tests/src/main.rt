@@ -3,12 +3,10 @@
 #![tactic(auto)]
 
 mod answers;
-mod coded;
 mod fractions;
 mod linear_programs;
 mod listed;
 mod many;
-mod plain;
 mod questions;
 mod solutions;
 mod sparse;
