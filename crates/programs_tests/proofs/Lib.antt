@@ -1,2 +1,2 @@
--- laws of the programs that tests try
-mod TriedPrograms
+-- laws of the programs and expressions that lines have
+mod Laws

@@ -1,24 +1,26 @@
-//! The graph of a program: cycles, what can come just before a rule, what is reached, and the sets and components of
-//! untimed rules, worked out by hand.
+//! Calls on graphs, and on the graphs of programs that have a rule for each edge. An edge is `0>1`.
 
-use crate::trying::symbol;
-use crate::wrong::note_unless;
-use its_graph::{Graph, has_cycle};
-use its_model::{Program, Rule, Symbol};
+ghost use Rattle.std.specs.Prelude.{◌<◌, All, IsTrue};
+
+use crate::words::{first_and_rest, number};
+use its_graph::{Graph, components, has_cycle};
+use its_model::{Name, Program, Rule, Symbol};
 use model::Memory;
 use std::alloc::Global;
 
-// This many symbols without places.
-fn symbols(alloc: Global, count: u32) -> Result<Vec<Symbol>, Memory> {
-    let mut symbols = Vec::new(alloc);
-    for _ in 0..count {
-        symbols.push(symbol(alloc, b's', 0)?)?;
+// The edges of a text.
+fn edges_of(alloc: Global, text: &str) -> Result<Vec<(u32, u32)>, Memory> {
+    let mut edges = Vec::new(alloc);
+    for word in text.split_whitespace() {
+        if let Some((source, target)) = word.split_once('>') {
+            edges.push((number(source), number(target)))?;
+        }
     }
-    Ok(symbols)
+    Ok(edges)
 }
 
-/// How many symbols there are up to the last one that an edge touches, and the start.
-pub(crate) fn nodes_of(edges: &[(u32, u32)]) -> u32 {
+// How many symbols there are up to the last one that an edge touches, and the start.
+fn nodes_of(edges: &[(u32, u32)]) -> u32 {
     let mut last = 0;
     for (source, target) in edges {
         last = last.max(*source).max(*target);
@@ -28,6 +30,14 @@ pub(crate) fn nodes_of(edges: &[(u32, u32)]) -> u32 {
 
 /// A program with this many symbols and a rule for each edge, which starts at symbol 0.
 pub(crate) fn program(alloc: Global, nodes: u32, edges: &[(u32, u32)]) -> Result<Program, Memory> {
+    let mut symbols = Vec::new(alloc);
+    for _ in 0..nodes {
+        let bytes = b"s".to_vec(alloc)?;
+        symbols.push(Symbol {
+            name: Name { bytes },
+            arity: 0,
+        })?;
+    }
     let mut rules = Vec::new(alloc);
     for (source, target) in edges {
         rules.push(Rule {
@@ -42,47 +52,36 @@ pub(crate) fn program(alloc: Global, nodes: u32, edges: &[(u32, u32)]) -> Result
         })?;
     }
     Ok(Program {
-        symbols: symbols(alloc, nodes)?,
+        symbols,
         start: 0,
         start_names: Vec::new(alloc),
         rules,
     })
 }
 
-/// A number more in a list as text, a blank before it.
-pub(crate) fn push_number(alloc: Global, text: &mut String, number: u32) -> Result<(), Memory> {
-    let digits = format!(in alloc; " {number}")?;
-    text.push_str(digits.as_str())
-}
-
-// The numbers of a list with a blank before each.
-fn numbers(alloc: Global, list: &[u32]) -> Result<String, Memory> {
-    let mut text = String::new(alloc);
-    for number in list {
-        push_number(alloc, &mut text, *number)?;
-    }
-    Ok(text)
-}
-
-/// What can come just before a rule, where there is one of that number.
-pub(crate) fn before(alloc: Global, edges: &[(u32, u32)], rule: u32) -> Result<String, Memory> {
+/// What can come just before a rule, or none where there is no rule of that number.
+pub(crate) fn before(
+    alloc: Global,
+    edges: &[(u32, u32)],
+    rule: u32,
+) -> Result<Option<Vec<u32>>, Memory> {
     let p = program(alloc, nodes_of(edges), edges)?;
     if p.rules.len() < 1 << 32 {
         let graph = Graph::new(alloc, &p)?;
         if 0 < rule && rule as usize <= graph.links.len() {
-            return numbers(alloc, graph.pre(rule));
+            return Ok(Some(graph.pre(rule).to_vec(alloc)?));
         }
     }
-    String::from_str(alloc, "no rule")
+    Ok(None)
 }
 
-/// The set of an untimed rule, where the flags are those of a graph.
+/// The set of an untimed rule, or none where the flags aren't those of a graph or the rule is timed.
 pub(crate) fn set(
     alloc: Global,
     edges: &[(u32, u32)],
     untimed: &[bool],
     rule: u32,
-) -> Result<String, Memory> {
+) -> Result<Option<Vec<u32>>, Memory> {
     let p = program(alloc, nodes_of(edges), edges)?;
     if p.rules.len() < 1 << 32 {
         let graph = Graph::new(alloc, &p)?;
@@ -91,158 +90,140 @@ pub(crate) fn set(
             && (rule as usize) < untimed.len()
             && untimed[rule as usize]
         {
-            let found = graph.back_closure(alloc, untimed, rule)?;
-            return numbers(alloc, &found);
+            return Ok(Some(graph.back_closure(alloc, untimed, rule)?));
         }
     }
-    String::from_str(alloc, "no flags")
+    Ok(None)
 }
 
-// The name of the component that each rule stays in, and a dash for none, where the flags are those of a graph.
-fn parts(alloc: Global, edges: &[(u32, u32)], untimed: &[bool]) -> Result<String, Memory> {
-    let mut text = String::new(alloc);
+// The name of the component that the virtual entry and each rule stays in, or none where the flags aren't those of a
+// graph.
+fn parts(
+    alloc: Global,
+    edges: &[(u32, u32)],
+    untimed: &[bool],
+) -> Result<Option<Vec<Option<u32>>>, Memory> {
     let p = program(alloc, nodes_of(edges), edges)?;
     if p.rules.len() < 1 << 32 {
         let graph = Graph::new(alloc, &p)?;
         if untimed.len() == graph.links.len() + 1 {
-            for part in &graph.parts(alloc, untimed)? {
-                match part {
-                    Some(name) => push_number(alloc, &mut text, *name)?,
-                    None => text.push_str(" -")?,
-                }
-            }
+            return Ok(Some(graph.parts(alloc, untimed)?));
         }
     }
-    Ok(text)
+    Ok(None)
 }
 
-/// Which of this many symbols are reached, a 1 or a 0 for each.
+/// Which of this many symbols are reached.
 pub(crate) fn reached(
     alloc: Global,
     nodes: u32,
     edges: &[(u32, u32)],
     cut: &[u32],
-) -> Result<String, Memory> {
-    let mut text = String::new(alloc);
+) -> Result<Option<Vec<bool>>, Memory> {
     let p = program(alloc, nodes, edges)?;
     if p.rules.len() < 1 << 32 {
         let graph = Graph::new(alloc, &p)?;
-        for is_reached in &graph.reached(alloc, cut)? {
-            text.push_str(if *is_reached { "1" } else { "0" })?;
+        return Ok(Some(graph.reached(alloc, cut)?));
+    }
+    Ok(None)
+}
+
+// Whether the edges are between nodes below the number.
+fn are_within(nodes: u32, edges: &[(u32, u32)]) -> bool
+    ensures { IsTrue result → All (λ e. (e.0 < nodes) × (e.1 < nodes)) edges.now }
+{
+    for (from, to) in edges {
+        if *from >= nodes || *to >= nodes {
+            return false;
         }
     }
-    Ok(text)
+    true
 }
 
-// Two nested loops: from 0 to 1, from 1 to 2, from 2 to itself, and from 2 back to 1.
-const NESTED: &[(u32, u32)] = &[(0, 1), (1, 2), (2, 2), (2, 1)];
-
-// Edges, and whether there is a cycle.
-const CYCLES: &[(&[(u32, u32)], bool)] = &[
-    (&[], false),
-    (&[(0, 1)], false),
-    (&[(0, 0)], true),
-    (&[(0, 1), (1, 2), (0, 2)], false),
-    (&[(0, 1), (1, 0)], true),
-    (&[(5, 4), (4, 3), (3, 5)], true),
-    (&[(0, 1), (0, 1)], false),
-    (&[(2, 1), (1, 0), (3, 3)], true),
-    (&[(1, 0), (2, 0), (3, 1), (3, 2), (0, 3)], true),
-];
-
-fn check_cycles(alloc: Global, wrong: &mut String) -> Result<(), Memory> {
-    for (i, (edges, want)) in CYCLES.iter().enumerate() {
-        let found = has_cycle(alloc, &program(alloc, nodes_of(edges), edges)?)?;
-        note_unless(alloc, wrong, found == *want, "cycle", i)?;
+/// The components of the graph with this many nodes, or none where an edge is out of range.
+pub(crate) fn listed(
+    alloc: Global,
+    nodes: u32,
+    edges: &[(u32, u32)],
+) -> Result<Option<Vec<Vec<u32>>>, Memory> {
+    if are_within(nodes, edges) {
+        Ok(Some(components(alloc, nodes, edges)?))
+    } else {
+        Ok(None)
     }
-    Ok(())
 }
 
-// Edges, a rule, and what can come just before it.
-const BEFORE: &[(&[(u32, u32)], u32, &str)] = &[
-    (NESTED, 1, " 0"),
-    (NESTED, 2, " 1 4"),
-    (NESTED, 3, " 2 3"),
-    (NESTED, 4, " 2 3"),
-    (&[(0, 0)], 1, " 0 1"),
-    (&[(0, 1), (2, 0)], 2, ""),
-    (NESTED, 5, "no rule"),
-];
-
-fn check_before(alloc: Global, wrong: &mut String) -> Result<(), Memory> {
-    for (i, (edges, rule, want)) in BEFORE.iter().enumerate() {
-        let found = before(alloc, edges, *rule)?;
-        note_unless(alloc, wrong, found.as_str() == *want, "before", i)?;
+/// Whether each node of a path from the last of this many nodes to the first is a component by itself, from the
+/// beginning of the path on.
+pub(crate) fn path(alloc: Global, count: &str) -> Result<String, Memory> {
+    let nodes = number(count);
+    let mut edges = Vec::new(alloc);
+    for node in 1..nodes {
+        edges.push((node, node - 1))?;
     }
-    Ok(())
-}
-
-// Edges, which rules are untimed, a rule, and its set.
-const SETS: &[(&[(u32, u32)], &[bool], u32, &str)] = &[
-    (NESTED, &[false, true, true, true, true], 3, " 1 2 3 4"),
-    (NESTED, &[false, false, false, true, true], 3, " 3"),
-    (NESTED, &[false, false, true, true, true], 3, " 2 3 4"),
-    (NESTED, &[false, true, true, true, true], 1, " 1"),
-    (&[(0, 1), (1, 2)], &[false, true, true], 2, " 1 2"),
-    (NESTED, &[false, true, true, true, false], 4, "no flags"),
-];
-
-fn check_sets(alloc: Global, wrong: &mut String) -> Result<(), Memory> {
-    for (i, (edges, untimed, rule, want)) in SETS.iter().enumerate() {
-        let found = set(alloc, edges, untimed, *rule)?;
-        note_unless(alloc, wrong, found.as_str() == *want, "set", i)?;
+    let mut alone = Vec::new(alloc);
+    let mut last = nodes;
+    for _ in 0..nodes {
+        last = last.saturating_sub(1);
+        alone.push(vec![in alloc; last]?)?;
     }
-    Ok(())
+    let alike = listed(alloc, nodes, &edges)? == Some(alone);
+    String::from_str(
+        alloc,
+        if alike {
+            "each alone, from the last to the first"
+        } else {
+            "differs"
+        },
+    )
 }
 
-// Edges, which rules are untimed, and the component that the virtual entry and each rule stays in.
-const PARTS: &[(&[(u32, u32)], &[bool], &str)] = &[
-    (NESTED, &[false, true, true, true, true], " - - 1 1 1"),
-    (NESTED, &[false, true, true, false, true], " - - 1 1 1"),
-    (NESTED, &[false, false, false, true, true], " - - - 2 -"),
-    (NESTED, &[false, true, true, true, false], " - - - 2 -"),
-    (
-        &[(0, 1), (1, 0), (2, 1)],
-        &[false, true, true, true],
-        " - 0 0 -",
-    ),
-    (&[], &[false], " -"),
-];
-
-fn check_parts(alloc: Global, wrong: &mut String) -> Result<(), Memory> {
-    for (i, (edges, untimed, want)) in PARTS.iter().enumerate() {
-        let found = parts(alloc, edges, untimed)?;
-        note_unless(alloc, wrong, found.as_str() == *want, "part", i)?;
+// A flag for each sign, `+` or `-`.
+fn flags(alloc: Global, signs: &str) -> Result<Vec<bool>, Memory> {
+    let mut flags = Vec::new(alloc);
+    for sign in signs.trim().as_bytes() {
+        flags.push(*sign == b'+')?;
     }
-    Ok(())
+    Ok(flags)
 }
 
-// Edges, the rules that are cut, and which symbols are reached.
-const REACHED: &[(&[(u32, u32)], &[u32], &str)] = &[
-    (&[], &[], "1"),
-    // A symbol that only its own rules enter.
-    (&[(0, 1), (2, 2)], &[], "110"),
-    (&[(0, 1), (2, 1)], &[], "110"),
-    (&[(0, 1), (2, 1)], &[1], "100"),
-    (&[(0, 1), (2, 1)], &[2, 9], "110"),
-    (NESTED, &[], "111"),
-    (NESTED, &[2], "110"),
-    (NESTED, &[0, 3, 4], "111"),
-];
-
-fn check_reached(alloc: Global, wrong: &mut String) -> Result<(), Memory> {
-    for (i, (edges, cut, want)) in REACHED.iter().enumerate() {
-        let found = reached(alloc, want.len() as u32, edges, cut)?;
-        note_unless(alloc, wrong, found.as_str() == *want, "reached", i)?;
+// The numbers of rules that are cut.
+fn cut_of(alloc: Global, numbers: &[i128]) -> Result<Vec<u32>, Memory> {
+    let mut cut = Vec::new(alloc);
+    for number in numbers {
+        cut.push(u32::try_from(*number).unwrap_or(0))?;
     }
-    Ok(())
+    Ok(cut)
 }
 
-/// Notes what is wrong in the tables of this module.
-pub(crate) fn check(alloc: Global, wrong: &mut String) -> Result<(), Memory> {
-    check_cycles(alloc, wrong)?;
-    check_before(alloc, wrong)?;
-    check_sets(alloc, wrong)?;
-    check_parts(alloc, wrong)?;
-    check_reached(alloc, wrong)
+/// The answer of a call on edges, behind a semicolon and what else the call needs: for `before` a rule, for
+/// `set` a rule and a sign for each flag, for `parts` the signs, for `reached` the number of symbols and the rules that
+/// are cut, and for `components` the number of nodes.
+pub(crate) fn of_graph(alloc: Global, call: &str, text: &str) -> Result<String, Memory> {
+    let (asked, edges) = text.split_once(';').unwrap_or(("", text));
+    let edges = edges_of(alloc, edges)?;
+    match call {
+        "cycle" => {
+            let found = has_cycle(alloc, &program(alloc, nodes_of(&edges), &edges)?)?;
+            format!(in alloc; "{found}")
+        }
+        "before" => format!(in alloc; "{:?}", before(alloc, &edges, number(asked))?),
+        "set" => {
+            let (rule, signs) = asked.split_once(' ').unwrap_or((asked, ""));
+            format!(in alloc;
+                "{:?}",
+                set(alloc, &edges, &flags(alloc, signs)?, number(rule))?
+            )
+        }
+        "parts" => format!(in alloc; "{:?}", parts(alloc, &edges, &flags(alloc, asked)?)?),
+        "reached" => {
+            let (nodes, numbers) = first_and_rest(alloc, asked)?;
+            format!(in alloc;
+                "{:?}",
+                reached(alloc, nodes, &edges, &cut_of(alloc, &numbers)?)?
+            )
+        }
+        "components" => format!(in alloc; "{:?}", listed(alloc, number(asked), &edges)?),
+        _ => String::from_str(alloc, "no call"),
+    }
 }

@@ -1,168 +1,131 @@
-//! Expressions and rules for tests, in a short notation, and whether they are valid arguments of a call.
+//! Compares expansions with the plain expansion: of expressions of lines, and of many pseudo-random ones.
 
-ghost use Rattle.std.specs.Prelude.{◌≡◌, map, option_map, true, None, IfOk, IfSome};
-ghost use Rattle.std.specs.List.{AllByRecursion};
-ghost use Rattle.poly_terms.specs.Checked.{ReadsBelow};
-ghost use Rattle.poly_terms.specs.Faults.{first_fault};
-ghost use Rattle.poly_terms.specs.Views.{term_of};
-ghost use Rattle.its_model.specs.Valid.{IsValidAtom, IsValidCost, IsValidTerm, difference_of};
-ghost use Rattle.its_model.specs.Views.{atom_of, relation_of};
-
-use its_model::{Atom, Rel};
-use poly_terms::{Expr, Poly, PolyError, expand, expand_difference, expand_strict_difference};
+use crate::plain::is_plain;
+use crate::words::number;
+use model::Memory;
+use poly_terms::{Expr, Poly, PolyError, expand};
+use sample_expressions::expression;
 use std::alloc::Global;
-use std::test::Fail;
 
-/// The expression of a text that has each operator behind its operands: `A1+2^` is (A + 1)^2, and `~` is the opposite.
-/// A blank ends a number.
-pub(crate) fn tree(alloc: Global, text: &str) -> Result<Expr, Fail> {
+// The next of a sequence of pseudo-random numbers.
+fn next(seed: &mut u32) -> u32 {
+    *seed = seed.wrapping_mul(1664525).wrapping_add(1013904223);
+    *seed >> 16
+}
+
+// A pseudo-random number or variable.
+fn leaf(seed: &mut u32) -> Expr {
+    match next(seed) % 16 {
+        0 => Expr::Num(0),
+        1 => Expr::Num(1),
+        2 => Expr::Num(2),
+        3 => Expr::Num(-3),
+        4 => Expr::Num(0x7fff_ffff_ffff_ffff),
+        5 => Expr::Num(-0x4000_0000_0000_0000),
+        6 => Expr::Num(0x8000_0000),
+        7 => Expr::Num(0x8000_0000_0000_0000),
+        _ => Expr::Var(next(seed) % 4),
+    }
+}
+
+// The operand that was made last.
+fn operand(stack: &mut Vec<Expr>, seed: &mut u32) -> Expr {
+    match stack.pop() {
+        Some(e) => e,
+        None => leaf(seed),
+    }
+}
+
+// What a choice makes of the operands.
+fn chosen(
+    alloc: Global,
+    stack: &mut Vec<Expr>,
+    seed: &mut u32,
+    choice: u32,
+) -> Result<Expr, Memory> {
+    if choice < 4 {
+        return Ok(leaf(seed));
+    }
+    if choice == 5 {
+        let exponent = next(seed) % 11;
+        return Expr::power(alloc, operand(stack, seed), exponent);
+    }
+    let right = operand(stack, seed);
+    match choice {
+        4 => Expr::negation(alloc, right),
+        6 => Expr::difference(alloc, operand(stack, seed), right),
+        7 => Expr::product(alloc, operand(stack, seed), right),
+        _ => Expr::sum(alloc, operand(stack, seed), right),
+    }
+}
+
+// A pseudo-random tree of this many choices.
+fn any_tree(alloc: Global, seed: &mut u32, choices: u32) -> Result<Expr, Memory> {
     let mut stack = Vec::new(alloc);
-    let mut digits = None;
-    for byte in text.as_bytes() {
-        if byte.is_ascii_digit() {
-            digits = Some(with_digit(digits, *byte));
-        } else {
-            if let Some(z) = digits {
-                stack.push(Expr::Num(z))?;
-            }
-            digits = None;
-            apply(alloc, &mut stack, *byte)?;
-        }
+    for _ in 0..choices {
+        let choice = next(seed) % 10;
+        let e = chosen(alloc, &mut stack, seed, choice)?;
+        stack.push(e)?;
     }
-    match digits {
-        Some(z) => Ok(Expr::Num(z)),
-        None => operand(&mut stack),
-    }
+    Ok(operand(&mut stack, seed))
 }
 
-// A number with one digit more.
-fn with_digit(so_far: Option<i128>, digit: u8) -> i128 {
-    let tens = so_far.unwrap_or(0).saturating_mul(10);
-    tens.saturating_add(digit.wrapping_sub(b'0') as i128)
+// How often trees expanded to a polynomial, to too large a coefficient and to another fault.
+#[derive(Clone, Copy)]
+struct Tally {
+    whole: u32,
+    large: u32,
+    other: u32,
 }
 
-// The operand that was read last.
-fn operand(stack: &mut Vec<Expr>) -> Result<Expr, Fail> {
-    Ok(stack.pop().ok_or("an operand is missing")?)
+// The tally with one answer more.
+fn tallied(tally: Tally, answer: &Result<Poly, PolyError>) -> Tally {
+    let mut more = tally;
+    match answer {
+        Ok(_) => more.whole = tally.whole.saturating_add(1),
+        Err(PolyError::CoefTooLarge) => more.large = tally.large.saturating_add(1),
+        Err(_) => more.other = tally.other.saturating_add(1),
+    }
+    more
 }
 
-// Reads what isn't a digit.
-fn apply(alloc: Global, stack: &mut Vec<Expr>, byte: u8) -> Result<(), Fail> {
-    if byte == b' ' {
-        return Ok(());
-    }
-    if byte.is_ascii_uppercase() {
-        stack.push(Expr::Var(byte.wrapping_sub(b'A') as u32))?;
-        return Ok(());
-    }
-    let last = operand(stack)?;
-    let e = if byte == b'~' {
-        Expr::negation(alloc, last)?
-    } else {
-        joined(alloc, byte, operand(stack)?, last)?
+/// A number of trees, that each expands as by the plain expansion, and that more than 200 have a polynomial, more than
+/// 50 too large a coefficient and more than 50 another fault; or the first tree that doesn't.
+pub(crate) fn many_trees(alloc: Global, count: &str) -> Result<String, Memory> {
+    let count = number(count);
+    let mut tally = Tally {
+        whole: 0,
+        large: 0,
+        other: 0,
     };
-    stack.push(e)?;
-    Ok(())
-}
-
-// Two operands with the operator between them.
-fn joined(alloc: Global, operator: u8, left: Expr, right: Expr) -> Result<Expr, Fail> {
-    match operator {
-        b'+' => Ok(Expr::sum(alloc, left, right)?),
-        b'-' => Ok(Expr::difference(alloc, left, right)?),
-        b'*' => Ok(Expr::product(alloc, left, right)?),
-        _ => Ok(Expr::power(alloc, left, exponent(&right))?),
+    let mut seed = 1;
+    for i in 0..count {
+        let e = any_tree(alloc, &mut seed, i % 40)?;
+        let answer = expand(alloc, &e);
+        if !is_plain(alloc, &e, &answer) {
+            return format!(in alloc; "differs at {i}");
+        }
+        tally = tallied(tally, &answer);
     }
+    let often = tally.whole > 200 && tally.large > 50 && tally.other > 50;
+    let kinds = if often {
+        "each kind often"
+    } else {
+        "a kind is rare"
+    };
+    format!(in alloc; "{count} trees, none differs, {kinds}")
 }
 
-// The exponent that a number is.
-fn exponent(e: &Expr) -> u32 {
-    match e {
-        Expr::Num(z) => u32::try_from(*z).unwrap_or(0),
-        _ => 0,
-    }
-}
-
-/// Whether each variable of an expression is below n.
-pub(crate) fn reads_below(n: usize, e: &Expr) -> bool
-    ensures { result ≡ true → ReadsBelow n (term_of e.now) }
-{
-    match e {
-        Expr::Num(_) => true,
-        Expr::Var(i) => (*i as usize) < n,
-        Expr::Neg(e) => reads_below(n, e),
-        Expr::Add(d, e) => reads_below(n, d) && reads_below(n, e),
-        Expr::Sub(d, e) => reads_below(n, d) && reads_below(n, e),
-        Expr::Mul(d, e) => reads_below(n, d) && reads_below(n, e),
-        Expr::Pow(e, _) => reads_below(n, e),
-    }
-}
-
-// The expanded difference of a comparison.
-fn difference(alloc: Global, d: &Expr, rel: Rel, e: &Expr) -> Result<Poly, PolyError>
-    ensures { IfOk result (λ _. first_fault (difference_of (term_of d.now) (relation_of rel) (term_of e.now)) ≡ None) }
-{
-    match rel {
-        Rel::Ge | Rel::Eq => expand_difference(alloc, d, e),
-        Rel::Gt => expand_strict_difference(alloc, d, e),
-        Rel::Le => expand_difference(alloc, e, d),
-        Rel::Lt => expand_strict_difference(alloc, e, d),
-    }
-}
-
-// Whether an atom can be expanded and reads variables below n alone.
-fn is_valid_atom(alloc: Global, n: usize, atom: &Atom) -> bool
-    ensures { result ≡ true → IsValidAtom n (atom_of atom.now) }
-{
-    match atom {
-        Atom::Always => true,
-        Atom::Compare { left, rel, right } => match difference(alloc, left, *rel, right) {
-            Ok(_) => reads_below(n, left) && reads_below(n, right),
-            Err(_) => false,
+/// Whether an expression expands as by the plain expansion.
+pub(crate) fn compared(alloc: Global, text: &str) -> Result<String, Memory> {
+    let e = expression(alloc, text)?;
+    let alike = is_plain(alloc, &e, &expand(alloc, &e));
+    String::from_str(
+        alloc,
+        if alike {
+            "as by the plain expansion"
+        } else {
+            "differs"
         },
-    }
-}
-
-/// Whether atoms can be expanded and read variables below n alone.
-pub(crate) fn are_valid_atoms(alloc: Global, n: usize, atoms: &[Atom]) -> bool
-    ensures { result ≡ true → AllByRecursion (IsValidAtom n) (map atom_of atoms.now) }
-{
-    for atom in atoms {
-        if !is_valid_atom(alloc, n, atom) {
-            return false;
-        }
-    }
-    true
-}
-
-// Whether an update can be expanded and reads variables below n alone.
-fn is_valid_update(alloc: Global, n: usize, u: &Expr) -> bool
-    ensures { result ≡ true → IsValidTerm n (term_of u.now) }
-{
-    match expand(alloc, u) {
-        Ok(_) => reads_below(n, u),
-        Err(_) => false,
-    }
-}
-
-/// Whether a cost, where there is one, can be expanded and reads variables below n alone.
-pub(crate) fn is_valid_cost(alloc: Global, n: usize, cost: &Option<Expr>) -> bool
-    ensures { result ≡ true → IsValidCost n (option_map term_of cost.now) }
-{
-    match cost {
-        None => true,
-        Some(c) => is_valid_update(alloc, n, c),
-    }
-}
-
-/// Whether updates can be expanded and read variables below n alone.
-pub(crate) fn are_valid_updates(alloc: Global, n: usize, updates: &[Expr]) -> bool
-    ensures { result ≡ true → AllByRecursion (IsValidTerm n) (map term_of updates.now) }
-{
-    for u in updates {
-        if !is_valid_update(alloc, n, u) {
-            return false;
-        }
-    }
-    true
+    )
 }

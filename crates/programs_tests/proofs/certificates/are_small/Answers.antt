@@ -1,4 +1,4 @@
-use Rattle.std.proofs.Common.{map, length, arith}
+use Rattle.std.proofs.Common.{map, arith}
 use Rattle.std.proofs.lemmas.List.{length-map}
 use Rattle.poly_terms.specs.Views.{form_of}
 use Rattle.farkas_cert.proofs.Sums.{rows_of_a_rule}

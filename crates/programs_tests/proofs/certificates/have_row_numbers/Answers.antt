@@ -1,6 +1,5 @@
-use Rattle.std.proofs.Common.{◌≡◌, ℕ, List, All, map, take, sym, ap, subst, arith, rules, IsTrue}
+use Rattle.std.proofs.Common.{List, All, map, subst, arith, rules}
 use Rattle.std.proofs.lemmas.List.{take_all}
-use Rattle.linear_forms.specs.Forms.{Form}
 use Rattle.poly_terms.specs.declared.poly.Row.{Row}
 use Rattle.poly_terms.specs.Views.{form_of}
 use Rattle.farkas_cert.specs.Sizes.{HasRowNumbers}

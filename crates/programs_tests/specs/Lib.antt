@@ -1,2 +1,0 @@
--- the programs that tests try
-pub mod Programs
