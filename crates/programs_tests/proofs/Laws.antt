@@ -1,5 +1,5 @@
 -- The first rule of a program, room for the places of its symbols, and the variables of an expanded expression.
-use Rattle.std.proofs.Common.{◌≡◌, ℕ, ◌<◌, ◌≤◌, List, [], ◌∷◌, length, false, ⊥, refl, ap, sym, subst, get_or, option_map}
+use Rattle.std.proofs.Common.{◌≡◌, ℕ, ◌<◌, ◌≤◌, List, [], ◌∷◌, length, false, refl, ap, sym, subst, get_or, option_map}
 use Rattle.std.proofs.Common.{◌∙◌, arith}
 use Rattle.std.specs.Prelude.{Option, Some, vec_len, ◌==◌}
 use Rattle.std.specs.List.{AllByRecursion}
