@@ -1,4 +1,4 @@
-use Rattle.run_times.proofs.replays.steps_replayed.Goals as goal
+use Rattle.measuring.proofs.runs.steps_replayed.Goals as goal
 
 -- a run file that is read has a value for each place of the start symbol
 pub replayed-requires-clause-start : goal.replayed-requires-clause-start

@@ -1,4 +1,4 @@
-//! Replays of a made run of 32 values.
+//! Reads made runs, and replays them. The program has one rule, which adds a free variable to each of its values.
 
 ghost use Rattle.std.specs.Prelude.{◌≡◌, length};
 ghost use Rattle.its_model.specs.model.Programs.{arity_of};
@@ -11,11 +11,9 @@ use its_reader::read;
 use run_replay::{RunFile, read_run, replay};
 use std::alloc::{AllocError, Global};
 
-const PLACES: u32 = 32;
-
 // The arguments of a symbol, each followed by what is added to it.
-fn push_arguments(text: &mut Vec<u8>, added: &[u8]) -> Result<(), AllocError> {
-    for place in 0..PLACES {
+fn push_arguments(text: &mut Vec<u8>, places: u32, added: &[u8]) -> Result<(), AllocError> {
+    for place in 0..places {
         text.push(if place == 0 { b'(' } else { b',' })?;
         text.push(b'A')?;
         let mut buffer = Buffer::new();
@@ -26,20 +24,20 @@ fn push_arguments(text: &mut Vec<u8>, added: &[u8]) -> Result<(), AllocError> {
     Ok(())
 }
 
-// A program of one rule, which adds a free variable to each of its values.
-fn program_text(alloc: Global) -> Result<Vec<u8>, AllocError> {
+// The text of the program with this many values.
+fn program_text(alloc: Global, places: u32) -> Result<Vec<u8>, AllocError> {
     let mut text = b"(STARTTERM (FUNCTIONSYMBOLS l0))(RULES l0".to_vec(alloc)?;
-    push_arguments(&mut text, b"")?;
+    push_arguments(&mut text, places, b"")?;
     text.extend_from_slice(b" -> Com_1(l0")?;
-    push_arguments(&mut text, b"+C")?;
+    push_arguments(&mut text, places, b"+C")?;
     text.extend_from_slice(b"))")?;
     Ok(text)
 }
 
-// A run of this many steps of it.
-fn run_text(alloc: Global, steps: u32) -> Result<Vec<u8>, AllocError> {
+// The text of a run of it with this many steps.
+fn run_text(alloc: Global, places: u32, steps: u32) -> Result<Vec<u8>, AllocError> {
     let mut text = b"koat-run 1\nstart".to_vec(alloc)?;
-    for _ in 0..PLACES {
+    for _ in 0..places {
         text.extend_from_slice(b" 5")?;
     }
     text.push(b'\n')?;
@@ -50,10 +48,26 @@ fn run_text(alloc: Global, steps: u32) -> Result<Vec<u8>, AllocError> {
     Ok(text)
 }
 
-/// How many steps are counted where a run of this many steps is replayed a number of times.
+/// How many steps are read where the file of a run of one value and this many steps is read a number of times.
+pub(crate) fn steps_read(alloc: Global, steps: u32, times: u32) -> Result<u64, AllocError> {
+    let Ok(program) = read(alloc, &program_text(alloc, 1)?) else {
+        return Err(AllocError);
+    };
+    let run = run_text(alloc, 1, steps)?;
+    let mut found = 0;
+    for _ in 0..times {
+        match read_run(alloc, &program, &run) {
+            Ok(file) => found = file.steps.len() as u64,
+            Err(_) => return Err(AllocError),
+        }
+    }
+    Ok(found)
+}
+
+/// How many steps are counted where a run of 32 values and this many steps is replayed a number of times.
 pub(crate) fn steps_replayed(alloc: Global, steps: u32, times: u32) -> Result<u64, AllocError> {
-    let program = program_text(alloc)?;
-    let run = run_text(alloc, steps)?;
+    let program = program_text(alloc, 32)?;
+    let run = run_text(alloc, 32, steps)?;
     match read(alloc, &program) {
         Ok(program) => match read_run(alloc, &program, &run) {
             Ok(file) => replayed(alloc, &program, &file, times),
