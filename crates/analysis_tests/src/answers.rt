@@ -19,7 +19,8 @@ const PIVOTS: u32 = 10_000;
 
 /// Answers a line.
 ///
-/// - `times`, `sizes`, `total` and `counts` are followed by a number of pivots, and answered by what an analysis finds.
+/// - `times`, `sizes`, `total`, `costs` and `counts` are followed by a number of pivots, and answered by what an
+///   analysis finds.
 /// - `local` is followed by a number of pivots and a place of a rule, and answered by the local bound; so is
 ///   `given-up`, where the question whether the rule's rows have a point hit a limit after so many pivots.
 /// - `components` is followed by a sign for each rule, `+` where it is live, and answered by the components.
