@@ -2,7 +2,7 @@
 
 use crate::accepted::accepted;
 use crate::asked::asked;
-use crate::calls::{ended, shown};
+use crate::calls::{ends_of, shown};
 use crate::limits::reported;
 use crate::processes::{end_of_process, numbers_of_statuses};
 use crate::repeated::{beginnings, stopped};
@@ -28,7 +28,7 @@ use std::alloc::Global;
 pub(crate) fn answer(alloc: Global, line: &str) -> Result<String, Memory> {
     let (call, rest) = first_and_rest(line);
     match call {
-        "run" => shown(alloc, &ended(alloc, scene_of(alloc, rest)?)?),
+        "run" => shown(alloc, &ends_of(alloc, scene_of(alloc, rest)?)?),
         "beginnings" => beginnings(alloc, rest),
         "stopped" => stopped(alloc, rest),
         "accepted" => accepted(alloc, &scene_of(alloc, rest)?),

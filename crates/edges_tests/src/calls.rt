@@ -12,14 +12,14 @@ const ROOM: u64 = 99_999;
 
 /// How a call ended: its status, how many files were fetched up to its end, and what it wrote.
 #[derive(Drop)]
-pub(crate) struct Ended {
+pub(crate) struct CallEnd {
     pub(crate) status: Status,
     pub(crate) fetches: u64,
     pub(crate) text: Vec<u8>,
 }
 
 /// The ends of all calls of a scene.
-pub(crate) fn ended(alloc: Global, scene: Scene) -> Result<Vec<Ended>, Memory> {
+pub(crate) fn ends_of(alloc: Global, scene: Scene) -> Result<Vec<CallEnd>, Memory> {
     let Scene {
         calls,
         files,
@@ -33,7 +33,7 @@ pub(crate) fn ended(alloc: Global, scene: Scene) -> Result<Vec<Ended>, Memory> {
         let before = sink.bytes().len();
         let status = run(alloc, words, &mut shelf, &mut sink);
         let text = sink.bytes().get(before..).unwrap_or(b"").to_vec(alloc)?;
-        all.push(Ended {
+        all.push(CallEnd {
             status,
             fetches: shelf.calls(),
             text,
@@ -43,7 +43,7 @@ pub(crate) fn ended(alloc: Global, scene: Scene) -> Result<Vec<Ended>, Memory> {
 }
 
 /// Ends of calls as text.
-pub(crate) fn shown(alloc: Global, all: &[Ended]) -> Result<String, Memory> {
+pub(crate) fn shown(alloc: Global, all: &[CallEnd]) -> Result<String, Memory> {
     let mut text = String::new(alloc);
     for ended in all {
         if !text.is_empty() {

@@ -1,6 +1,6 @@
 //! Programs up to the limits on rules and places, and past them.
 
-use crate::calls::ended;
+use crate::calls::{CallEnd, ends_of};
 use crate::scenes::scene_of;
 use crate::words::{first_and_rest, number};
 use koat_cli::Status;
@@ -61,17 +61,20 @@ pub(crate) fn reported(alloc: Global, text: &str) -> Result<String, Memory> {
         bytes: written.as_bytes().to_vec(alloc)?,
     })?;
     let foreseen = report(alloc, rules, places)?;
-    let all = ended(alloc, scene)?;
-    String::from_str(alloc, match all.as_slice() {
-        [only] if only.status == Status::Done && only.text.as_slice() == foreseen.as_bytes() => {
-            "the report"
-        }
-        [only] if is_refused(only.status, &only.text) => "refused",
-        _ => "another answer",
-    })
+    let all = ends_of(alloc, scene)?;
+    match all.split_first() {
+        Some((only, _)) => String::from_str(alloc, kind_of(only, foreseen.as_bytes())),
+        None => String::from_str(alloc, "no call"),
+    }
 }
 
-// Whether an answer is a refusal of the program at a byte.
-fn is_refused(status: Status, text: &[u8]) -> bool {
-    status == Status::ProgramRefused && text.starts_with(b"program refused at ")
+// Whether a call ended with the report that was foreseen, or with a refusal of the program at a byte.
+fn kind_of(only: &CallEnd, foreseen: &[u8]) -> &'static str {
+    if only.status == Status::Done && only.text.as_slice() == foreseen {
+        "the report"
+    } else if only.status == Status::ProgramRefused && only.text.starts_with(b"program refused at ") {
+        "refused"
+    } else {
+        "another answer"
+    }
 }

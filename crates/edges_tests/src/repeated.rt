@@ -1,6 +1,6 @@
 //! Scenes that are run again and again: with each beginning of a file, and stopped at each byte that is written.
 
-use crate::calls::{Ended, ended, shown};
+use crate::calls::{CallEnd, ends_of, shown};
 use crate::scenes::{Scene, scene_of};
 use crate::words::first_and_rest;
 use model::Memory;
@@ -37,7 +37,7 @@ pub(crate) fn beginnings(alloc: Global, text: &str) -> Result<String, Memory> {
     for count in 0..=length_of(&scene_of(alloc, written)?, name) {
         let mut scene = scene_of(alloc, written)?;
         cut_file(alloc, &mut scene, name, count)?;
-        let all = ended(alloc, scene)?;
+        let all = ends_of(alloc, scene)?;
         if let Some((first, others)) = all.split_first() {
             let status = first.status;
             let others = shown(alloc, others)?;
@@ -70,7 +70,7 @@ fn cut_file(alloc: Global, scene: &mut Scene, name: &str, count: usize) -> Resul
 /// What it leads to that the first put stops after each number of bytes that is less than all: the status of the first
 /// call, whether it wrote these bytes, and the ends of the others.
 pub(crate) fn stopped(alloc: Global, written: &str) -> Result<String, Memory> {
-    let whole = first_text(alloc, &ended(alloc, scene_of(alloc, written)?)?)?;
+    let whole = first_text(alloc, &ends_of(alloc, scene_of(alloc, written)?)?)?;
     let mut runs = Runs {
         text: String::new(alloc),
         last: String::new(alloc),
@@ -81,7 +81,7 @@ pub(crate) fn stopped(alloc: Global, written: &str) -> Result<String, Memory> {
             call: 1,
             bytes: count as u64,
         })?;
-        let all = ended(alloc, scene)?;
+        let all = ends_of(alloc, scene)?;
         if let Some((first, others)) = all.split_first() {
             let status = first.status;
             let wrote = if first.text.as_slice() == whole.get(..count).unwrap_or(b"") {
@@ -98,7 +98,7 @@ pub(crate) fn stopped(alloc: Global, written: &str) -> Result<String, Memory> {
 }
 
 // What the first call wrote.
-fn first_text(alloc: Global, all: &[Ended]) -> Result<Vec<u8>, Memory> {
+fn first_text(alloc: Global, all: &[CallEnd]) -> Result<Vec<u8>, Memory> {
     match all {
         [first, ..] => first.text.as_slice().to_vec(alloc),
         [] => Ok(Vec::new(alloc)),

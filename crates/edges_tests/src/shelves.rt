@@ -50,5 +50,6 @@ pub(crate) fn fetched_from_memory(alloc: Global, text: &str) -> Result<String, M
 /// What a shelf without faults gives for the first words of a scene.
 pub(crate) fn fetched_steadily(alloc: Global, text: &str) -> Result<String, Memory> {
     let (words, _) = text.split_once('@').unwrap_or((text, ""));
-    fetched(alloc, &mut SteadyShelf::new(scene_of(alloc, text)?.files), words)
+    let Scene { files, .. } = scene_of(alloc, text)?;
+    fetched(alloc, &mut SteadyShelf::new(files), words)
 }

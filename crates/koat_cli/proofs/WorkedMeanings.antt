@@ -1,6 +1,6 @@
 -- What statuses mean, and which reports `analyse` may have written, come to what was worked out.
-use Rattle.std.proofs.Common.{◌≡◌, ℕ, ◌<◌, Bool, true, false, cond, List, [], ◌∷◌, ◌++◌, length, get_or, Some, None, refl, sym, ◌∙◌, ap}
-use Rattle.std.proofs.Common.{subst, arith, codes, inl, inr}
+use Rattle.std.proofs.Common.{◌≡◌, ℕ, ◌<◌, Bool, true, false, cond, List, [], ◌∷◌, ◌++◌, length, get_or, Option, Some, None}
+use Rattle.std.proofs.Common.{refl, sym, ◌∙◌, ap, subst, arith, codes, inl, inr}
 use Rattle.std.proofs.lemmas.List.{append_cancel_left}
 use Rattle.std.specs.FinMap.{get}
 use Rattle.model.specs.Programs.{Program}
@@ -117,6 +117,10 @@ analysing r asked =
     read_in_one_way.one_request (codes "analyse" ∷ codes "p" ∷ []) r (OfProgram Analyse 10000 (codes "p")) asked
     command_lines.file_alone
 
+-- a file that is held isn't lacking
+not_both : (there : Option (List ℕ)) → there ≡ Some [] → there ≡ None → ⊥
+not_both there holds lacks = cc
+
 held : (bytes : List ℕ) → ¬ (Analysing (holding (codes "p")) ReadFault bytes)
 held bytes h =
     let found = h.read_fault refl in
@@ -124,7 +128,7 @@ held bytes h =
   where
     go : MayMiss (holding (codes "p")) (plan_of (OfProgram Analyse 10000 (codes "p"))) → ⊥
     go (inl (inl rose)) = steady rose
-    go (inl (inr lacks)) = let there = has_program in cc
+    go (inl (inr lacks)) = not_both _ has_program lacks
     go (inr (p, (gives, never))) = never
 
 refused_unwritten : ¬ (Analysing (holding (codes "p")) ProgramRefused [])
@@ -141,20 +145,24 @@ refused_unwritten h =
         omega (arith, letter)
     go (inr (p, (gives, never))) = never
 
--- the first letter of a report is that of its headline
+-- the first letter of a report, by whether no bound is missing, is that of its headline
+abbrev first_letter : Bool → ℕ
+first_letter true = 98
+first_letter false = 117
+
 headline_first : (b : Bool) (lines reasons : List ℕ)
-    → get_or ((cond b (codes "bounded\n") (codes "unknown\n") ++ lines) ++ reasons) 0 0 ≡ cond b 98 117
+    → get_or ((cond b (codes "bounded\n") (codes "unknown\n") ++ lines) ++ reasons) 0 0 ≡ first_letter b
 headline_first true lines reasons = refl
 headline_first false lines reasons = refl
 
-report_first : (p : Program) (r : Report) → get_or (text_of_report p r) 0 0 ≡ cond (is_bounded r) 98 117
+report_first : (p : Program) (r : Report) → get_or (text_of_report p r) 0 0 ≡ first_letter (is_bounded r)
 unfolding text_of_report
 report_first p r = headline_first (is_bounded r) _ _
 
 -- so it is that of what was written
 module _ (call : Call) (bytes : List ℕ) (pivots : ℕ) (file : Word) (r : Report)
     (wrote : WroteReport call (appended bytes) pivots file r) where
-  written_first : get_or bytes 0 0 ≡ cond (is_bounded r) 98 117
+  written_first : get_or bytes 0 0 ≡ first_letter (is_bounded r)
   written_first =
       first_is bytes wrote.text wrote.appended
       ∙ (ap (λ (w : List ℕ). get_or w 0 0) wrote.stated.text_of ∙ report_first wrote.program r)
@@ -162,7 +170,7 @@ module _ (call : Call) (bytes : List ℕ) (pivots : ℕ) (file : Word) (r : Repo
   something_written : get_or bytes 0 0 ≡ 0 → ⊥
   something_written e = go (is_bounded r) (sym e ∙ written_first)
     where
-      go : (b : Bool) → 0 ≡ cond b 98 117 → ⊥
+      go : (b : Bool) → 0 ≡ first_letter b → ⊥
       go true letter = omega (arith, letter)
       go false letter = omega (arith, letter)
 
@@ -170,13 +178,13 @@ done_first : (seen : Seen) (bytes : List ℕ) → Analysing seen Done bytes → 
 done_first seen bytes h =
     let call : Call = record { words = codes "analyse" ∷ codes "p" ∷ []; fetches_before = Some 0; shelf = seen } in
     let found = h.done 10000 (codes "p") command_lines.file_alone refl in
-    written_first call bytes 10000 (codes "p") found.0 found.1.0 ∙ ap (λ (b : Bool). cond b 98 117) found.1.1.0
+    written_first call bytes 10000 (codes "p") found.0 found.1.0 ∙ ap first_letter found.1.1.0
 
 unknown_first : (seen : Seen) (bytes : List ℕ) → Analysing seen Unknown bytes → get_or bytes 0 0 ≡ 117
 unknown_first seen bytes h =
     let call : Call = record { words = codes "analyse" ∷ codes "p" ∷ []; fetches_before = Some 0; shelf = seen } in
     let found = h.unknown 10000 (codes "p") command_lines.file_alone refl in
-    written_first call bytes 10000 (codes "p") found.0 found.1.0 ∙ ap (λ (b : Bool). cond b 98 117) found.1.1
+    written_first call bytes 10000 (codes "p") found.0 found.1.0 ∙ ap first_letter found.1.1
 
 pub statuses_mean : StatusesMean
 statuses_mean = record {
