@@ -27,7 +27,7 @@ use Rattle.size_nodes.specs.Members.{IsMemberOfProgram, AreMembersOfProgram}
 use Rattle.time_bounds.specs.Candidates.{IsAccepted}
 use Rattle.time_bounds.proofs.RowLaws.{RowsAt, rows_at}
 
--- both side bounds that are found for a place of a rule are accepted
+-- both arms that are found of a place of a rule are accepted
 pub accepted : (p : Program) (prepared_rules : List RuleRows) (k pivots : ℕ) (m : RuleRows) (result_variable : ResultVariable) (e : GuardFeasibility) (l : LocalBound)
     → IsValid p → AreRowsOf prepared_rules p → k < length prepared_rules → m ≡ get_or prepared_rules k m → result_variable.rule ≡ suc k → 1 ≤ result_variable.place
     → result_variable.place ≤ length m.new_values.items → IsLocal (prepared_of m) result_variable pivots e (HasBound l) → IsAccepted p (record { result_variable = result_variable; local = l })
@@ -62,7 +62,7 @@ given_alone p g prepared_rules ms m valid graph rows all some is =
     let k = subst (IsAccepted p) first (all 0 (member_of m) (omega (arith, some, length-map ms member_of))) in
     record { valid = valid; graph = graph; rows = rows; shape = k.shape; up = k.up; low = k.low }
 
--- what the search for the sizes of the members of a loop is given
+-- and that for the size of the members of a loop
 pub given_loop : (p : Program) (g : Graph) (prepared_rules : List RuleRows) (ms : List code.Member) → IsValid p → IsGraphOf g p → AreRowsOf prepared_rules p
     → All (IsAccepted p) (map member_of ms) → 0 < length ms → AreAscending (map member_of ms) → AreMembersOfProgram p g prepared_rules (map member_of ms)
 given_loop p g prepared_rules ms valid graph rows all some ascending = record {

@@ -10,16 +10,16 @@ ghost use Rattle.cert_types.specs.Views.{member_of, result_variable_of};
 ghost use Rattle.rank_search.specs.rule_questions.EmptyAnswers.{IsPrepared, SaysEmpty};
 ghost use Rattle.time_bounds.specs.Candidates.{IsAccepted};
 
+use crate::words::number_at;
 use cert_types::{GuardFeasibility, LimitCause, LimitHit, Member, Question, ResultVariable};
 use guard_prep::RuleRows;
 use local_size::{LocalAnswer, local};
 use model::Memory;
 use std::alloc::Global;
-use std::process::Abort;
 
 const PIVOTS: u32 = 10_000;
 
-// That it isn't known whether the rows of a rule have a point. No side bound depends on it.
+// That it isn't known whether the rows of a rule have a point. No arm depends on it.
 fn unknown(rule: u32) -> GuardFeasibility
     ensures { ¬ SaysEmpty result }
 {
@@ -29,9 +29,8 @@ fn unknown(rule: u32) -> GuardFeasibility
     })
 }
 
-// The answer for each place of a rule.
+/// The answer for each place of a rule.
 pub(crate) fn locals_after(
-    rt: &impl Abort,
     alloc: Global,
     prepared_rule: &RuleRows,
     rule: u32,
@@ -39,13 +38,11 @@ pub(crate) fn locals_after(
     requires { IsPrepared prepared_rule.now }
     ensures { IfOk result (λ answers. length answers.items ≡ length prepared_rule.now.new_values.items) }
 {
-    let places = prepared_rule.new_values.len();
-    assert!(rt; places <= 32);
     let mut answers = Vec::new(alloc);
-    for position in 0..places as u32 {
+    for position in 0..prepared_rule.new_values.len() {
         let result_variable = ResultVariable {
             rule,
-            place: position + 1,
+            place: number_at(position),
         };
         answers.push(local(
             alloc,
@@ -115,23 +112,19 @@ fn push_member(
     Ok(())
 }
 
-// Those of these places, by rule and place, that have local bounds, with these.
+/// Those of these places that have local bounds, with these.
 pub(crate) fn members_at(
     alloc: Global,
     prepared_rules: &[RuleRows],
-    result_variables: &[(u32, u32)],
+    result_variables: &[ResultVariable],
 ) -> Result<Vec<Member>, Memory>
     requires { (p : PlainProgram) × (IsValid p × AreRowsOf prepared_rules.now p) }
     ensures { IfOk result (λ members. (p : PlainProgram) → IsValid p → AreRowsOf prepared_rules.now p
         → All (IsAccepted p) (map member_of members.items)) }
 {
     let mut members = Vec::new(alloc);
-    for (rule, place) in result_variables {
-        let result_variable = ResultVariable {
-            rule: *rule,
-            place: *place,
-        };
-        push_member(alloc, &mut members, prepared_rules, result_variable)?;
+    for result_variable in result_variables {
+        push_member(alloc, &mut members, prepared_rules, *result_variable)?;
     }
     Ok(members)
 }
@@ -143,7 +136,7 @@ fn comes_before(one: ResultVariable, other: ResultVariable) -> bool
     one.rule < other.rule || one.rule == other.rule && one.place < other.place
 }
 
-// Whether members ascend.
+/// Whether members ascend.
 pub(crate) fn ascend(members: &[Member]) -> bool
     ensures { result ≡ true → AreAscending (map member_of members.now) }
 {

@@ -1,28 +1,31 @@
 //! Programs of some rules, and what the searches are given of them.
 
-ghost use Rattle.std.specs.Prelude.{IfOk};
+ghost use Rattle.std.specs.Prelude.{IfOk, IfSome};
 ghost use Rattle.its_model.specs.Valid.{IsValid};
 ghost use Rattle.its_model.specs.Views.{program_of};
 ghost use Rattle.cert_types.specs.Composing.{AreRowsOf};
 
 use guard_prep::{RuleRows, rows};
 use its_model::Program;
-use its_reader::read;
+use its_reader::{ReadError, read};
 use model::Memory;
-use std::alloc::Global;
-use std::test::Fail;
+use std::alloc::{AllocError, Global};
 
-// A program with these rules, from l0.
-pub(crate) fn program(alloc: Global, rules: &str) -> Result<Program, Fail>
-    ensures { IfOk result (λ p. IsValid (program_of p)) }
+/// The program with these rules, from l0, where they are read.
+pub(crate) fn program(alloc: Global, rules: &str) -> Result<Option<Program>, Memory>
+    ensures { IfOk result (λ read. IfSome read (λ p. IsValid (program_of p))) }
 {
     let mut text = b"(STARTTERM (FUNCTIONSYMBOLS l0))(RULES ".to_vec(alloc)?;
     text.extend_from_slice(rules.as_bytes())?;
     text.push(b')')?;
-    Ok(read(alloc, &text)?)
+    match read(alloc, &text) {
+        Ok(p) => Ok(Some(p)),
+        Err(ReadError::Memory) => Err(AllocError),
+        Err(_) => Ok(None),
+    }
 }
 
-// The rows of each rule, in order.
+/// The rows of each rule, in order.
 pub(crate) fn all_rows(alloc: Global, p: &Program) -> Result<Vec<RuleRows>, Memory>
     requires { IsValid (program_of p.now) }
     ensures { IfOk result (λ prepared_rules. AreRowsOf prepared_rules.items (program_of p.now)) }

@@ -1,59 +1,49 @@
-//! Tables of given bounds.
+//! Tables of given bounds as lines write them: entries are divided by commas, and each is a place of a rule, or a rule
+//! and 0 for its time; the bound; and the number of its lemma. A bound is a number, an input from `A` to `C`, or behind
+//! a `*` how many parts A a sum has.
 
+use crate::words::{first_and_rest, number, result_variable};
 use bound_expr::Bound;
+use cert_types::ResultVariable;
 use model::Memory;
 use outcome::Stored;
 use size_bounds::Table;
 use std::alloc::Global;
 
-// A bound of a table: a number, an input, or a sum of this many parts A.
-#[derive(Clone, Copy)]
-pub(crate) enum Told {
-    C(u128),
-    V(u32),
-    Wide(u32),
-}
-
-use Told::{C, V, Wide};
-
-fn bound(alloc: Global, told: Told) -> Result<Bound, Memory> {
-    match told {
-        C(number) => Ok(Bound::Const(number)),
-        V(input) => Ok(Bound::Var(input)),
-        Wide(parts) => wide(alloc, parts),
+// A bound.
+fn bound(alloc: Global, word: &str) -> Result<Bound, Memory> {
+    if let Some(parts) = word.strip_prefix('*') {
+        let mut sum = Vec::new(alloc);
+        for _ in 0..number(parts) {
+            sum.push(Bound::Var(0))?;
+        }
+        return Ok(Bound::Sum(sum));
+    }
+    match word {
+        "A" => Ok(Bound::Var(0)),
+        "B" => Ok(Bound::Var(1)),
+        "C" => Ok(Bound::Var(2)),
+        _ => Ok(Bound::Const(u128::from(number(word)))),
     }
 }
 
-fn wide(alloc: Global, parts: u32) -> Result<Bound, Memory> {
-    let mut sum = Vec::new(alloc);
-    for _ in 0..parts {
-        sum.push(Bound::Var(0))?;
-    }
-    Ok(Bound::Sum(sum))
-}
-
-// A known bound: rule and place, or rule and 0 for a time; the bound, and the number of its lemma.
-pub(crate) type Entry = (u32, u32, Told, u32);
-
-fn entry(
-    alloc: Global,
-    entries: &[Entry],
-    rule: u32,
-    place: u32,
-) -> Result<Option<Stored>, Memory> {
-    for (of_rule, of_place, told, lemma) in entries {
-        if *of_rule == rule && *of_place == place {
+// The entry of a place of a rule, or at place 0 of its time.
+fn entry(alloc: Global, entries: &str, rule: u32, place: u32) -> Result<Option<Stored>, Memory> {
+    for written in entries.split(',') {
+        let (at, rest) = first_and_rest(written.trim());
+        let (word, lemma) = first_and_rest(rest);
+        if result_variable(at) == (ResultVariable { rule, place }) && !rest.is_empty() {
             return Ok(Some(Stored {
-                bound: bound(alloc, *told)?,
-                lemma: *lemma,
+                bound: bound(alloc, word)?,
+                lemma: number(lemma),
             }));
         }
     }
     Ok(None)
 }
 
-// The table of what is known, for up to four rules with up to three places.
-pub(crate) fn table(alloc: Global, entries: &[Entry]) -> Result<Table, Memory> {
+/// The table of what is known, for up to four rules with up to three places.
+pub(crate) fn table(alloc: Global, entries: &str) -> Result<Table, Memory> {
     let mut times = Vec::new(alloc);
     let mut sizes = Vec::new(alloc);
     for rule in 0..5 {

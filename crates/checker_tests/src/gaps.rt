@@ -35,7 +35,9 @@ fn shut_places(alloc: Global, text: &str) -> Result<Vec<(u32, u32)>, Memory> {
 fn points(alloc: Global, text: &str) -> Result<Vec<Scaled>, Memory> {
     let mut found = Vec::new(alloc);
     for list in text.split('/') {
-        found.push(point(alloc, list)?)?;
+        if !list.is_empty() {
+            found.push(point(alloc, list)?)?;
+        }
     }
     Ok(found)
 }

@@ -1,4 +1,4 @@
-//! The top call on a shelf and a sink without faults: a fault of writing never comes, and one of reading only where the
+//! The top call on a shelf and a sink without faults: a fault of writing never comes, and one of reading only if the
 //! shelf lacks a file of the request.
 
 ghost use Rattle.std.specs.Prelude.{◌≡◌, ◌≢◌, map, string_bytes};
@@ -7,10 +7,11 @@ ghost use Rattle.command_line.specs.Requests.{Request, Asks};
 ghost use Rattle.koat_cli.specs.RequestPlans.{plan_of};
 ghost use Rattle.call_plans.specs.Endings.{EndsOn};
 
+use crate::scenes::{Scene, scene_of};
 use koat_cli::{Status, run};
-use outside_io::{Held, SteadyShelf, SteadySink};
+use model::Memory;
+use outside_io::{SteadyShelf, SteadySink};
 use std::alloc::Global;
-use std::test::Fail;
 
 fn run_steadily(
     alloc: Global,
@@ -26,26 +27,15 @@ fn run_steadily(
     run(alloc, words, shelf, sink)
 }
 
-#[test]
-fn a_steady_run_ends_by_its_words_and_files(rt: HostRuntime) -> Result<(), Fail> {
-    let alloc = rt.alloc();
-    let mut files = Vec::new(alloc);
-    files.push(Held {
-        name: String::from_str(alloc, "p")?,
-        bytes: Vec::from_slice(
-            alloc,
-            b"(STARTTERM (FUNCTIONSYMBOLS f))(RULES f() -> Com_1(g()))",
-        )?,
-    })?;
+/// The statuses with which the calls of a scene end without faults.
+pub(crate) fn ends_steadily(alloc: Global, text: &str) -> Result<String, Memory> {
+    let Scene { calls, files, .. } = scene_of(alloc, text)?;
     let mut shelf = SteadyShelf::new(files);
-    for (name, status) in [("p", Status::Done), ("q", Status::ReadFault)] {
-        let mut words = Vec::new(alloc);
-        words.push(String::from_str(alloc, "analyse")?)?;
-        words.push(String::from_str(alloc, name)?)?;
-        assert_eq!(rt;
-            run_steadily(alloc, &words, &mut shelf, &mut SteadySink),
-            status
-        );
+    let mut text = String::new(alloc);
+    for words in &calls {
+        let comma = if text.is_empty() { "" } else { ", " };
+        let status = run_steadily(alloc, words, &mut shelf, &mut SteadySink);
+        text.push_str(&format!(in alloc; "{comma}{status:?}")?)?;
     }
-    Ok(())
+    Ok(text)
 }

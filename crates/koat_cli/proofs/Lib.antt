@@ -30,6 +30,7 @@ pub mod WorkedEnds
 pub mod WorkedAnswers
 pub mod WorkedReplayTexts
 pub mod WorkedMissingFiles
+pub mod WorkedMeanings
 pub mod LinesBeside
 pub mod AbsoluteValues
 pub mod AnalysisTexts

@@ -38,7 +38,7 @@ lasso_texts_worked = record { turn = refl; great_cost = refl; other_value = refl
 no_loop : IsNumber 100 (codes "0") 0
 no_loop = record { some = λ e. cc; digits = refl; plain = refl; value = refl; in_range = omega arith }
 
-generate_asked : Asks (codes "generate" ∷ codes "0" ∷ []) (OfNumber Generate 0)
+pub generate_asked : Asks (codes "generate" ∷ codes "0" ∷ []) (OfNumber Generate 0)
 generate_asked = record {
   others = codes "0" ∷ [];
   values = [];

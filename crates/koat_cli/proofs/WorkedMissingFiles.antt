@@ -35,7 +35,7 @@ abbrev one_file : Word → Files
 one_file name = insert empty name []
 
 -- it has no fault
-steady : ¬ (Rose 0 0)
+pub steady : ¬ (Rose 0 0)
 steady (inl more) = omega (arith, more)
 steady (inr most) = omega (arith, most)
 
@@ -46,7 +46,7 @@ lacks_program = get-insert nat_list_cmp_total empty (codes "-q") [] (codes "p") 
 lacks_checked : get (one_file (codes "q")) (codes "p") ≡ None
 lacks_checked = get-insert nat_list_cmp_total empty (codes "q") [] (codes "p") ∙ get-empty (slice_cmp nat_cmp) (codes "p")
 
-has_program : get (one_file (codes "p")) (codes "p") ≡ Some []
+pub has_program : get (one_file (codes "p")) (codes "p") ≡ Some []
 has_program = get-insert nat_list_cmp_total empty (codes "p") [] (codes "p")
 
 -- a call with these words on such a shelf
@@ -72,7 +72,7 @@ no_checked =
     ToRequest (OfPair Check (codes "p") (codes "q")) command_lines.check
     (Without refl (Unread (record { fault = inr lacks_checked; result_is = refl; ends = refl })))
 
-no_analysed : Analysed (holding (codes "q")) ReadFault read_fault_text
+pub no_analysed : Analysed (holding (codes "q")) ReadFault read_fault_text
 no_analysed =
     ToRequest (OfProgram Analyse 10000 (codes "p")) command_lines.file_alone
     (Without refl (Unread (record { fault = inr lacks_checked; result_is = refl; ends = refl })))
@@ -112,7 +112,7 @@ no_proof = ToRequest (OfPair Check (codes "p") (codes "q")) command_lines.check 
 no_lasso : Turned (holding (codes "p")) ProgramRefused (codes "program refused at 0: MissingSection\n")
 no_lasso = ToRequest (OfPair Lasso (codes "p") (codes "q")) command_lines.lasso (Without refl no_bytes)
 
-empty_analysed : Analysed (holding (codes "p")) ProgramRefused (codes "program refused at 0: MissingSection\n")
+pub empty_analysed : Analysed (holding (codes "p")) ProgramRefused (codes "program refused at 0: MissingSection\n")
 empty_analysed = ToRequest (OfProgram Analyse 10000 (codes "p")) command_lines.file_alone (Without refl no_bytes)
 
 module _ (laws : Determined) where

@@ -29,5 +29,6 @@ pub mod WorkedEnds
 pub mod WorkedAnswers
 pub mod WorkedReplayTexts
 pub mod WorkedMissingFiles
+pub mod WorkedMeanings
 -- what the contracts of the functions inside cite
 pub mod Steps

@@ -9,6 +9,7 @@ ghost use Rattle.koat_cli.specs.AnalysisTexts.{AnalysisTextsStateOneReport};
 ghost use Rattle.koat_cli.specs.WorkedEnds.{FaultsLeaveFirstBytes};
 ghost use Rattle.koat_cli.specs.WorkedAnswers.{FiguresAreWorkedOut, LassoTextsAreWorkedOut, AnswersAreWorkedOut};
 ghost use Rattle.koat_cli.specs.WorkedMissingFiles.{FilesAreReadInOrder};
+ghost use Rattle.koat_cli.specs.WorkedMeanings.{StatusesMean, ReportsAreOfPrograms};
 ghost use Rattle.koat_cli.specs.WorkedReplayTexts.{ReplaysAreTexts, TalliesAreBounded};
 
 use lassos::lassos_are_endless;
@@ -90,3 +91,10 @@ pub fn worked_missing_files_hold()
 {
     replays_are_decided();
 }
+
+/// Worked values of what statuses mean, and of which reports of a program may have been written. The function has no
+/// code: its contract is these values.
+pub fn worked_meanings_hold()
+    ensures statuses { StatusesMean }
+    ensures reports { ReportsAreOfPrograms }
+{}

@@ -30,7 +30,7 @@ pub use command_line::{FileTask, NumberTask, PairTask, ProgramTask, Request, ask
 pub use law::{
     analysis_texts_state_one_report, answers_exclude_each_other, calls_are_answered,
     lassos_leave_times_missing, what_is_proved_is_accepted, worked_answers_hold, worked_ends_hold,
-    worked_missing_files_hold, worked_replay_texts_hold,
+    worked_meanings_hold, worked_missing_files_hold, worked_replay_texts_hold,
 };
 pub use program::run_program;
 pub use report_text::print as print_report;

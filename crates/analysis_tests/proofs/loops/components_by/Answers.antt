@@ -7,10 +7,10 @@ use Rattle.analysis_tests.proofs.Answered.{locals_for}
 use Rattle.analysis_tests.proofs.loops.components_by.Goals as goal
 
 pub all_locals-requires : goal.all_locals-requires
-all_locals-requires g c = are_prepared c.requires.0 c.requires.1.0 c.args.prepared_rules.now c.requires.1.1.1.0
+all_locals-requires c = are_prepared c.requires.0 c.requires.1.0 c.args.prepared_rules.now c.requires.1.1.1.0
 
 pub components-requires : goal.components-requires
-components-requires g c =
+components-requires c =
     let p = c.requires.0 in
     let rest = c.requires.1 in (
       p,

@@ -1,0 +1,24 @@
+//! Answers each line of the standard input by one line: what an analysis, or a search that it makes, finds of the rules
+//! in it. A line without a call, as a remark that begins with `#`, is written as it is.
+#![tactic(auto)]
+
+mod answers;
+mod found;
+mod locals;
+mod loops;
+mod members;
+mod programs;
+mod shown;
+mod sizes;
+mod tables;
+mod words;
+
+use std::io;
+
+fn main(rt: HostRuntime) -> io::Result<()> {
+    for line in rt.lines(rt.alloc()) {
+        let text = answers::answer(rt.alloc(), line?.as_str())?;
+        println!(rt; "{text}")?;
+    }
+    Ok(())
+}
