@@ -178,13 +178,13 @@ done_first : (seen : Seen) (bytes : List ℕ) → Analysing seen Done bytes → 
 done_first seen bytes h =
     let call : Call = record { words = codes "analyse" ∷ codes "p" ∷ []; fetches_before = Some 0; shelf = seen } in
     let found = h.done 10000 (codes "p") command_lines.file_alone refl in
-    written_first call bytes 10000 (codes "p") found.0 found.1.0 ∙ ap first_letter found.1.1.0
+    written_first call bytes 10000 (codes "p") found.0 found.1 ∙ ap first_letter found.2
 
 unknown_first : (seen : Seen) (bytes : List ℕ) → Analysing seen Unknown bytes → get_or bytes 0 0 ≡ 117
 unknown_first seen bytes h =
     let call : Call = record { words = codes "analyse" ∷ codes "p" ∷ []; fetches_before = Some 0; shelf = seen } in
     let found = h.unknown 10000 (codes "p") command_lines.file_alone refl in
-    written_first call bytes 10000 (codes "p") found.0 found.1.0 ∙ ap first_letter found.1.1
+    written_first call bytes 10000 (codes "p") found.0 found.1 ∙ ap first_letter found.2
 
 pub statuses_mean : StatusesMean
 statuses_mean = record {
