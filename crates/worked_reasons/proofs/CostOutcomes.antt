@@ -38,6 +38,7 @@ use Rattle.worked_reasons.specs.CostOutcomes.{LimitsOfCostsAreWorkedOut, CostOut
 use Rattle.worked_reasons.specs.Programs.{tripped_at}
 use Rattle.worked_reasons.proofs.DoubleRuns.{asked_of}
 use Rattle.worked_reasons.proofs.Runs.{budget_run}
+use Rattle.worked_reasons.proofs.SmallRuns.{small_budget_run}
 use Rattle.worked_reasons.proofs.WholeEnds.{dual_run, solution_run}
 
 -- entering, with a bound of A on one step, costs A
@@ -137,13 +138,13 @@ side_bound_by r side kind zs solution = (zs, (1, solution, refl))
 abbrev costing : Term → Rule
 costing c = cost_rule (rule_above c) c
 
-above_costs : (c : Term) → HasCost (program_above c) 1
+abbrev above_costs : (c : Term) → HasCost (program_above c) 1
 above_costs c = record { rule = rule_above c; numbered = refl; cost = c; written = refl }
 
--- a point of the rows takes more than one pivot, with a cost of 5
+-- a point of the rows takes more than one pivot, the first of which gives fractions, with a cost of 5
 five_point : Trips (empty_program (prepared (costing five))) 1 (budget 1)
 unfolding program_of_question first_tableau equation cost pivot divisor_of
-five_point = budget_run (empty_program (prepared (costing five))) 1 refl refl
+five_point = small_budget_run (pos 1 ∷ []) (empty_program (prepared (costing five))) 1 refl refl
 
 abbrev five_up : List ℤ
 five_up = pos 5 ∷ pos 0 ∷ pos 0 ∷ pos 0 ∷ pos 0 ∷ pos 0 ∷ []
@@ -186,7 +187,7 @@ both_sides = record {
 -- with a cost of A - 1 it does so too
 less_point : Trips (empty_program (prepared (costing one_less))) 1 (budget 1)
 unfolding program_of_question first_tableau equation cost pivot divisor_of
-less_point = budget_run (empty_program (prepared (costing one_less))) 1 refl refl
+less_point = small_budget_run (pos 1 ∷ []) (empty_program (prepared (costing one_less))) 1 refl refl
 
 -- no number bounds the cost, A does
 abbrev less_dual : List ℤ
@@ -219,6 +220,7 @@ unfolding program_of_question first_tableau equation cost pivot divisor_of
 less_low = budget_run (asked_of (costing one_less) Low Number) 1 refl refl
 
 low_side : IsOutcome (program_above one_less) (NotBounded (SizeTripped (tripped_at 1 (asked.Cost 1))))
+unfolding divisor_of
 low_side = record {
   costs = above_costs one_less;
   feasibility = feasible.OutOfLimits (tripped_at 1 (asked.Empty 1));
@@ -241,7 +243,7 @@ low_side = record {
 abbrev squared_rule : Rule
 squared_rule = cost_rule squaring_free (Multiplication (Variable 0) (Variable 0))
 
-squared_costs : HasCost squared_free 1
+abbrev squared_costs : HasCost squared_free 1
 squared_costs = record {
   rule = squaring_free;
   numbered = refl;
@@ -251,7 +253,7 @@ squared_costs = record {
 
 squared_point : Trips (empty_program (prepared squared_rule)) 1 (budget 1)
 unfolding program_of_question first_tableau equation cost pivot divisor_of
-squared_point = budget_run (empty_program (prepared squared_rule)) 1 refl refl
+squared_point = small_budget_run (pos 1 ∷ []) (empty_program (prepared squared_rule)) 1 refl refl
 
 -- no form bounds it on a side
 abbrev up_dual : List ℤ
@@ -278,6 +280,7 @@ no_low : SideComesTo (prepared squared_rule) 1 1 Low (NoneFound (ray_by low_dual
 no_low = none_by squared_rule Low Affine low_dual squared_low
 
 neither_side : IsOutcome squared_free (NotBounded (SizeTripped (tripped_at 1 (asked.Cost 1))))
+unfolding divisor_of
 neither_side = record {
   costs = squared_costs;
   feasibility = feasible.OutOfLimits (tripped_at 1 (asked.Empty 1));
