@@ -28,3 +28,4 @@ pub mod Growths
 pub mod FirstReasons
 pub mod FirstUntimed
 pub mod Costs
+pub mod CostOutcomes

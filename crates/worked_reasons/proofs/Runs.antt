@@ -163,26 +163,31 @@ run_scale p allowed k r i low =
     (row_whole p (tableau_after p k)
     (every-each (suc k) (λ l. is_whole p (tableau_after p l)) r.passed k (omega arith)) i low).0
 
--- if another tableau follows after the allowed pivots, the program hits the limit on their number
-pub budget_run : (p : LinearProgram) (allowed : ℕ) → is_whole_run p allowed allowed ≡ true
-    → is_there (tableau_at p (suc allowed)) ≡ true → Trips p allowed (budget allowed)
-budget_run p allowed h onward =
-    let r = whole_run p allowed allowed h in (
-      r.fits,
-      refl,
-      record {
-        last = tableau_after p allowed;
-        reached = run_comes p allowed allowed r;
-        in_range = run_whole p allowed allowed r allowed (omega arith);
-        following = tableau_after p (suc allowed);
-        goes_on = follows (tableau_at p allowed) r.reached onward;
-      },
-    )
+-- if another tableau follows after the allowed pivots, and the tableaux that pass the test are in range, the program hits
+-- the limit on the number of pivots
+pub run_trips : (p : LinearProgram) (test : Tableau → Bool) (allowed : ℕ) → ((t : Tableau) → test t ≡ true → IsInRange p t)
+    → IsRun p test allowed allowed → is_there (tableau_at p (suc allowed)) ≡ true → Trips p allowed (budget allowed)
+run_trips p test allowed sound r onward = (
+  r.fits,
+  refl,
+  record {
+    last = tableau_after p allowed;
+    reached = run_after p test allowed allowed sound r;
+    in_range = run_in_range p test allowed allowed sound r allowed (omega arith);
+    following = tableau_after p (suc allowed);
+    goes_on = follows (tableau_at p allowed) r.reached onward;
+  },
+)
   where
     follows : (o : Option Tableau) → is_there o ≡ true → is_there (next_of p o) ≡ true
         → next p (tableau_in p o) ≡ Some (tableau_in p (next_of p o))
     follows None e f = absurd (no_is_not_yes false refl e)
     follows (Some t) e f = there_is p (next p t) f
+
+-- so it is where all tableaux so far have integers
+pub budget_run : (p : LinearProgram) (allowed : ℕ) → is_whole_run p allowed allowed ≡ true
+    → is_there (tableau_at p (suc allowed)) ≡ true → Trips p allowed (budget allowed)
+budget_run p allowed h onward = run_trips p (is_whole p) allowed (whole_in_range p) (whole_run p allowed allowed h) onward
 
 -- where none follows, it doesn't
 pub no_budget : (p : LinearProgram) (allowed n : ℕ) → is_there (tableau_at p (suc allowed)) ≡ false

@@ -12,3 +12,4 @@ pub mod Growths
 pub mod FirstReasons
 pub mod FirstUntimed
 pub mod Costs
+pub mod CostOutcomes

@@ -5,6 +5,7 @@
 //! No crate depends on this one, so its proofs delay no other. Main guarantee: the values themselves.
 #![tactic(auto)]
 
+ghost use Rattle.worked_reasons.specs.CostOutcomes.{CostOutcomesAreWorkedOut};
 ghost use Rattle.worked_reasons.specs.Costs.{CostsAreWorkedOut};
 ghost use Rattle.worked_reasons.specs.FirstReasons.{FirstReasonsAreWorkedOut};
 ghost use Rattle.worked_reasons.specs.FirstTrips.{FirstTripsAreWorkedOut};
@@ -22,8 +23,9 @@ ghost use Rattle.worked_reasons.specs.Trips.{TripsAreWorkedOut};
 /// of pivots, of numbers, of a table's size or of a point's integers, which of several rules is reported, and the one
 /// for a point where no function and no form is found; places that are loose on a side; sizes that depend on others,
 /// that bend in a loop, that grow by a rule without a time, and that are too large, which of several such reasons is
-/// reported, and of several such rules the first; a time that is too large; and a cost that is unbounded, or whose linear
-/// program exceeds a limit. The function has no code: its contract is these values.
+/// reported, and of several such rules the first; a time that is too large; a cost that is unbounded, or whose linear
+/// program exceeds a limit; and which outcome a cost has, by its rows, of several missing sizes, and where a limit is
+/// exceeded. The function has no code: its contract is these values.
 pub fn missing_bounds_are_as_worked_out()
     ensures trips { TripsAreWorkedOut }
     ensures first_trips { FirstTripsAreWorkedOut }
@@ -37,4 +39,5 @@ pub fn missing_bounds_are_as_worked_out()
     ensures first_reasons { FirstReasonsAreWorkedOut }
     ensures first_untimed { FirstUntimedIsWorkedOut }
     ensures costs { CostsAreWorkedOut }
+    ensures cost_outcomes { CostOutcomesAreWorkedOut }
 {}

@@ -1,3 +1,4 @@
+use Rattle.worked_reasons.proofs.CostOutcomes.{cost_outcomes_worked}
 use Rattle.worked_reasons.proofs.Costs.{costs_worked}
 use Rattle.worked_reasons.proofs.FirstReasons.{first_reasons_worked}
 use Rattle.worked_reasons.proofs.FirstTrips.{first_trips_worked}
@@ -13,4 +14,4 @@ use Rattle.worked_reasons.proofs.Trips.{trips_worked}
 use Rattle.worked_reasons.proofs.missing_bounds_are_as_worked_out.Goals as goal
 
 pub returns : goal.returns
-returns c = record { trips = trips_worked; first_trips = first_trips_worked; point_trips = point_trips_worked; limits = limits_worked; scales = scales_worked; unbounded_places = unbounded_places_worked; squares = squares_worked; products = products_worked; growths = growths_worked; first_reasons = first_reasons_worked; first_untimed = first_untimed_worked; costs = costs_worked }
+returns c = record { trips = trips_worked; first_trips = first_trips_worked; point_trips = point_trips_worked; limits = limits_worked; scales = scales_worked; unbounded_places = unbounded_places_worked; squares = squares_worked; products = products_worked; growths = growths_worked; first_reasons = first_reasons_worked; first_untimed = first_untimed_worked; costs = costs_worked; cost_outcomes = cost_outcomes_worked }
