@@ -1,0 +1,6 @@
+mod EndLists
+mod Preparing
+mod Stages
+mod Keeping
+-- the lemmas of the crate below, which callers name through this one
+pub use Rattle.section_decide.proofs as section_decide

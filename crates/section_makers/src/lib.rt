@@ -1,0 +1,15 @@
+//! Makers of sections of a program, and of a program with fewer atoms: an ordinary search, whose answers are only checked.
+//!
+//! Builds on `refined_programs`. No clause says that a maker finds anything: what it makes counts where
+//! `refinement_check::accept` accepts it. Of `without_large_atoms` it is proved that the program that it makes has the
+//! rules of the program with weaker guards, so that bounds carry over.
+#![tactic(auto)]
+
+mod atoms;
+mod last_rule;
+mod names;
+mod unrolling;
+
+pub use atoms::{lighter_programs_keep_bounds, without_large_atoms};
+pub use last_rule::by_last_rule;
+pub use unrolling::unrolled;
