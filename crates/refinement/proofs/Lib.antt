@@ -10,5 +10,6 @@ mod Weaker
 pub mod Keeping
 pub mod WorkedSections
 mod WorkedPrograms
+mod WorkedCosts
 -- the lemmas of the crate below, which callers name through this one
 pub use Rattle.model.proofs as model

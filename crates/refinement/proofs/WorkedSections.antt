@@ -100,19 +100,19 @@ shown-facts section r atoms k copy there h =
     subst (λ (c : Copy). All (λ f. NoneMeet r (guard_against r atoms f)) c.facts) same h.facts
 
 -- behind entering with A at least 0 it is so, and with A below 0 it is that
-entered-up : NoneMeet entering (guard_against entering (passes (Variable 0) ∷ []) (Variable 0))
+pub entered-up : NoneMeet entering (guard_against entering (passes (Variable 0) ∷ []) (Variable 0))
 entered-up = record { none = λ env len holds. omega (arith, ints, holds 0 Always (omega arith), holds 1 Always (omega arith)) }
 
-entered-down : NoneMeet entering
+pub entered-down : NoneMeet entering
     (guard_against entering (fails (Variable 0) ∷ []) (less (Negation (Variable 0)) 1))
 entered-down = record { none = λ env len holds. omega (arith, ints, holds 0 Always (omega arith), holds 1 Always (omega arith)) }
 
 -- behind the loop with A at least 0 it is so, since A was at least 1
-looped-up : NoneMeet looping (guard_against looping (passes (Variable 0) ∷ []) (Variable 0))
+pub looped-up : NoneMeet looping (guard_against looping (passes (Variable 0) ∷ []) (Variable 0))
 looped-up = record { none = λ env len holds. omega (arith, ints, holds 0 Always (omega arith), holds 3 Always (omega arith)) }
 
 -- with A below 0 it never loops
-no-loop : NoneMeet looping (guard_along looping (passes (less (Negation (Variable 0)) 1) ∷ []))
+pub no-loop : NoneMeet looping (guard_along looping (passes (less (Negation (Variable 0)) 1) ∷ []))
 no-loop = record { none = λ env len holds. omega (arith, ints, holds 0 Always (omega arith), holds 2 Always (omega arith)) }
 
 -- one value that reads the first of at least two

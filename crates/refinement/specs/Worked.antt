@@ -1,10 +1,11 @@
 -- Sections of small programs, what they spell, and which of them are shown, as it was worked out by hand.
-use Rattle.std.specs.Prelude.{◌≡◌, ℕ, [], ◌∷◌, pos, None, ⊤}
+use Rattle.std.specs.Prelude.{◌≡◌, ℕ, [], ◌∷◌, map, pos, Some, None, ⊤}
 use Rattle.model.specs.Terms.{Term, Literal, Variable, Negation, Addition, Subtraction}
 use Rattle.model.specs.Programs.{AtLeast, AtMost, LessThan, Compare, Rule, Program}
 use Rattle.model.specs.WorkedRuns.{entering, countdown, entry_alone, two_names}
+use Rattle.model.specs.WorkedCosts.{paying}
 use Rattle.refinement.specs.Simulation.{Simulates}
-use Rattle.refinement.specs.Lifted.{AreCopies}
+use Rattle.refinement.specs.Lifted.{AreCopies, BoundsAreKept}
 use Rattle.refinement.specs.Sections.{Copy, Cases, To, Never, If, Branch, Section, passes, fails, paths, spelled}
 use Rattle.refinement.specs.Sections.{projection_of}
 use Rattle.refinement.specs.Obligations.{moved, ReadsFirst, IsShown}
@@ -238,3 +239,13 @@ pub record ProgramsSimulate : Type 0 where
   pub fewer_atoms : HasWeakerGuards countdown longer_countdown
   pub more_atoms : ¬ (Simulates countdown longer_countdown same_numbers (λ c. ⊤))
   pub fewer_rules : ¬ (Simulates entry_alone countdown same_numbers (λ c. ⊤))
+
+-- where entering costs A and each round costs B, the section by sign is shown, the rules that it spells have the costs
+-- of the rules that they are copies of, and bounds carry over from what it spells; they don't from the program without
+-- costs, all of whose steps together cost at most 10
+pub record CostsAreKept : Type 0 where
+  pub by_sign : IsShown paying split_by_sign
+  pub of_copies : map (λ r. r.cost) (spelled paying split_by_sign).rules
+      ≡ Some (Variable 0) ∷ Some (Variable 0) ∷ Some (Variable 1) ∷ []
+  pub from_copies : BoundsAreKept paying (spelled paying split_by_sign) (projection_of paying split_by_sign)
+  pub from_plain : ¬ (BoundsAreKept paying countdown same_numbers)

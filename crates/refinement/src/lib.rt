@@ -8,7 +8,7 @@ ghost use Rattle.model.specs.Runs.{Config};
 ghost use Rattle.refinement.specs.Laws.{SimulationKeepsBounds, RightSectionsKeepBounds, ShownSectionsKeepBounds};
 ghost use Rattle.refinement.specs.Laws.{WeakerGuardsKeepBounds};
 ghost use Rattle.refinement.specs.Worked.{SectionsSpell, ExpressionsAreMoved, SectionsAreShown, FactsHoldAtSymbols};
-ghost use Rattle.refinement.specs.Worked.{ProgramsSimulate};
+ghost use Rattle.refinement.specs.Worked.{ProgramsSimulate, CostsAreKept};
 
 /// A notion of facts: what is known of a configuration of the program that simulates another.
 pub trait Facts {
@@ -42,11 +42,13 @@ pub fn weaker_guards_keep_bounds()
 
 /// A section of a small program, with a test, spells the program that was worked out by hand, and is shown. With a fact
 /// that is too strong by 1, a rule that can be used and leads nowhere, a branch that is missing, or a fact at the
-/// start, it isn't. Facts hold at symbols, and programs simulate others, where that was worked out.
+/// start, it isn't. Facts hold at symbols, programs simulate others, and bounds of programs with costs carry over, where
+/// that was worked out.
 pub fn worked_values_hold()
     ensures spelled { SectionsSpell }
     ensures moved { ExpressionsAreMoved }
     ensures shown { SectionsAreShown }
     ensures facts { FactsHoldAtSymbols }
     ensures simulated { ProgramsSimulate }
+    ensures costs { CostsAreKept }
 {}
