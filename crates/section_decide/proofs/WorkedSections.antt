@@ -1,7 +1,7 @@
 -- The worked sections are accepted, or have the faults that were worked out.
 use Rattle.std.proofs.Common.{refl}
 use Rattle.section_checks.specs.refinement_rows.guard_prep.Tightening.{divisor_of}
-use Rattle.section_decide.specs.Worked.{SectionsAreJudged, ShapesAreRefused, CertificatesAreRefused}
+use Rattle.section_decide.specs.Worked.{SectionsAreJudged, ShapesAreRefused, CertificatesAreRefused, LimitsAreMet}
 
 pub sections_are_judged : SectionsAreJudged
 unfolding divisor_of
@@ -28,3 +28,14 @@ shapes_are_refused = record {
 pub certificates_are_refused : CertificatesAreRefused
 unfolding divisor_of
 certificates_are_refused = record { long = refl; never = refl; large = refl; fact = refl; too_strong = refl }
+
+pub limits_are_met : LimitsAreMet
+limits_are_met = record {
+  huge_fact = refl;
+  before_multipliers = refl;
+  full = refl;
+  over = refl;
+  full_beside_cost = refl;
+  over_beside_cost = refl;
+  other_variable = refl;
+}

@@ -1,13 +1,13 @@
 -- A section of a small program that is accepted, and what is wrong first with its variants, as it was worked out by
 -- hand.
-use Rattle.std.specs.Prelude.{◌≡◌, ℕ, List, [], ◌∷◌, pos, negsuc, Some, None}
+use Rattle.std.specs.Prelude.{◌≡◌, ℕ, zero, suc, true, false, List, [], ◌∷◌, pos, negsuc, Some, None}
 use Rattle.section_checks.specs.refined_programs.model.Terms.{Term, Literal, Variable, Negation, Subtraction}
-use Rattle.section_checks.specs.refined_programs.model.Programs.{AtLeast, AtMost, Atom, Compare, Rule, Program}
+use Rattle.section_checks.specs.refined_programs.model.Programs.{AtLeast, AtMost, Atom, Always, Compare, Rule, Program}
 use Rattle.section_checks.specs.refined_programs.its_model.linear_forms.Forms.{Form}
 use Rattle.section_checks.specs.refined_programs.Annotated.{Copy, Cases, To, Never, If, Branch, Section}
 use Rattle.section_checks.specs.Faults.{WrongStart, WrongFacts, WrongBranch, WrongTest, WrongShape, WrongRules}
-use Rattle.section_checks.specs.Faults.{NotNever, NotFact}
-use Rattle.section_decide.specs.Deciding.{section_fault}
+use Rattle.section_checks.specs.Faults.{OverLimit, NotNever, NotFact}
+use Rattle.section_decide.specs.Deciding.{is_within_limits, section_fault}
 
 -- a rule over A, without a free variable or a cost
 abbrev pub over_a : ℕ → ℕ → Term → Atom → Rule
@@ -157,3 +157,35 @@ pub record CertificatesAreRefused : Type 0 where
   pub too_strong : section_fault counting
       (section (copies (just_a ∷ []) (record { coefs = pos 1 ∷ []; constant = negsuc 0 } ∷ [])) right)
       ≡ Some (NotFact 2 1)
+
+-- the form 2^63*A, which is over the limit of coefficients
+abbrev pub huge : Form
+huge = record { coefs = pos 9223372036854775808 ∷ []; constant = pos 0 }
+
+-- a rule over A with so many atoms that always hold, and with a cost besides
+abbrev pub always : ℕ → List Atom
+always zero = []
+always (suc n) = Always ∷ always n
+
+abbrev pub with_atoms : ℕ → Rule
+with_atoms n = record (over_a 1 1 (Variable 0) Always) { guard = always n }
+
+abbrev pub costly_with_atoms : ℕ → Rule
+costly_with_atoms n = record (with_atoms n) { cost = Some (Variable 0) }
+
+-- what is over the limits of rules
+pub record LimitsAreMet : Type 0 where
+  -- a fact at b.1 whose denial can't be expanded; one at b.2, which counts before multipliers of the first end that
+  -- don't show the fact of b.1
+  pub huge_fact : section_fault counting (section (copies (huge ∷ []) (just_a ∷ [])) right) ≡ Some (OverLimit 1)
+  pub before_multipliers : section_fault counting
+      (section (copies (just_a ∷ []) (huge ∷ []))
+      (branches (To 1 ((1 ∷ 0 ∷ []) ∷ [])) (loop_by a_less_2) (1 ∷ 1 ∷ []) (1 ∷ 0 ∷ 1 ∷ []))) ≡ Some (OverLimit 2)
+  -- 64 atoms are within the limits, and 63 beside a cost
+  pub full : is_within_limits (with_atoms 64) ≡ true
+  pub over : is_within_limits (with_atoms 65) ≡ false
+  pub full_beside_cost : is_within_limits (costly_with_atoms 63) ≡ true
+  pub over_beside_cost : is_within_limits (costly_with_atoms 64) ≡ false
+  -- and an atom that reads a variable that there isn't is not
+  pub other_variable : is_within_limits (over_a 1 1 (Variable 0) (Compare (Variable 1) AtLeast (Literal (pos 0))))
+      ≡ false

@@ -6,7 +6,7 @@
 #![tactic(auto)]
 
 ghost use Rattle.section_decide.specs.Laws.{FaultsAreComputed};
-ghost use Rattle.section_decide.specs.Worked.{SectionsAreJudged, ShapesAreRefused, CertificatesAreRefused};
+ghost use Rattle.section_decide.specs.Worked.{SectionsAreJudged, ShapesAreRefused, CertificatesAreRefused, LimitsAreMet};
 
 /// The computed fault is the first fault of the section, and none is computed exactly where it is accepted.
 pub fn faults_are_computed()
@@ -19,4 +19,5 @@ pub fn faults_are_as_worked_out()
     ensures accepted { SectionsAreJudged }
     ensures shapes { ShapesAreRefused }
     ensures certificates { CertificatesAreRefused }
+    ensures limits { LimitsAreMet }
 {}

@@ -6,4 +6,5 @@ returns c = record {
   accepted = lemmas.sections_are_judged;
   shapes = lemmas.shapes_are_refused;
   certificates = lemmas.certificates_are_refused;
+  limits = lemmas.limits_are_met;
 }
