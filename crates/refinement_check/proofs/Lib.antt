@@ -1,5 +1,6 @@
 mod EndLists
 mod Preparing
+mod Verdicts
 mod Stages
 mod Keeping
 -- the lemmas of the crate below, which callers name through this one

@@ -9,10 +9,11 @@ use Rattle.refinement_check.specs.declared.ends.NumberedEnd as declared_end
 use Rattle.refinement_check.specs.declared.certificates.Obligation as declared_obligation
 use Rattle.refined_programs.specs.model.Terms.{Term}
 use Rattle.refined_programs.specs.model.Programs.{Rule, Program, rule_at}
+use Rattle.refined_programs.specs.refinement.Sections as plain
 use Rattle.refined_programs.specs.refinement.Sections.{passes, fails, facts_of}
 use Rattle.refined_programs.specs.refinement.Obligations.{moved}
 use Rattle.refined_programs.specs.its_model.Views.{rule_of}
-use Rattle.refined_programs.specs.Annotated.{Branch, Section, section_of}
+use Rattle.refined_programs.specs.Annotated.{Branch, Section}
 use Rattle.refinement_rows.specs.Certified.{with_guard}
 use Rattle.refined_programs.specs.Ends.{Goal, AtCopy, Nowhere, End, ends, end_of}
 use Rattle.section_checks.specs.Faults.{Fault, WrongStart, WrongFacts, WrongBranch, WrongTest, WrongShape, WrongRules}
@@ -53,14 +54,17 @@ placed p e = record { source = e.source; rule = rule_at p e.rule; end = e.end }
 abbrev pub numbered_end_of : declared_end.NumberedEnd → NumberedEnd
 numbered_end_of e = record { source = e.source; rule = e.rule; end = end_of e.end }
 
+-- an end of a branch, with its numbers
+abbrev pub numbered : ℕ → ℕ → End → NumberedEnd
+numbered source rule e = record { source = source; rule = rule; end = e }
+
 -- the ends of a branch, in order
-abbrev pub numbered_ends_of_branch : Section → Branch → List NumberedEnd
+abbrev pub numbered_ends_of_branch : plain.Section → Branch → List NumberedEnd
 numbered_ends_of_branch s b =
-    map (λ e. record { source = b.source; rule = b.rule; end = e })
-    (ends (map passes (facts_of (section_of s) b.source)) b.cases)
+    map (numbered b.source b.rule) (ends (map passes (facts_of s b.source)) b.cases)
 
 -- the ends of all branches, in order
-abbrev pub numbered_ends : Section → List Branch → List NumberedEnd
+abbrev pub numbered_ends : plain.Section → List Branch → List NumberedEnd
 numbered_ends s [] = []
 numbered_ends s (b ∷ branches) = numbered_ends_of_branch s b ++ numbered_ends s branches
 

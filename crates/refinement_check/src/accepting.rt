@@ -219,8 +219,9 @@ fn unmet_end(
 {
     for (i, end) in ends.iter().enumerate() {
         let found = obligations(alloc, p, copies, i as u64 + 1, end)?;
-        if let Some(fault) = unmet(alloc, i as u64 + 1, &found)? {
-            return Ok(Some(fault));
+        let fault = unmet(alloc, i as u64 + 1, &found)?;
+        if fault.is_some() {
+            return Ok(fault);
         }
     }
     Ok(None)

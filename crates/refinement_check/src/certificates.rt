@@ -1,23 +1,26 @@
 //! The obligations of an end: guards that have to be unmet, with multipliers that are to show so.
 
-ghost use Rattle.std.specs.Prelude.{◌≡◌, ◌∷◌, [], map, option_map, IfOk};
+ghost use Rattle.std.specs.Prelude.{◌≡◌, ◌∷◌, [], map, option_map, IfOk, true};
 ghost use Rattle.std.specs.List.{AllByRecursion};
-ghost use Rattle.cert_decide.specs.Numbers.{are_in_limit};
+ghost use Rattle.cert_decide.specs.Numbers.{are_in_limit, implies};
 ghost use Rattle.cert_decide.specs.Tests.{first_failing};
 ghost use Rattle.refined_programs.specs.model.Programs.{rule_at as rule_numbered};
 ghost use Rattle.refined_programs.specs.its_model.Views.{atom_of, rule_of, program_of};
 ghost use Rattle.refined_programs.specs.Affine.{affine_of};
 ghost use Rattle.refined_programs.specs.Ends.{lists_of, end_of, goal_of};
 ghost use Rattle.refined_programs.specs.Views.{copy_of};
+ghost use Rattle.refinement_rows.specs.linear_forms.Certificates.{minus_one};
 ghost use Rattle.refinement_rows.specs.guard_prep.Laws.{IsPreparable};
+ghost use Rattle.refinement_rows.specs.guard_prep.Prepared.{rows_of, prepared as prepared_by};
+ghost use Rattle.refinement_rows.specs.guard_prep.Views.{prepared_of};
 ghost use Rattle.section_checks.specs.Faults.{NotNever, obligations_of, obligations_at};
-ghost use Rattle.section_decide.specs.Deciding.{obligation_tests};
+ghost use Rattle.section_decide.specs.Deciding.{obligation_tests, fits_rows};
 ghost use Rattle.refinement_check.specs.Views.{fault_of, obligation_of, denied, against, facts_against};
 
 use crate::ends::NumberedEnd;
 use crate::fault::SectionFault;
 use farkas_cert::{LIMIT, empty};
-use guard_prep::rows;
+use guard_prep::{RuleRows, rows, rows_suit_certificates};
 use its_model::{Program, Rule};
 use poly_terms::Memory;
 use refined_programs::{
@@ -172,17 +175,52 @@ pub(crate) fn unmet(
         ≡ first_failing (obligation_tests number (map obligation_of obligations.now))) }
 {
     for obligation in obligations {
-        let prepared = rows(alloc, &obligation.rule)?;
-        let fits = obligation.by.len() == prepared.rows.len() && are_within(&obligation.by);
-        if !fits {
-            return Ok(Some(SectionFault::Shape { end: number }));
-        }
-        let shows = empty(&prepared.rows, &obligation.by);
-        if !shows {
-            return Ok(Some(obligation.fault));
+        let found = fault_in(alloc, number, obligation)?;
+        if found.is_some() {
+            return Ok(found);
         }
     }
     Ok(None)
+}
+
+// What is wrong with the multipliers of an obligation, if anything is.
+fn fault_in(
+    alloc: Global,
+    number: u64,
+    obligation: &Obligation,
+) -> Result<Option<SectionFault>, Memory>
+    requires { IsPreparable (rule_of obligation.now.rule) }
+    ensures { IfOk result (λ found. option_map fault_of found
+        ≡ first_failing (obligation_tests number (obligation_of obligation.now ∷ []))) }
+{
+    let prepared = rows(alloc, &obligation.rule)?;
+    if !fits(obligation, &prepared) {
+        return Ok(Some(SectionFault::Shape { end: number }));
+    }
+    if !shows(obligation, &prepared) {
+        return Ok(Some(obligation.fault));
+    }
+    Ok(None)
+}
+
+// Whether there is a multiplier for each row, and none is too large.
+fn fits(obligation: &Obligation, prepared: &RuleRows) -> bool
+    requires { prepared_of prepared.now ≡ prepared_by (rule_of obligation.now.rule) }
+    ensures { result ≡ fits_rows (obligation_of obligation.now) }
+{
+    obligation.by.len() == prepared.rows.len() && are_within(&obligation.by)
+}
+
+// Whether the multipliers show that the rows have no point.
+fn shows(obligation: &Obligation, prepared: &RuleRows) -> bool
+    requires preparable { IsPreparable (rule_of obligation.now.rule) }
+    requires rows { prepared_of prepared.now ≡ prepared_by (rule_of obligation.now.rule) }
+    requires fits { fits_rows (obligation_of obligation.now) ≡ true }
+    ensures { result ≡ implies (rows_of (rule_of obligation.now.rule)) obligation.now.by.items minus_one }
+{
+    // The law says that the rows have the sizes that `empty` asks for.
+    rows_suit_certificates();
+    empty(&prepared.rows, &obligation.by)
 }
 
 // Whether multipliers are at most 2^56.

@@ -5,12 +5,12 @@ ghost use Rattle.std.specs.List.{list_any};
 ghost use Rattle.cert_decide.specs.Tests.{test, first_failing};
 ghost use Rattle.refined_programs.specs.model.Programs.{rule_at as rule_numbered};
 ghost use Rattle.refined_programs.specs.its_model.Views.{program_of};
-ghost use Rattle.refined_programs.specs.Ends.{lists_of, goal_of};
-ghost use Rattle.refined_programs.specs.Views.{copy_of, section_of, annotated_branch, annotated_of};
+ghost use Rattle.refined_programs.specs.Ends.{lists_of, goal_of, end_of};
+ghost use Rattle.refined_programs.specs.Views.{copy_of, section_of, annotated_branch};
 ghost use Rattle.section_checks.specs.Faults.{WrongRules};
 ghost use Rattle.section_decide.specs.Deciding.{fits_at, goal_fits as fits_goal, shape_tests, are_rules_right};
 ghost use Rattle.refinement_check.specs.Views.{fault_of, numbered_end_of, numbered_ends_of_branch, numbered_ends};
-ghost use Rattle.refinement_check.specs.Views.{placed, sources_by, sources_of};
+ghost use Rattle.refinement_check.specs.Views.{numbered as numbered_as, placed, sources_by, sources_of};
 
 use crate::fault::SectionFault;
 use its_model::Program;
@@ -34,7 +34,7 @@ pub(crate) struct NumberedEnd {
 /// `Memory` where an allocation fails.
 pub(crate) fn all_ends(alloc: Global, section: &Section) -> Result<Vec<NumberedEnd>, Memory>
     ensures { IfOk result (λ ends. map numbered_end_of ends.items
-        ≡ numbered_ends (annotated_of section.now) (map annotated_branch section.now.branches.items)) }
+        ≡ numbered_ends (section_of section.now) (map annotated_branch section.now.branches.items)) }
 {
     let mut ends = Vec::new(alloc);
     for branch in &section.branches {
@@ -51,14 +51,24 @@ fn push_ends(
     branch: &Branch,
 ) -> Result<(), Memory>
     ensures { OnOk result (map numbered_end_of ends.new.items ≡ map numbered_end_of ends.old.items
-        ++ numbered_ends_of_branch (annotated_of section.now) (annotated_branch branch.now)) }
+        ++ numbered_ends_of_branch (section_of section.now) (annotated_branch branch.now)) }
 {
-    for end in branch_ends(alloc, section, branch)? {
-        ends.push(NumberedEnd {
-            source: branch.source,
-            rule: branch.rule,
-            end,
-        })?;
+    let found = branch_ends(alloc, section, branch)?;
+    push_numbered(ends, branch.source, branch.rule, found)
+}
+
+// Appends ends with the numbers of the copy that they leave and of their rule.
+fn push_numbered(
+    ends: &mut Vec<NumberedEnd>,
+    source: u32,
+    rule: u32,
+    found: Vec<End>,
+) -> Result<(), Memory>
+    ensures { OnOk result (map numbered_end_of ends.new.items ≡ map numbered_end_of ends.old.items
+        ++ map (numbered_as source rule) (map end_of found.items)) }
+{
+    for end in found {
+        ends.push(NumberedEnd { source, rule, end })?;
     }
     Ok(())
 }
@@ -129,8 +139,10 @@ fn rules_are_right(alloc: Global, p: &Program, ends: &[NumberedEnd]) -> Result<b
         (λ right. right ≡ are_rules_right (map (placed (program_of p.now)) (map numbered_end_of ends.now))) }
 {
     let sources = sources_at_copies(alloc, ends)?;
-    let few = sources.len() <= RULE_LIMIT;
-    Ok(few && has_zero(&sources))
+    if sources.len() > RULE_LIMIT {
+        return Ok(false);
+    }
+    Ok(has_zero(&sources))
 }
 
 // The copies that the ends at copies leave, in order.

@@ -42,7 +42,7 @@ use Rattle.section_decide.proofs.StageTests.{AllStagesDecide, first-in-stages, s
 use Rattle.section_decide.proofs.StageTests.{numbered-decide}
 
 -- what holds of each element of a list
-decides-each : {X : Type 0} (p : X → Bool) (P : X → Type 0) → ((x : X) → Decides (p x) (P x)) → (xs : List X)
+pub decides-each : {X : Type 0} (p : X → Bool) (P : X → Type 0) → ((x : X) → Decides (p x) (P x)) → (xs : List X)
     → Decides (list_all p xs) (AllByRecursion P xs)
 decides-each p P each xs =
     Decides-like (list_all p xs) (recursion_from_All P xs) (All-from_recursion P xs) (decides-all p P each xs)
@@ -139,7 +139,7 @@ decides-atom n (Compare d r e) =
     (Decides-and _ _ (decides-reads n d)
     (Decides-and _ _ (decides-reads n e) (decides-none (first_fault (difference_of d r e)))))
 
-decides-within : (r : Rule) → Decides (is_within_limits r) (IsWithinLimits r)
+pub decides-within : (r : Rule) → Decides (is_within_limits r) (IsWithinLimits r)
 decides-within r =
     Decides-like _ (λ h. record { few_atoms = h.0; guard = h.1 }) (λ h. (h.few_atoms, h.guard))
     (Decides-and _ _ (decides-le _ atom_limit)
@@ -150,7 +150,7 @@ decides-end None e = decides-yes tt
 decides-end (Some r) e = decides-within (with_guard r (guard_along r e.atoms))
 
 -- multipliers
-decides-rows : (o : Obligation) → Decides (fits_rows o) (FitsRows o)
+pub decides-rows : (o : Obligation) → Decides (fits_rows o) (FitsRows o)
 decides-rows o =
     Decides-like _ (λ h. record { long = h.0; small = h.1 }) (λ h. (h.long, h.small))
     (Decides-and _ _ (Decides-eqb (length o.by) (length (rows_of o.rule))) (decides-all is_in_limit (λ m. m ≤ certificate_limit) decides-limit o.by))
