@@ -1,6 +1,6 @@
 -- What is wrong with the multipliers of obligations, one by one.
 use Rattle.std.proofs.Common.{◌≡◌, ℕ, suc, ◌+◌, ◌<◌, Bool, true, false, cond, List, [], ◌∷◌, length, map, drop, get_or}
-use Rattle.std.proofs.Common.{Option, Some, None, is_some, refl, sym, ◌∙◌, ap}
+use Rattle.std.proofs.Common.{Option, Some, None, is_some, refl, sym, ◌∙◌, ap, add-one}
 use Rattle.std.specs.Prelude.{◌&&◌}
 use Rattle.std.specs.List.{AllByRecursion}
 use Rattle.std.proofs.lemmas.Bool.{false≢true}
@@ -15,7 +15,7 @@ use Rattle.refinement_rows.specs.guard_prep.Prepared.{rows_of}
 use Rattle.cert_decide.specs.Tests.{TestOf, first_failing}
 use Rattle.cert_decide.specs.Numbers.{implies}
 use Rattle.section_checks.specs.Faults.{Fault, WrongShape, OverLimit, BranchEnd, Obligation, obligations_of, IsWithinLimits}
-use Rattle.section_decide.specs.Deciding.{Test, is_within_limits, fits_rows, obligation_tests, certificate_tests}
+use Rattle.section_decide.specs.Deciding.{Test, numbered_tests, is_within_limits, fits_rows, obligation_tests, certificate_tests}
 use Rattle.section_decide.specs.Deciding.{limit_test, limit_tests, first_in_stages, or_then}
 use Rattle.section_decide.proofs.Deciding.{decides-each, decides-within}
 use Rattle.refinement_check.specs.Views.{NumberedEnd, placed}
@@ -33,6 +33,21 @@ test-fails t ts e = ap (λ (v : Bool). cond v (first_failing ts) (Some t.reason)
 
 pub test-passes : (t : Test) (ts : List Test) → t.passes ≡ true → first_failing ts ≡ first_failing (t ∷ ts)
 test-passes t ts e = ap (λ (v : Bool). cond v (first_failing ts) (Some t.reason)) (sym e)
+
+-- the same of tests of the elements of a list: where the first one fails, and where it passes
+pub loop-fails : {B : Type 0} (f : ℕ → B → Test) (n : ℕ) (now rest : List B) (x : B) (all : Option Fault) → now ≡ x ∷ rest
+    → (f n x).passes ≡ false → first_failing (numbered_tests f n now) ≡ all → Some (f n x).reason ≡ all
+loop-fails {B} f n now rest x all e no h =
+    test-fails (f n x) (numbered_tests f (suc n) rest) no
+    ∙ (ap (λ (ys : List B). first_failing (numbered_tests f n ys)) (sym e) ∙ h)
+
+pub loop-passes : {B : Type 0} (f : ℕ → B → Test) (n : ℕ) (now rest : List B) (x : B) (all : Option Fault)
+    → now ≡ x ∷ rest → (f n x).passes ≡ true → first_failing (numbered_tests f n now) ≡ all
+    → first_failing (numbered_tests f (n + 1) rest) ≡ all
+loop-passes {B} f n now rest x all e yes_it_does h =
+    ap (λ (m : ℕ). first_failing (numbered_tests f m rest)) (add-one n)
+    ∙ (test-passes (f n x) (numbered_tests f (suc n) rest) yes_it_does
+    ∙ (ap (λ (ys : List B). first_failing (numbered_tests f n ys)) (sym e) ∙ h))
 
 -- multipliers that are too few, too many or too large; that don't show what they have to; and that do
 pub wrong-number : (n : ℕ) (o : Obligation) → fits_rows o ≡ false

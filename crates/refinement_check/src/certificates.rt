@@ -100,7 +100,9 @@ fn unmet_guard(
 {
     let by = by.numbers.as_slice().to_vec(alloc)?;
     let fault = SectionFault::Never { end: number };
-    vec![in alloc; Obligation { rule, by, fault }]
+    let mut found = Vec::new(alloc);
+    found.push(Obligation { rule, by, fault })?;
+    Ok(found)
 }
 
 // Those of the facts of an end's copy.
@@ -155,8 +157,9 @@ fn rule_against(alloc: Global, along: &Rule, fact: &Affine) -> Result<Rule, Memo
     ensures { IfOk result (λ r. rule_of r ≡ denied (rule_of along.now) (affine_of fact.now)) }
 {
     let form = fact.expr(alloc)?;
-    let atom = below_zero(moved(alloc, &form, &along.updates)?);
-    rule_along(alloc, along, &vec![in alloc; atom]?)
+    let mut atoms = Vec::new(alloc);
+    atoms.push(below_zero(moved(alloc, &form, &along.updates)?))?;
+    rule_along(alloc, along, &atoms)
 }
 
 /// The first fault of the obligations of an end: a number of multipliers that isn't that of the rows, one over the

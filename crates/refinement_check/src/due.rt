@@ -4,7 +4,7 @@ ghost use Rattle.std.specs.Prelude.{◌≡◌, ◌++◌, ◌∷◌, [], map, nat
 ghost use Rattle.cert_decide.specs.Tests.{first_failing};
 ghost use Rattle.refined_programs.specs.its_model.Views.{rule_of, program_of};
 ghost use Rattle.refined_programs.specs.Views.{annotated_copy, annotated_branch};
-ghost use Rattle.section_checks.specs.Faults.{due as due_branches, due_at};
+ghost use Rattle.section_checks.specs.Faults.{due as due_by, due_at};
 ghost use Rattle.section_decide.specs.Deciding.{is_due as is_due_by, branch_tests};
 ghost use Rattle.refinement_check.specs.Views.{fault_of, due_of};
 
@@ -26,9 +26,13 @@ pub(crate) struct Due {
 /// # Errors
 ///
 /// `Memory` where an allocation fails.
-pub(crate) fn due(alloc: Global, p: &Program, copies: &[SymbolCopy]) -> Result<Vec<Due>, Memory>
+pub(crate) fn due_branches(
+    alloc: Global,
+    p: &Program,
+    copies: &[SymbolCopy],
+) -> Result<Vec<Due>, Memory>
     ensures { IfOk result
-        (λ dues. map due_of dues.items ≡ due_branches (program_of p.now) 0 (map annotated_copy copies.now)) }
+        (λ dues. map due_of dues.items ≡ due_by (program_of p.now) 0 (map annotated_copy copies.now)) }
 {
     let mut dues = Vec::new(alloc);
     for (i, copy) in copies.iter().enumerate() {

@@ -13,7 +13,7 @@ ghost use Rattle.section_decide.specs.Deciding.{are_tests_wide as tests_wide, wi
 ghost use Rattle.refinement_check.specs.Stages.{shape_fault_of, facts_fault_of, branches_fault_of};
 ghost use Rattle.refinement_check.specs.Views.{fault_of};
 
-use crate::due::{due, wrong_branch};
+use crate::due::{due_branches, wrong_branch};
 use crate::fault::SectionFault;
 use its_model::Program;
 use poly_terms::Memory;
@@ -68,7 +68,7 @@ fn branches_fault(
     ensures { IfOk result (λ found. option_map fault_of found ≡ branches_fault_of (program_of p.now)
         (map annotated_copy copies.now) (map annotated_branch branches.now)) }
 {
-    let dues = due(alloc, p, copies)?;
+    let dues = due_branches(alloc, p, copies)?;
     match wrong_branch(branches, &dues) {
         Some(fault) => Ok(Some(fault)),
         None => Ok(wrong_test(p, branches)),

@@ -3,7 +3,7 @@ use Rattle.refined_programs.specs.its_model.Views.{program_of}
 use Rattle.refined_programs.specs.Views.{annotated_copy}
 use Rattle.section_checks.specs.Faults.{due}
 use Rattle.refinement_check.specs.Views.{due_of}
-use Rattle.refinement_check.proofs.due.due.Given as goal
+use Rattle.refinement_check.proofs.due.due_branches.Given as goal
 
 -- the branches of the copies passed, and behind them those of the others, are all that are due
 abbrev pub invariant-loop-i : goal.invariant-loop-i
