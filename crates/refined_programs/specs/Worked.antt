@@ -56,7 +56,8 @@ pub record EndsOfCases : Type 0 where
 -- a section with two copies and these cases
 abbrev pub two_copies : Section
 two_copies = record {
-  copies = record { name = 97 ∷ []; over = 0; facts = [] } ∷ record { name = 98 ∷ []; over = 1; facts = just_a ∷ [] } ∷ [];
+  copies = record { name = 97 ∷ []; over = 0; facts = [] } ∷ record { name = 98 ∷ []; over = 1; facts = just_a ∷ [] }
+      ∷ [];
   branches = record { source = 0; rule = 3; cases = by_sign } ∷ [];
 }
 

@@ -3,8 +3,8 @@
 ghost use Rattle.refined_programs.specs.Worked.{FormsAreWritten, EndsArePaths, EndsOfCases};
 ghost use Rattle.refined_programs.specs.Worked.{SectionsLoseMultipliers};
 
-/// Expressions of affine forms, the ends of cases and their paths, and sections without multipliers, are what was worked
-/// out by hand. It has no code: its contract is the law.
+/// Expressions of affine forms, the ends of cases and their paths, and sections without multipliers, are what was
+/// worked out by hand. It has no code: its contract is the law.
 pub fn worked_values_hold()
     ensures forms { FormsAreWritten }
     ensures paths { EndsArePaths }

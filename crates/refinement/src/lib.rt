@@ -42,8 +42,8 @@ pub fn weaker_guards_keep_bounds()
 
 /// A section of a small program, with a test, spells the program that was worked out by hand, and is shown. With a fact
 /// that is too strong by 1, a rule that can be used and leads nowhere, a branch that is missing, or a fact at the
-/// start, it isn't. Facts hold at symbols, programs simulate others, and bounds of programs with costs carry over, where
-/// that was worked out.
+/// start, it isn't. Facts hold at symbols, programs simulate others, and bounds of programs with costs carry over,
+/// where that was worked out.
 pub fn worked_values_hold()
     ensures spelled { SectionsSpell }
     ensures moved { ExpressionsAreMoved }

@@ -5,7 +5,8 @@ use Rattle.std.specs.List.{list_all}
 use Rattle.section_checks.specs.refined_programs.model.Terms.{Term, Literal, Variable, Negation, Addition, Subtraction}
 use Rattle.section_checks.specs.refined_programs.model.Terms.{Multiplication, Exponentiation}
 use Rattle.section_checks.specs.refined_programs.model.Limits.{rule_limit, atom_limit}
-use Rattle.section_checks.specs.refined_programs.model.Programs.{Atom, Always, Compare, Rule, Program, rule_at, arity_of}
+use Rattle.section_checks.specs.refined_programs.model.Programs.{Atom, Always, Compare, Rule, Program, rule_at}
+use Rattle.section_checks.specs.refined_programs.model.Programs.{arity_of}
 use Rattle.section_checks.specs.refined_programs.refinement.Sections.{Copy}
 use Rattle.section_checks.specs.refined_programs.refinement.Obligations.{guard_along}
 use Rattle.section_checks.specs.refined_programs.poly_terms.Faults.{first_fault}
@@ -20,7 +21,8 @@ use Rattle.section_checks.specs.refinement_rows.Certified.{with_guard}
 use Rattle.cert_decide.specs.Tests.{TestOf, test, first_failing}
 use Rattle.cert_decide.specs.Numbers.{are_in_limit, implies}
 use Rattle.section_checks.specs.Faults.{Fault, WrongStart, WrongFacts, WrongBranch, WrongTest, WrongShape, WrongRules}
-use Rattle.section_checks.specs.Faults.{OverLimit, Due, due, variables_in, BranchEnd, ends_of, rules_among, leaves_start}
+use Rattle.section_checks.specs.Faults.{OverLimit, Due, due, variables_in, BranchEnd, ends_of, rules_among}
+use Rattle.section_checks.specs.Faults.{leaves_start}
 use Rattle.section_checks.specs.Faults.{Obligation, obligations_of}
 
 -- a test of a section

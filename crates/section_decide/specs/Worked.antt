@@ -104,7 +104,8 @@ pub record ShapesAreRefused : Type 0 where
   -- no copy; a fact at the first one; or another symbol below it
   pub no_copy : section_fault counting (section [] []) ≡ Some WrongStart
   pub start_fact : section_fault counting
-      (section (first_copy 0 (just_a ∷ []) ∷ record { name = 98 ∷ []; over = 1; facts = [] } ∷ []) right) ≡ Some WrongStart
+      (section (first_copy 0 (just_a ∷ []) ∷ record { name = 98 ∷ []; over = 1; facts = [] } ∷ []) right)
+      ≡ Some WrongStart
   pub start_symbol : section_fault counting
       (section (first_copy 1 [] ∷ record { name = 98 ∷ []; over = 1; facts = [] } ∷ []) right) ≡ Some WrongStart
   -- a fact that is too wide, at b.1 or at b.2
@@ -148,7 +149,8 @@ pub record CertificatesAreRefused : Type 0 where
       (section natural (branches enters (loop_by a_less_2) (1 ∷ 0 ∷ []) (1 ∷ 0 ∷ 1 ∷ []))) ≡ Some (NotNever 4)
   -- a multiplier over 2^56
   pub large : section_fault counting
-      (section natural (branches enters (loop_by a_less_2) (72057594037927937 ∷ 72057594037927937 ∷ []) (1 ∷ 0 ∷ 1 ∷ [])))
+      (section natural
+      (branches enters (loop_by a_less_2) (72057594037927937 ∷ 72057594037927937 ∷ []) (1 ∷ 0 ∷ 1 ∷ [])))
       ≡ Some (WrongShape 4)
   -- multipliers that don't show the fact of b.2 behind rule 2 at b.2, and a fact there that is too strong by 1 behind
   -- rule 2 at b.1

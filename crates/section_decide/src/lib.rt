@@ -1,12 +1,13 @@
 //! Decides by computation whether a section of a program is accepted: what is wrong first, or nothing.
 //!
-//! Builds on `section_checks`. Definitions are in `specs/`. Main guarantee: the computed fault is none exactly where all
-//! checks pass, and else that of the first check that fails. The functions here have no code: the contract of each is
+//! Builds on `section_checks`. Definitions are in `specs/`. Main guarantee: the computed fault is none exactly where
+//! all checks pass, and else that of the first check that fails. The functions here have no code: the contract of each is
 //! the law, or values that were worked out by hand.
 #![tactic(auto)]
 
 ghost use Rattle.section_decide.specs.Laws.{FaultsAreComputed};
-ghost use Rattle.section_decide.specs.Worked.{SectionsAreJudged, ShapesAreRefused, CertificatesAreRefused, LimitsAreMet};
+ghost use Rattle.section_decide.specs.Worked.{SectionsAreJudged, ShapesAreRefused, CertificatesAreRefused};
+ghost use Rattle.section_decide.specs.Worked.{LimitsAreMet};
 
 /// The computed fault is the first fault of the section, and none is computed exactly where it is accepted.
 pub fn faults_are_computed()
