@@ -1,0 +1,7 @@
+mod EndLists
+mod Preparing
+mod Verdicts
+mod Stages
+mod Keeping
+-- the lemmas of the crate below, which callers name through this one
+pub use Rattle.section_decide.proofs as section_decide

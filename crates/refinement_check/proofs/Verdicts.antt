@@ -1,0 +1,142 @@
+-- What is wrong with the multipliers of obligations, one by one.
+use Rattle.std.proofs.Common.{◌≡◌, ℕ, suc, ◌+◌, ◌<◌, Bool, true, false, cond, List, [], ◌∷◌, length, map, drop, get_or}
+use Rattle.std.proofs.Common.{Option, Some, None, is_some, refl, sym, ◌∙◌, ap, add-one}
+use Rattle.std.specs.Prelude.{◌&&◌}
+use Rattle.std.specs.List.{AllByRecursion}
+use Rattle.std.proofs.lemmas.Bool.{false≢true}
+use Rattle.std.proofs.lemmas.List.{at_drop_more}
+use Rattle.refined_programs.proofs.refinement.model.Cases.{none_some}
+use Rattle.refined_programs.specs.model.Programs.{Program, rule_at}
+use Rattle.refined_programs.specs.refinement.Sections.{Copy}
+use Rattle.refined_programs.specs.its_model.Valid.{IsValid}
+use Rattle.refinement_rows.specs.linear_forms.Certificates.{minus_one}
+use Rattle.refinement_rows.specs.guard_prep.Laws.{IsPreparable}
+use Rattle.refinement_rows.specs.guard_prep.Prepared.{rows_of}
+use Rattle.cert_decide.specs.Tests.{TestOf, first_failing}
+use Rattle.cert_decide.specs.Numbers.{implies}
+use Rattle.section_checks.specs.Faults.{Fault, WrongShape, OverLimit, BranchEnd, Obligation, obligations_of, IsWithinLimits}
+use Rattle.section_decide.specs.Deciding.{Test, numbered_tests, is_within_limits, fits_rows, obligation_tests, certificate_tests}
+use Rattle.section_decide.specs.Deciding.{limit_test, limit_tests, first_in_stages, or_then}
+use Rattle.section_decide.proofs.Deciding.{decides-each, decides-within}
+use Rattle.refinement_check.specs.Views.{NumberedEnd, placed}
+use Rattle.refinement_check.proofs.Preparing.{obligations-prepared}
+
+-- the element at a position, and those behind it
+pub more : {X Y : Type 0} (f : X → Y) (xs : List X) (i : ℕ) (x : X) → i < length xs → x ≡ get_or xs i x
+    → map f (drop i xs) ≡ f x ∷ map f (drop (i + 1) xs)
+more f xs i x l e =
+    at_drop_more (map f) xs i x l ∙ ap (λ y. f y ∷ map f (drop (i + 1) xs)) (sym e)
+
+-- a test that fails is the first to, and after one that passes the others decide
+pub test-fails : (t : Test) (ts : List Test) → t.passes ≡ false → Some t.reason ≡ first_failing (t ∷ ts)
+test-fails t ts e = ap (λ (v : Bool). cond v (first_failing ts) (Some t.reason)) (sym e)
+
+pub test-passes : (t : Test) (ts : List Test) → t.passes ≡ true → first_failing ts ≡ first_failing (t ∷ ts)
+test-passes t ts e = ap (λ (v : Bool). cond v (first_failing ts) (Some t.reason)) (sym e)
+
+-- the same of tests of the elements of a list: where the first one fails, and where it passes
+pub loop-fails : {B : Type 0} (f : ℕ → B → Test) (n : ℕ) (now rest : List B) (x : B) (all : Option Fault) → now ≡ x ∷ rest
+    → (f n x).passes ≡ false → first_failing (numbered_tests f n now) ≡ all → Some (f n x).reason ≡ all
+loop-fails {B} f n now rest x all e no h =
+    test-fails (f n x) (numbered_tests f (suc n) rest) no
+    ∙ (ap (λ (ys : List B). first_failing (numbered_tests f n ys)) (sym e) ∙ h)
+
+pub loop-passes : {B : Type 0} (f : ℕ → B → Test) (n : ℕ) (now rest : List B) (x : B) (all : Option Fault)
+    → now ≡ x ∷ rest → (f n x).passes ≡ true → first_failing (numbered_tests f n now) ≡ all
+    → first_failing (numbered_tests f (n + 1) rest) ≡ all
+loop-passes {B} f n now rest x all e yes_it_does h =
+    ap (λ (m : ℕ). first_failing (numbered_tests f m rest)) (add-one n)
+    ∙ (test-passes (f n x) (numbered_tests f (suc n) rest) yes_it_does
+    ∙ (ap (λ (ys : List B). first_failing (numbered_tests f n ys)) (sym e) ∙ h))
+
+-- multipliers that are too few, too many or too large; that don't show what they have to; and that do
+pub wrong-number : (n : ℕ) (o : Obligation) → fits_rows o ≡ false
+    → Some (WrongShape n) ≡ first_failing (obligation_tests n (o ∷ []))
+wrong-number n o e = test-fails (record { reason = WrongShape n; passes = fits_rows o }) _ e
+
+pub not-shown : (n : ℕ) (o : Obligation) → fits_rows o ≡ true → implies (rows_of o.rule) o.by minus_one ≡ false
+    → Some o.fault ≡ first_failing (obligation_tests n (o ∷ []))
+not-shown n o e f =
+    test-fails (record { reason = o.fault; passes = implies (rows_of o.rule) o.by minus_one }) [] f
+    ∙ test-passes (record { reason = WrongShape n; passes = fits_rows o }) _ e
+
+pub is-shown : (n : ℕ) (o : Obligation) → fits_rows o ≡ true → implies (rows_of o.rule) o.by minus_one ≡ true
+    → None ≡ first_failing (obligation_tests n (o ∷ []))
+is-shown n o e f =
+    test-passes (record { reason = o.fault; passes = implies (rows_of o.rule) o.by minus_one }) [] f
+    ∙ test-passes (record { reason = WrongShape n; passes = fits_rows o }) _ e
+
+-- the fault of the first obligation is that of all, and after none the others decide
+first-obligation : (a b : Bool) (w f : Fault) (rest found : Option Fault) → is_some found ≡ true
+    → found ≡ cond a (cond b None (Some f)) (Some w) → found ≡ cond a (cond b rest (Some f)) (Some w)
+first-obligation true true w f rest (Some x) s e = absurd (none_some x (sym e))
+first-obligation true true w f rest None s e = absurd (false≢true s)
+first-obligation true false w f rest found s e = e
+first-obligation false b w f rest found s e = e
+
+other-obligations : (a b : Bool) (w f : Fault) (rest found : Option Fault) → is_some found ≡ false
+    → found ≡ cond a (cond b None (Some f)) (Some w) → rest ≡ cond a (cond b rest (Some f)) (Some w)
+other-obligations true true w f rest found s e = refl
+other-obligations true false w f rest (Some x) s e = absurd (false≢true (sym s))
+other-obligations true false w f rest None s e = absurd (none_some f e)
+other-obligations false b w f rest (Some x) s e = absurd (false≢true (sym s))
+other-obligations false b w f rest None s e = absurd (none_some w e)
+
+pub obligation-fails : (n : ℕ) (o : Obligation) (os : List Obligation) (found : Option Fault) → is_some found ≡ true
+    → found ≡ first_failing (obligation_tests n (o ∷ [])) → found ≡ first_failing (obligation_tests n (o ∷ os))
+obligation-fails n o os found s e =
+    first-obligation (fits_rows o) (implies (rows_of o.rule) o.by minus_one) (WrongShape n) o.fault
+    (first_failing (obligation_tests n os)) found s e
+
+pub obligation-passes : (n : ℕ) (o : Obligation) (os : List Obligation) (found : Option Fault) → is_some found ≡ false
+    → found ≡ first_failing (obligation_tests n (o ∷ []))
+    → first_failing (obligation_tests n os) ≡ first_failing (obligation_tests n (o ∷ os))
+obligation-passes n o os found s e =
+    other-obligations (fits_rows o) (implies (rows_of o.rule) o.by minus_one) (WrongShape n) o.fault
+    (first_failing (obligation_tests n os)) found s e
+
+-- so with the ends
+stage-fails : (found rest : Option Fault) → is_some found ≡ true → found ≡ or_then found rest
+stage-fails (Some x) rest s = refl
+stage-fails None rest s = absurd (false≢true s)
+
+stage-passes : (found rest : Option Fault) → is_some found ≡ false → rest ≡ or_then found rest
+stage-passes (Some x) rest s = absurd (false≢true (sym s))
+stage-passes None rest s = refl
+
+pub end-fails : (copies : List Copy) (n : ℕ) (e : BranchEnd) (es : List BranchEnd) (found : Option Fault)
+    → is_some found ≡ true → found ≡ first_failing (obligation_tests n (obligations_of copies n e.rule e.end))
+    → found ≡ first_in_stages (certificate_tests copies n (e ∷ es))
+end-fails copies n e es found s h =
+    let rest : Option Fault = first_in_stages (certificate_tests copies (suc n) es) in
+    stage-fails found rest s ∙ ap (λ (o : Option Fault). or_then o rest) h
+
+pub end-passes : (copies : List Copy) (n : ℕ) (e : BranchEnd) (es : List BranchEnd) (found : Option Fault)
+    → is_some found ≡ false → found ≡ first_failing (obligation_tests n (obligations_of copies n e.rule e.end))
+    → first_in_stages (certificate_tests copies (suc n) es) ≡ first_in_stages (certificate_tests copies n (e ∷ es))
+end-passes copies n e es found s h =
+    let rest : Option Fault = first_in_stages (certificate_tests copies (suc n) es) in
+    stage-passes found rest s ∙ ap (λ (o : Option Fault). or_then o rest) h
+
+-- where no end is over the limits the first isn't, nor any of the others
+limit-passed : (v : Bool) (rest : Option Fault) (x : Fault) → cond v rest (Some x) ≡ None → (v ≡ true) × (rest ≡ None)
+limit-passed true rest x e = (refl, e)
+limit-passed false rest x e = absurd (none_some x (sym e))
+
+second-holds : (a b : Bool) → (a && b) ≡ true → b ≡ true
+second-holds true b e = e
+second-holds false b e = absurd (false≢true e)
+
+pub others-within : (copies : List Copy) (n : ℕ) (e : BranchEnd) (es : List BranchEnd)
+    → first_failing (limit_tests copies n (e ∷ es)) ≡ None → first_failing (limit_tests copies (suc n) es) ≡ None
+others-within copies n e es h = (limit-passed (limit_test copies n e).passes _ (OverLimit n) h).1
+
+-- so the rules of its obligations have rows
+pub end-prepared : (p : Program) → IsValid p → (copies : List Copy) (n : ℕ) (e : NumberedEnd) (es : List BranchEnd)
+    → first_failing (limit_tests copies n (placed p e ∷ es)) ≡ None
+    → AllByRecursion (λ o. IsPreparable o.rule) (obligations_of copies n (rule_at p e.rule) e.end)
+end-prepared p valid copies n e es h =
+    obligations-prepared p valid copies n e.rule e.end
+    ((decides-each (λ o. is_within_limits o.rule) (λ o. IsWithinLimits o.rule) (λ o. decides-within o.rule)
+    (obligations_of copies n (rule_at p e.rule) e.end)).0
+    (second-holds _ _ (limit-passed (limit_test copies n (placed p e)).passes _ (OverLimit n) h).0))
