@@ -9,20 +9,21 @@ use its_model::Program;
 use model::Memory;
 use refined_programs::{Section, spell};
 use refinement_check::{AcceptError, SectionFault, accept};
-use section_makers::{by_guards, by_last_rule, unrolled, without_large_atoms};
+use section_makers::{by_guards, by_last_rule, peeled, unrolled, without_large_atoms};
 use std::alloc::{AllocError, Global};
 
 /// Answers a line. `accept` is answered by `accepted`, or by what is wrong first: the number of a copy, of a branch or of
-/// an end, and then of a fact. `rules` is answered by how many symbols and rules the program has that the section spells.
-/// `last`, `unrolled` and `cells` have rules alone: they are answered by both of a section that is made of their program;
-/// and `small` by how many atoms each rule keeps where those with numbers over 100 are left out.
+/// an end, and then of a fact. `rules` is answered by how many symbols the program has that the section spells, and by the
+/// source and the target of each of its rules. `last`, `peeled`, `unrolled` and `cells` have rules alone: they are
+/// answered by both of a section that is made of their program; and `small` by how many atoms each rule keeps where those
+/// with numbers over 100 are left out.
 pub(crate) fn answer(alloc: Global, line: &str) -> Result<String, Memory> {
     let Some((call, rest)) = line.split_once(' ') else {
         return String::from_str(alloc, line);
     };
     match call {
         "accept" | "rules" => written_text(alloc, call, rest),
-        "last" | "unrolled" | "cells" | "small" => match program(alloc, rest)? {
+        "last" | "peeled" | "unrolled" | "cells" | "small" => match program(alloc, rest)? {
             None => String::from_str(alloc, "not read"),
             Some(p) => made_text(alloc, call, &p),
         },
@@ -55,13 +56,14 @@ fn made_text(alloc: Global, call: &str, p: &Program) -> Result<String, Memory>
 {
     match call {
         "last" => both_texts(alloc, p, &by_last_rule(alloc, p)?),
+        "peeled" => both_texts(alloc, p, &peeled(alloc, p)?),
         "unrolled" => both_texts(alloc, p, &unrolled(alloc, p)?),
         "cells" => both_texts(alloc, p, &by_guards(alloc, p, &all_rows(alloc, p)?)?),
         _ => atoms_text(alloc, &without_large_atoms(alloc, p, 100)?),
     }
 }
 
-// Whether a section is accepted, and how many symbols and rules its program has.
+// Whether a section is accepted, and the symbols and rules of its program.
 fn both_texts(alloc: Global, p: &Program, section: &Section) -> Result<String, Memory>
     requires { IsValid (program_of p.now) }
 {
@@ -109,12 +111,13 @@ fn fault_text(alloc: Global, fault: SectionFault) -> Result<String, Memory> {
     }
 }
 
-// How many symbols and rules the program has that a section spells.
+// How many symbols the program has that a section spells, and the source and the target of each rule.
 fn rules_text(alloc: Global, p: &Program, section: &Section) -> Result<String, Memory> {
     let spelled = spell(alloc, p, section)?;
-    format!(in alloc;
-        "{} symbols, {} rules",
-        spelled.symbols.len(),
-        spelled.rules.len()
-    )
+    let mut text = format!(in alloc; "{} symbols:", spelled.symbols.len())?;
+    for rule in &spelled.rules {
+        let ends = format!(in alloc; " {}>{}", rule.source, rule.target)?;
+        text.push_str(&ends)?;
+    }
+    Ok(text)
 }

@@ -9,11 +9,11 @@ mod atoms;
 mod cells;
 mod forms;
 mod last_rule;
+mod loops;
 mod names;
-mod unrolling;
 mod ways;
 
 pub use atoms::{lighter_programs_keep_bounds, without_large_atoms};
 pub use cells::by_guards;
 pub use last_rule::by_last_rule;
-pub use unrolling::unrolled;
+pub use loops::{peeled, unrolled};
