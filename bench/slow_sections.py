@@ -20,7 +20,8 @@ LIMIT, ATOMS, RULES, NUMBER = 2**56, 64, 1000, 2**63 - 1
 
 class Rule(NamedTuple):
     """Symbols by their numbers, names of variables of which the first `left` are the places of the source, trees of
-    expressions for updates, and atoms: a left side, a relation and a right side, or None for one that always holds."""
+    expressions for updates, atoms: a left side, a relation and a right side, or None for one that always holds; and the
+    expression of a cost, where one is written."""
 
     source: int
     target: int
@@ -28,6 +29,7 @@ class Rule(NamedTuple):
     variables: list
     atoms: list
     updates: list
+    cost: object = None
 
 
 class Program(NamedTuple):
@@ -149,11 +151,12 @@ def denied(fact, rule):
 
 
 def is_within(rule, atoms):
-    """Whether a rule with these atoms is within the limits: at most 64 atoms, each of which can be expanded."""
+    """Whether a rule with these atoms is within the limits: at most 64 atoms, its cost counted as one, each of which can be
+    expanded."""
     def is_small(polynomial):
         return (len(polynomial) <= 64 and all(abs(number) <= NUMBER for number in polynomial.values())
                 and all(len(monomial) <= 8 for monomial in polynomial))
-    return len(atoms) <= ATOMS and all(is_small(it) for atom in atoms if atom for it in differences(*atom))
+    return len(atoms) + (rule.cost is not None) <= ATOMS and all(is_small(it) for atom in atoms if atom for it in differences(*atom))
 
 
 def rows_of(rule, atoms):

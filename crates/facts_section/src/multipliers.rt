@@ -5,7 +5,7 @@ use crate::copies::speaks_alike;
 use guard_prep::RuleRows;
 use int_laws::greatest_common_divisor;
 use location_facts::{FactProof, LocFact};
-use poly_terms::{Memory, Row};
+use poly_terms::{Memory, Poly};
 use refined_programs::Multipliers;
 use std::alloc::Global;
 
@@ -42,8 +42,8 @@ pub(crate) fn turned(
     for strong in given.strongest {
         numbers.push(joined(by, own, given.facts, strong))?;
     }
-    if has_denied_row(given.rows, fact) {
-        numbers.push(den.saturating_mul(divisor(given.rows, fact)))?;
+    if let Some(number) = denied_multiplier(given.rows, fact, den) {
+        numbers.push(number)?;
     }
     Ok(Multipliers { numbers })
 }
@@ -67,50 +67,81 @@ fn joined(by: &[u64], first: usize, facts: &[LocFact], strong: &LocFact) -> u64 
     sum
 }
 
-// Whether the new value of the difference that a fact is on is affine.
-fn has_denied_row(rows: &RuleRows, fact: &LocFact) -> bool {
-    is_affine(rows, fact.plus) && is_affine(rows, fact.minus)
+// The multiplier of the row of the denied fact; none where there is no such row: where the new value of the difference
+// that the fact is on isn't affine, or is a constant at which the fact fails.
+fn denied_multiplier(rows: &RuleRows, fact: &LocFact, den: u64) -> Option<u64> {
+    let change = Change {
+        plus: poly_at(rows, fact.plus),
+        minus: poly_at(rows, fact.minus),
+    };
+    if !change.is_affine() {
+        return None;
+    }
+    let common = change.common_divisor(rows.unknowns);
+    if common == 0 && change.coefficient(&[]) < i128::from(fact.least) {
+        return None;
+    }
+    Some(den.saturating_mul(common.max(1)))
 }
 
-// Whether the new value of a place, from 1, is affine; place 0 is the number 0.
-fn is_affine(rows: &RuleRows, place: u32) -> bool {
+// The polynomial that is the new value of a place, from 1; none of place 0, whose value is 0.
+fn poly_at(rows: &RuleRows, place: u32) -> Option<&Poly> {
     if place == 0 {
-        return true;
+        return None;
     }
-    match rows.nonlinear.get(place as usize - 1) {
-        Some(is_nonlinear) => !*is_nonlinear,
-        None => true,
+    rows.polys.get(place as usize - 1)
+}
+
+// The difference of two polynomials, where none stands for 0.
+#[derive(Clone, Copy)]
+struct Change<'a> {
+    plus: Option<&'a Poly>,
+    minus: Option<&'a Poly>,
+}
+
+impl Change<'_> {
+    // The coefficient of the monomial of these variables.
+    fn coefficient(&self, vars: &[u32]) -> i128 {
+        coefficient_in(self.plus, vars).saturating_sub(coefficient_in(self.minus, vars))
+    }
+
+    // Whether the difference is affine.
+    fn is_affine(&self) -> bool {
+        self.has_none_of_degree_2(self.plus) && self.has_none_of_degree_2(self.minus)
+    }
+
+    // Whether the coefficients of the monomials of a polynomial that have degree 2 or more are 0 in the difference.
+    fn has_none_of_degree_2(&self, of: Option<&Poly>) -> bool {
+        let Some(poly) = of else {
+            return true;
+        };
+        for term in &poly.terms {
+            if term.vars.len() > 1 && self.coefficient(&term.vars) != 0 {
+                return false;
+            }
+        }
+        true
+    }
+
+    // The greatest common divisor of the coefficients of the variables below a number, 0 where all are 0.
+    fn common_divisor(&self, unknowns: u32) -> u64 {
+        let mut found = 0u128;
+        for unknown in 0..unknowns {
+            found = greatest_common_divisor(found, self.coefficient(&[unknown]).unsigned_abs());
+        }
+        u64::try_from(found).unwrap_or(u64::MAX)
     }
 }
 
-// The greatest common divisor of the coefficients of the new value of the difference that a fact is on, or 1 where all
-// are 0.
-fn divisor(rows: &RuleRows, fact: &LocFact) -> u64 {
-    let mut found = 0u128;
-    for unknown in 0..rows.unknowns {
-        let change = coefficient(rows, fact.plus, unknown).saturating_sub(coefficient(
-            rows, fact.minus, unknown,
-        ));
-        found = greatest_common_divisor(found, change.unsigned_abs());
-    }
-    u64::try_from(found).unwrap_or(u64::MAX).max(1)
-}
-
-// The coefficient of an unknown in the new value of a place, from 1, 0 for place 0.
-fn coefficient(rows: &RuleRows, place: u32, unknown: u32) -> i128 {
-    if place == 0 {
+// The coefficient of the monomial of these variables, 0 where there is none.
+fn coefficient_in(poly: Option<&Poly>, vars: &[u32]) -> i128 {
+    let Some(poly) = poly else {
         return 0;
+    };
+    for term in &poly.terms {
+        if term.vars.as_slice() == vars {
+            return term.coef;
+        }
     }
-    match rows.new_values.get(place as usize - 1) {
-        Some(row) => coefficient_in(row, unknown),
-        None => 0,
-    }
-}
-
-// The coefficient of an unknown, 0 past the end.
-fn coefficient_in(row: &Row, unknown: u32) -> i128 {
-    match row.coefs.get(unknown as usize) {
-        Some(coef) => *coef,
-        None => 0,
-    }
+    0
 }

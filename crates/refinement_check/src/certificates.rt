@@ -30,7 +30,7 @@ use std::alloc::Global;
 
 /// A guard that has to be unmet, as a rule that has it, with multipliers that are to show so, and the fault where they
 /// don't.
-#[derive(Debug, PartialEq, Eq, Drop)]
+#[derive(Drop)]
 pub(crate) struct Obligation {
     pub rule: Rule,
     pub by: Vec<u64>,
@@ -38,7 +38,7 @@ pub(crate) struct Obligation {
 }
 
 // The numbers of an end and of a fact of its copy.
-#[derive(Clone, Copy, Debug, PartialEq, Eq)]
+#[derive(Clone, Copy)]
 struct FactPlace {
     end: u64,
     fact: u64,

@@ -15,7 +15,7 @@ use refined_programs::{Branch, SymbolCopy};
 use std::alloc::Global;
 
 /// A branch that is due: of the rule with a number, at the copy with a number.
-#[derive(Clone, Copy, Debug, PartialEq, Eq)]
+#[derive(Clone, Copy)]
 pub(crate) struct Due {
     pub source: usize,
     pub rule: usize,

@@ -20,7 +20,7 @@ use refined_programs::{Branch, End, Goal, Multipliers, Section, SymbolCopy, bran
 use std::alloc::Global;
 
 /// An end of a branch, with the numbers of the copy that it leaves and of its rule.
-#[derive(Debug, PartialEq, Eq, Drop)]
+#[derive(Drop)]
 pub(crate) struct NumberedEnd {
     pub source: u32,
     pub rule: u32,
