@@ -12,8 +12,10 @@ mod ends;
 mod fault;
 mod laws;
 mod limits;
+mod names;
 mod shape;
 
 pub use accepting::accept;
 pub use fault::{AcceptError, SectionFault};
 pub use laws::accepted_sections_keep_bounds;
+pub use names::has_distinct_names;
