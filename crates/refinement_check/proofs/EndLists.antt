@@ -5,26 +5,23 @@ use Rattle.std.specs.Prelude.{nat_eq, ◌&&◌, Result, Ok, Err, IfOk, option_ma
 use Rattle.std.specs.List.{list_any}
 use Rattle.std.proofs.lemmas.Bool.{le-leb, lt-leb}
 use Rattle.std.proofs.lemmas.List.{map-append}
-use Rattle.refined_programs.specs.model.Terms.{Term}
-use Rattle.refined_programs.specs.model.Programs.{Atom, Rule, Program, rule_at}
+use Rattle.refined_programs.specs.model.Programs.{Program, rule_at}
 use Rattle.refined_programs.specs.model.Limits.{rule_limit}
 use Rattle.refined_programs.specs.refinement.Sections as plain
 use Rattle.refined_programs.specs.refinement.Sections.{passes, facts_of}
-use Rattle.refined_programs.specs.refinement.Obligations.{guard_along}
 use Rattle.refined_programs.specs.declared.section.Section as declared
+use Rattle.refined_programs.specs.declared.section.SymbolCopy.{SymbolCopy}
 use Rattle.refined_programs.specs.Annotated.{Branch, Section, copy_of, section_of}
 use Rattle.refined_programs.specs.Ends.{Goal, AtCopy, Nowhere, End, ends}
 use Rattle.refined_programs.specs.Views as views
 use Rattle.refined_programs.specs.Views.{annotated_branch, annotated_of}
 use Rattle.refined_programs.proofs.AnnotatedLaws.{copies-agree, section-agrees}
-use Rattle.refinement_rows.specs.Certified.{with_guard}
 use Rattle.section_checks.specs.Faults.{BranchEnd, ends_of_branch, ends_of, rules_at, leaves_by, rules_among, leaves_start}
-use Rattle.section_checks.specs.Faults.{Obligation, fact_obligations}
 use Rattle.section_decide.specs.Deciding.{are_rules_right}
 use Rattle.refinement_check.specs.declared.fault.SectionFault.{SectionFault}
 use Rattle.refinement_check.specs.Stages.{ends_fault_by, ends_fault_of}
 use Rattle.refinement_check.specs.Views.{fault_of, NumberedEnd, placed, numbered, numbered_ends_of_branch, numbered_ends, sources_by}
-use Rattle.refinement_check.specs.Views.{sources_of, against, facts_against}
+use Rattle.refinement_check.specs.Views.{sources_of}
 
 -- the ends of a branch with their rule
 ends-of-branch : (p : Program) (source rule : ℕ) (es : List End)
@@ -67,15 +64,6 @@ sources-start p (e ∷ es) = go e.end.goal (sources-start p es)
     go (AtCopy k by) h = ap (λ (v : Bool). nat_eq e.source 0 || v) h
     go (Nowhere by) h = h
 
--- the obligations of facts for the rule along a path are those for the rule
-pub facts-along : (n j : ℕ) (r : Rule) (atoms : List Atom) (facts : List Term) (by : List (List ℕ))
-    → facts_against n j (with_guard r (guard_along r atoms)) facts by ≡ fact_obligations n j r atoms facts by
-facts-along n j r atoms [] by = refl
-facts-along n j r atoms (f ∷ facts) [] = refl
-facts-along n j r atoms (f ∷ facts) (ms ∷ by) =
-    ap (λ (os : List Obligation). against (with_guard r (guard_along r atoms)) f ms n j ∷ os)
-    (facts-along n (suc j) r atoms facts by)
-
 -- too many ends at copies aren't right, and few are where one leaves the first copy
 pub rules-over : (p : Program) (es : List NumberedEnd) (sources : List ℕ) → sources ≡ sources_of es
     → rule_limit < length sources → false ≡ are_rules_right (map (placed p) es)
@@ -94,21 +82,22 @@ rules-few p es sources leaves e few h =
     ∙ sym (ap (λ (v : Bool). v && leaves_start (map (placed p) es)) (le-leb _ _ within))))
 
 -- what is wrong with the ends of a section as types is what is wrong with those of the section as plain data
-pub ends-agree : (p : Program) (section : declared.Section) (es : List NumberedEnd)
+ends-agree : (p : Program) (section : declared.Section) (copies : List SymbolCopy) (es : List NumberedEnd)
+    → copies ≡ section.copies.items
     → es ≡ numbered_ends (views.section_of section) (map annotated_branch section.branches.items)
-    → ends_fault_by (map views.copy_of section.copies.items) (map (placed p) es) ≡ ends_fault_of p (annotated_of section)
-ends-agree p section es e =
+    → ends_fault_by (map views.copy_of copies) (map (placed p) es) ≡ ends_fault_of p (annotated_of section)
+ends-agree p section copies es same e =
     let s : Section = annotated_of section in
-    ap (λ (cs : List plain.Copy). ends_fault_by cs (map (placed p) es)) (sym (copies-agree section.copies.items))
+    ap (λ (cs : List plain.Copy). ends_fault_by cs (map (placed p) es))
+    (ap (map views.copy_of) same ∙ sym (copies-agree section.copies.items))
     ∙ ap (λ (xs : List BranchEnd). ends_fault_by (map copy_of s.copies) xs)
     (ap (map (placed p)) (e ∙ ap (λ (x : plain.Section). numbered_ends x s.branches) (sym (section-agrees section)))
     ∙ ends-placed p s s.branches)
 
-pub ends_agree : {E : Type 0} (r : Result (Option SectionFault) E) (p : Program) (section : declared.Section)
-    (es : List NumberedEnd)
+pub ok_ends_agree : {E : Type 0} (r : Result (Option SectionFault) E) (p : Program) (section : declared.Section)
+    (copies : List SymbolCopy) (es : List NumberedEnd) → copies ≡ section.copies.items
     → es ≡ numbered_ends (views.section_of section) (map annotated_branch section.branches.items)
-    → IfOk r (λ found. option_map fault_of found
-    ≡ ends_fault_by (map views.copy_of section.copies.items) (map (placed p) es))
+    → IfOk r (λ found. option_map fault_of found ≡ ends_fault_by (map views.copy_of copies) (map (placed p) es))
     → IfOk r (λ found. option_map fault_of found ≡ ends_fault_of p (annotated_of section))
-ends_agree (Ok found) p section es e h = h ∙ ends-agree p section es e
-ends_agree (Err x) p section es e h = tt
+ok_ends_agree (Ok found) p section copies es same e h = h ∙ ends-agree p section copies es same e
+ok_ends_agree (Err x) p section copies es same e h = tt

@@ -1,4 +1,5 @@
 mod EndLists
+mod EndObligations
 mod Preparing
 mod Verdicts
 mod Stages

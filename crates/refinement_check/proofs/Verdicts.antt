@@ -1,7 +1,7 @@
 -- What is wrong with the multipliers of obligations, one by one.
 use Rattle.std.proofs.Common.{◌≡◌, ℕ, suc, ◌+◌, ◌<◌, Bool, true, false, cond, List, [], ◌∷◌, length, map, drop, get_or}
-use Rattle.std.proofs.Common.{Option, Some, None, is_some, refl, sym, ◌∙◌, ap, add-one}
-use Rattle.std.specs.Prelude.{◌&&◌}
+use Rattle.std.proofs.Common.{Option, Some, None, is_some, refl, sym, ◌∙◌, ap, subst, add-one}
+use Rattle.std.specs.Prelude.{◌&&◌, Result, Ok, Err, IfOk, option_map}
 use Rattle.std.specs.List.{AllByRecursion}
 use Rattle.std.proofs.lemmas.Bool.{false≢true}
 use Rattle.std.proofs.lemmas.List.{at_drop_more}
@@ -18,7 +18,8 @@ use Rattle.section_checks.specs.Faults.{Fault, WrongShape, OverLimit, BranchEnd,
 use Rattle.section_decide.specs.Deciding.{Test, numbered_tests, is_within_limits, fits_rows, obligation_tests, certificate_tests}
 use Rattle.section_decide.specs.Deciding.{limit_test, limit_tests, first_in_stages, or_then}
 use Rattle.section_decide.proofs.Deciding.{decides-each, decides-within}
-use Rattle.refinement_check.specs.Views.{NumberedEnd, placed}
+use Rattle.refinement_check.specs.declared.fault.SectionFault.{SectionFault}
+use Rattle.refinement_check.specs.Views.{fault_of, NumberedEnd, placed}
 use Rattle.refinement_check.proofs.Preparing.{obligations-prepared}
 
 -- the element at a position, and those behind it
@@ -140,3 +141,55 @@ end-prepared p valid copies n e es h =
     ((decides-each (λ o. is_within_limits o.rule) (λ o. IsWithinLimits o.rule) (λ o. decides-within o.rule)
     (obligations_of copies n (rule_at p e.rule) e.end)).0
     (second-holds _ _ (limit-passed (limit_test copies n (placed p e)).passes _ (OverLimit n) h).0))
+
+-- where the first of two doesn't hold not both do, and where it does both hold as the second does
+pub not-both : (own a b : Bool) → own ≡ a → own ≡ false → false ≡ (a && b)
+not-both own a b e no = sym (ap (λ (v : Bool). v && b) (sym e ∙ no))
+
+pub both-within : {E : Type 0} (r : Result Bool E) (own a b c : Bool) → own ≡ a → own ≡ true → b ≡ c
+    → IfOk r (λ v. v ≡ b) → IfOk r (λ v. v ≡ (a && c))
+both-within (Ok v) own a b c e yes_it_does same h =
+    h ∙ (same ∙ sym (ap (λ (w : Bool). w && c) (sym e ∙ yes_it_does)))
+both-within (Err d) own a b c e yes_it_does same h = tt
+
+-- whether there is a fault doesn't depend on how it is seen
+some-seen : (found : Option SectionFault) (v : Bool) → is_some found ≡ v → is_some (option_map fault_of found) ≡ v
+some-seen (Some fault) v e = e
+some-seen None v e = e
+
+-- the rules of the obligations of the first end that is left have rows
+pub here-prepared : (p : Program) → IsValid p → (copies : List Copy) (n : ℕ) (e : NumberedEnd) (es now : List BranchEnd)
+    (os : List Obligation) → now ≡ placed p e ∷ es → first_failing (limit_tests copies n now) ≡ None
+    → os ≡ obligations_of copies n (rule_at p e.rule) e.end → AllByRecursion (λ o. IsPreparable o.rule) os
+here-prepared p valid copies n e es now os left within same =
+    subst (λ (xs : List Obligation). AllByRecursion (λ o. IsPreparable o.rule) xs) (sym same)
+    (end-prepared p valid copies n e es
+    (subst (λ (xs : List BranchEnd). first_failing (limit_tests copies n xs) ≡ None) left within))
+
+-- and the other ends that are left are within the limits
+pub left-within : (copies : List Copy) (n : ℕ) (e : BranchEnd) (es now : List BranchEnd) → now ≡ e ∷ es
+    → first_failing (limit_tests copies n now) ≡ None → first_failing (limit_tests copies (n + 1) es) ≡ None
+left-within copies n e es now left within =
+    ap (λ (m : ℕ). first_failing (limit_tests copies m es)) (add-one n)
+    ∙ others-within copies n e es
+    (subst (λ (xs : List BranchEnd). first_failing (limit_tests copies n xs) ≡ None) left within)
+
+-- the fault of the first end that is left is that of all, and after none the others decide
+pub left-fails : (copies : List Copy) (n : ℕ) (e : BranchEnd) (es now : List BranchEnd) (os : List Obligation)
+    (found : Option SectionFault) (all : Option Fault) → now ≡ e ∷ es → os ≡ obligations_of copies n e.rule e.end
+    → is_some found ≡ true → option_map fault_of found ≡ first_failing (obligation_tests n os)
+    → first_in_stages (certificate_tests copies n now) ≡ all → option_map fault_of found ≡ all
+left-fails copies n e es now os found all left same s h decide =
+    end-fails copies n e es (option_map fault_of found) (some-seen found true s)
+    (h ∙ ap (λ (xs : List Obligation). first_failing (obligation_tests n xs)) same)
+    ∙ (ap (λ (xs : List BranchEnd). first_in_stages (certificate_tests copies n xs)) (sym left) ∙ decide)
+
+pub left-passes : (copies : List Copy) (n : ℕ) (e : BranchEnd) (es now : List BranchEnd) (os : List Obligation)
+    (found : Option SectionFault) (all : Option Fault) → now ≡ e ∷ es → os ≡ obligations_of copies n e.rule e.end
+    → is_some found ≡ false → option_map fault_of found ≡ first_failing (obligation_tests n os)
+    → first_in_stages (certificate_tests copies n now) ≡ all → first_in_stages (certificate_tests copies (n + 1) es) ≡ all
+left-passes copies n e es now os found all left same s h decide =
+    ap (λ (m : ℕ). first_in_stages (certificate_tests copies m es)) (add-one n)
+    ∙ (end-passes copies n e es (option_map fault_of found) (some-seen found false s)
+    (h ∙ ap (λ (xs : List Obligation). first_failing (obligation_tests n xs)) same)
+    ∙ (ap (λ (xs : List BranchEnd). first_in_stages (certificate_tests copies n xs)) (sym left) ∙ decide))
