@@ -1,11 +1,13 @@
 -- Names of the copies of a section, one by one.
-use Rattle.std.proofs.Common.{◌≡◌, ◌↔◌, Bool, true, false, List, [], ◌∷◌, ◌++◌, map, refl, sym, ◌∙◌, ap, subst}
-use Rattle.std.specs.List.{AllByRecursion}
-use Rattle.std.proofs.lemmas.Bool.{or_parts, false≢true, true≢false}
+use Rattle.std.proofs.Common.{◌≡◌, Bool, true, false, not, List, [], ◌∷◌, ◌++◌, map, refl, sym, ◌∙◌, ap, subst}
+use Rattle.std.proofs.Common.{append_assoc}
+use Rattle.std.specs.List.{AllByRecursion, list_any}
+use Rattle.std.proofs.lemmas.Bool.{or_parts, true≢false}
+use Rattle.indexmap.specs.IndexSet.{insert_key}
 use Rattle.refined_programs.specs.model.Programs.{Name}
 use Rattle.text_core.specs.Names.{IsName, is_same, is_among, AreDistinct}
 use Rattle.text_core.proofs.NameLaws.{same_equal, equal_same}
-use Rattle.text_core.proofs.KeyLaws.{not_before}
+use Rattle.text_core.proofs.KeyLaws.{key_among, names-insert_key, not_before}
 use Rattle.refined_programs.specs.declared.section.SymbolCopy.{SymbolCopy}
 use Rattle.refined_programs.specs.declared.section.Section as declared
 use Rattle.refined_programs.specs.Annotated.{Copy}
@@ -75,8 +77,8 @@ named section names e are distinct =
 -- one with a copy whose name isn't a name, or is that of an earlier copy, hasn't
 pub unnamed : (section : declared.Section) (before : List Name) (n : Name) (behind : List Name)
     → before ++ n ∷ behind ≡ names_of section.copies.items → (IsName n → ⊥) → HasDistinctNames (annotated_of section) → ⊥
-unnamed section before n behind e no h =
-    no (all-middle IsName before n behind
+unnamed section before n behind e fails h =
+    fails (all-middle IsName before n behind
     (subst (AllByRecursion IsName) (sym e) (names-of-copies IsName (annotated_of section).copies h.names)))
 
 pub repeated : (section : declared.Section) (before : List Name) (n : Name) (behind : List Name)
@@ -85,3 +87,33 @@ pub repeated : (section : declared.Section) (before : List Name) (n : Name) (beh
 repeated section before n behind e among h =
     let absent = not_before before n behind (subst AreDistinct (sym e) h.distinct) in
     true≢false (sym among ∙ absent)
+
+-- what a set says of a key that goes into it: it is new exactly where its name isn't among those there
+flipped : (a v : Bool) → not a ≡ v → a ≡ not v
+flipped true v e = ap not e
+flipped false v e = ap not e
+
+pub among-by : {X : Type 0} (view : X → Name) (test : X → Bool) (n : Name) (ks : List X) (is_new v : Bool)
+    → ((k : X) → test k ≡ is_same n (view k)) → is_new ≡ not (list_any test ks) → is_new ≡ v
+    → is_among n (map view ks) ≡ not v
+among-by view test n ks is_new v same added e =
+    sym (key_among view n test same ks) ∙ flipped (list_any test ks) v (sym added ∙ e)
+
+-- the names of a set once a new one goes into it, which is the first of those that are left
+pub one-more : {X : Type 0} (view : X → Name) (eq : X → X → Bool) (ks new : List X) (k : X) (n : Name)
+    (left rest all : List Name) (is_new : Bool) → ((j : X) → eq k j ≡ is_same (view k) (view j))
+    → new ≡ insert_key eq ks k → is_new ≡ not (list_any (eq k) ks) → is_new ≡ true → view k ≡ n → left ≡ n ∷ rest
+    → map view ks ++ left ≡ all → IsName n → AllByRecursion IsName (map view ks) → AreDistinct (map view ks)
+    → (map view new ++ rest ≡ all) × AllByRecursion IsName (map view new) × AreDistinct (map view new)
+one-more view eq ks new k n left rest all is_new same inserted added e here split so_far is_one are distinct =
+    let absent : is_among (view k) (map view ks) ≡ false =
+    among-by view (eq k) (view k) ks is_new true same added e in
+    let grown : map view new ≡ map view ks ++ view k ∷ [] =
+    names-insert_key view eq ks new k inserted (key_among view (view k) (eq k) same ks ∙ absent) in
+    (ap (λ (ns : List Name). ns ++ rest) grown
+    ∙ (append_assoc (map view ks) (view k ∷ []) rest
+    ∙ (ap (λ (m : Name). map view ks ++ m ∷ rest) here
+    ∙ (ap (λ (ns : List Name). map view ks ++ ns) (sym split) ∙ so_far))),
+    subst (AllByRecursion IsName) (sym grown)
+    (all-push IsName (map view ks) (view k) are (subst IsName (sym here) is_one)),
+    subst AreDistinct (sym grown) (distinct-push (map view ks) (view k) distinct absent))

@@ -1,7 +1,7 @@
 -- What is wrong with the multipliers of obligations, one by one.
 use Rattle.std.proofs.Common.{◌≡◌, ℕ, suc, ◌+◌, ◌<◌, Bool, true, false, cond, List, [], ◌∷◌, length, map, drop, get_or}
 use Rattle.std.proofs.Common.{Option, Some, None, is_some, refl, sym, ◌∙◌, ap, subst, add-one}
-use Rattle.std.specs.Prelude.{◌&&◌, Result, Ok, Err, IfOk, option_map}
+use Rattle.std.specs.Prelude.{◌&&◌, Result, Ok, Err, IfOk}
 use Rattle.std.specs.List.{AllByRecursion}
 use Rattle.std.proofs.lemmas.Bool.{false≢true}
 use Rattle.std.proofs.lemmas.List.{at_drop_more}
@@ -18,8 +18,7 @@ use Rattle.section_checks.specs.Faults.{Fault, WrongShape, OverLimit, BranchEnd,
 use Rattle.section_decide.specs.Deciding.{Test, numbered_tests, is_within_limits, fits_rows, obligation_tests, certificate_tests}
 use Rattle.section_decide.specs.Deciding.{limit_test, limit_tests, first_in_stages, or_then}
 use Rattle.section_decide.proofs.Deciding.{decides-each, decides-within}
-use Rattle.refinement_check.specs.declared.fault.SectionFault.{SectionFault}
-use Rattle.refinement_check.specs.Views.{fault_of, NumberedEnd, placed}
+use Rattle.refinement_check.specs.Views.{NumberedEnd, placed}
 use Rattle.refinement_check.proofs.Preparing.{obligations-prepared}
 
 -- the element at a position, and those behind it
@@ -27,45 +26,6 @@ pub more : {X Y : Type 0} (f : X → Y) (xs : List X) (i : ℕ) (x : X) → i < 
     → map f (drop i xs) ≡ f x ∷ map f (drop (i + 1) xs)
 more f xs i x l e =
     at_drop_more (map f) xs i x l ∙ ap (λ y. f y ∷ map f (drop (i + 1) xs)) (sym e)
-
--- a test that fails is the first to, and after one that passes the others decide
-pub test-fails : (t : Test) (ts : List Test) → t.passes ≡ false → Some t.reason ≡ first_failing (t ∷ ts)
-test-fails t ts e = ap (λ (v : Bool). cond v (first_failing ts) (Some t.reason)) (sym e)
-
-pub test-passes : (t : Test) (ts : List Test) → t.passes ≡ true → first_failing ts ≡ first_failing (t ∷ ts)
-test-passes t ts e = ap (λ (v : Bool). cond v (first_failing ts) (Some t.reason)) (sym e)
-
--- the same of tests of the elements of a list: where the first one fails, and where it passes
-pub loop-fails : {B : Type 0} (f : ℕ → B → Test) (n : ℕ) (now rest : List B) (x : B) (all : Option Fault) → now ≡ x ∷ rest
-    → (f n x).passes ≡ false → first_failing (numbered_tests f n now) ≡ all → Some (f n x).reason ≡ all
-loop-fails {B} f n now rest x all e no h =
-    test-fails (f n x) (numbered_tests f (suc n) rest) no
-    ∙ (ap (λ (ys : List B). first_failing (numbered_tests f n ys)) (sym e) ∙ h)
-
-pub loop-passes : {B : Type 0} (f : ℕ → B → Test) (n : ℕ) (now rest : List B) (x : B) (all : Option Fault)
-    → now ≡ x ∷ rest → (f n x).passes ≡ true → first_failing (numbered_tests f n now) ≡ all
-    → first_failing (numbered_tests f (n + 1) rest) ≡ all
-loop-passes {B} f n now rest x all e yes_it_does h =
-    ap (λ (m : ℕ). first_failing (numbered_tests f m rest)) (add-one n)
-    ∙ (test-passes (f n x) (numbered_tests f (suc n) rest) yes_it_does
-    ∙ (ap (λ (ys : List B). first_failing (numbered_tests f n ys)) (sym e) ∙ h))
-
--- multipliers that are too few, too many or too large; that don't show what they have to; and that do
-pub wrong-number : (n : ℕ) (o : Obligation) → fits_rows o ≡ false
-    → Some (WrongShape n) ≡ first_failing (obligation_tests n (o ∷ []))
-wrong-number n o e = test-fails (record { reason = WrongShape n; passes = fits_rows o }) _ e
-
-pub not-shown : (n : ℕ) (o : Obligation) → fits_rows o ≡ true → implies (rows_of o.rule) o.by minus_one ≡ false
-    → Some o.fault ≡ first_failing (obligation_tests n (o ∷ []))
-not-shown n o e f =
-    test-fails (record { reason = o.fault; passes = implies (rows_of o.rule) o.by minus_one }) [] f
-    ∙ test-passes (record { reason = WrongShape n; passes = fits_rows o }) _ e
-
-pub is-shown : (n : ℕ) (o : Obligation) → fits_rows o ≡ true → implies (rows_of o.rule) o.by minus_one ≡ true
-    → None ≡ first_failing (obligation_tests n (o ∷ []))
-is-shown n o e f =
-    test-passes (record { reason = o.fault; passes = implies (rows_of o.rule) o.by minus_one }) [] f
-    ∙ test-passes (record { reason = WrongShape n; passes = fits_rows o }) _ e
 
 -- the fault of the first obligation is that of all, and after none the others decide
 first-obligation : (a b : Bool) (w f : Fault) (rest found : Option Fault) → is_some found ≡ true
@@ -95,6 +55,21 @@ pub obligation-passes : (n : ℕ) (o : Obligation) (os : List Obligation) (found
 obligation-passes n o os found s e =
     other-obligations (fits_rows o) (implies (rows_of o.rule) o.by minus_one) (WrongShape n) o.fault
     (first_failing (obligation_tests n os)) found s e
+
+-- so of the obligations that are left
+pub obligations-fail : (n : ℕ) (o : Obligation) (os now : List Obligation) (fault : Fault) (all : Option Fault)
+    → now ≡ o ∷ os → Some fault ≡ first_failing (obligation_tests n (o ∷ []))
+    → first_failing (obligation_tests n now) ≡ all → Some fault ≡ all
+obligations-fail n o os now fault all left h decide =
+    obligation-fails n o os (Some fault) refl h
+    ∙ (ap (λ (xs : List Obligation). first_failing (obligation_tests n xs)) (sym left) ∙ decide)
+
+pub obligations-pass : (n : ℕ) (o : Obligation) (os now : List Obligation) (all : Option Fault) → now ≡ o ∷ os
+    → None ≡ first_failing (obligation_tests n (o ∷ [])) → first_failing (obligation_tests n now) ≡ all
+    → first_failing (obligation_tests n os) ≡ all
+obligations-pass n o os now all left h decide =
+    obligation-passes n o os None refl h
+    ∙ (ap (λ (xs : List Obligation). first_failing (obligation_tests n xs)) (sym left) ∙ decide)
 
 -- so with the ends
 stage-fails : (found rest : Option Fault) → is_some found ≡ true → found ≡ or_then found rest
@@ -142,20 +117,12 @@ end-prepared p valid copies n e es h =
     (obligations_of copies n (rule_at p e.rule) e.end)).0
     (second-holds _ _ (limit-passed (limit_test copies n (placed p e)).passes _ (OverLimit n) h).0))
 
--- where the first of two doesn't hold not both do, and where it does both hold as the second does
-pub not-both : (own a b : Bool) → own ≡ a → own ≡ false → false ≡ (a && b)
-not-both own a b e no = sym (ap (λ (v : Bool). v && b) (sym e ∙ no))
-
+-- where the first of two holds both hold as the second does
 pub both-within : {E : Type 0} (r : Result Bool E) (own a b c : Bool) → own ≡ a → own ≡ true → b ≡ c
     → IfOk r (λ v. v ≡ b) → IfOk r (λ v. v ≡ (a && c))
 both-within (Ok v) own a b c e yes_it_does same h =
     h ∙ (same ∙ sym (ap (λ (w : Bool). w && c) (sym e ∙ yes_it_does)))
 both-within (Err d) own a b c e yes_it_does same h = tt
-
--- whether there is a fault doesn't depend on how it is seen
-some-seen : (found : Option SectionFault) (v : Bool) → is_some found ≡ v → is_some (option_map fault_of found) ≡ v
-some-seen (Some fault) v e = e
-some-seen None v e = e
 
 -- the rules of the obligations of the first end that is left have rows
 pub here-prepared : (p : Program) → IsValid p → (copies : List Copy) (n : ℕ) (e : NumberedEnd) (es now : List BranchEnd)
@@ -176,20 +143,20 @@ left-within copies n e es now left within =
 
 -- the fault of the first end that is left is that of all, and after none the others decide
 pub left-fails : (copies : List Copy) (n : ℕ) (e : BranchEnd) (es now : List BranchEnd) (os : List Obligation)
-    (found : Option SectionFault) (all : Option Fault) → now ≡ e ∷ es → os ≡ obligations_of copies n e.rule e.end
-    → is_some found ≡ true → option_map fault_of found ≡ first_failing (obligation_tests n os)
-    → first_in_stages (certificate_tests copies n now) ≡ all → option_map fault_of found ≡ all
-left-fails copies n e es now os found all left same s h decide =
-    end-fails copies n e es (option_map fault_of found) (some-seen found true s)
+    (fault : Fault) (all : Option Fault) → now ≡ e ∷ es → os ≡ obligations_of copies n e.rule e.end
+    → Some fault ≡ first_failing (obligation_tests n os) → first_in_stages (certificate_tests copies n now) ≡ all
+    → Some fault ≡ all
+left-fails copies n e es now os fault all left same h decide =
+    end-fails copies n e es (Some fault) refl
     (h ∙ ap (λ (xs : List Obligation). first_failing (obligation_tests n xs)) same)
     ∙ (ap (λ (xs : List BranchEnd). first_in_stages (certificate_tests copies n xs)) (sym left) ∙ decide)
 
 pub left-passes : (copies : List Copy) (n : ℕ) (e : BranchEnd) (es now : List BranchEnd) (os : List Obligation)
-    (found : Option SectionFault) (all : Option Fault) → now ≡ e ∷ es → os ≡ obligations_of copies n e.rule e.end
-    → is_some found ≡ false → option_map fault_of found ≡ first_failing (obligation_tests n os)
-    → first_in_stages (certificate_tests copies n now) ≡ all → first_in_stages (certificate_tests copies (n + 1) es) ≡ all
-left-passes copies n e es now os found all left same s h decide =
+    (all : Option Fault) → now ≡ e ∷ es → os ≡ obligations_of copies n e.rule e.end
+    → None ≡ first_failing (obligation_tests n os) → first_in_stages (certificate_tests copies n now) ≡ all
+    → first_in_stages (certificate_tests copies (n + 1) es) ≡ all
+left-passes copies n e es now os all left same h decide =
     ap (λ (m : ℕ). first_in_stages (certificate_tests copies m es)) (add-one n)
-    ∙ (end-passes copies n e es (option_map fault_of found) (some-seen found false s)
+    ∙ (end-passes copies n e es None refl
     (h ∙ ap (λ (xs : List Obligation). first_failing (obligation_tests n xs)) same)
     ∙ (ap (λ (xs : List BranchEnd). first_in_stages (certificate_tests copies n xs)) (sym left) ∙ decide))

@@ -1,5 +1,5 @@
 -- What contracts see of faults, of branches that are due, of ends and of obligations.
-use Rattle.std.specs.Prelude.{ℕ, suc, List, [], ◌∷◌, ◌++◌, map, ⊤}
+use Rattle.std.specs.Prelude.{ℕ, suc, List, [], ◌∷◌, ◌++◌, map, slice_get, ⊤}
 use Rattle.refinement_check.specs.declared.fault.SectionFault.{SectionFault}
 use Rattle.refinement_check.specs.declared.fault.SectionFault.TheVariants as variants
 use Rattle.refinement_check.specs.declared.fault.AcceptError.{AcceptError}
@@ -10,7 +10,7 @@ use Rattle.refinement_check.specs.declared.certificates.Obligation as declared_o
 use Rattle.refined_programs.specs.model.Terms.{Term}
 use Rattle.refined_programs.specs.model.Programs.{Rule, Program, rule_at}
 use Rattle.refined_programs.specs.refinement.Sections as plain
-use Rattle.refined_programs.specs.refinement.Sections.{passes, fails, facts_of}
+use Rattle.refined_programs.specs.refinement.Sections.{passes, fails, facts_in, facts_of}
 use Rattle.refined_programs.specs.refinement.Obligations.{moved}
 use Rattle.refined_programs.specs.its_model.Views.{rule_of}
 use Rattle.refined_programs.specs.Annotated.{Branch, Section}
@@ -95,3 +95,8 @@ abbrev pub facts_against : ℕ → ℕ → Rule → List Term → List (List ℕ
 facts_against n j along [] by = []
 facts_against n j along (f ∷ facts) [] = []
 facts_against n j along (f ∷ facts) (ms ∷ by) = against along f ms n j ∷ facts_against n (suc j) along facts by
+
+-- those of an end by the rule along its path: of one that is nowhere that of the guard, of one at a copy those of facts
+abbrev pub obligations_by : List plain.Copy → ℕ → Rule → Goal → List Obligation
+obligations_by copies n along (Nowhere by) = record { rule = along; by = by; fault = NotNever n } ∷ []
+obligations_by copies n along (AtCopy k by) = facts_against n 1 along (facts_in (slice_get copies k)) by

@@ -172,11 +172,12 @@ fn is_end_within(
         ≡ (limit_test (map copy_of copies.now) number (placed (program_of p.now) (numbered_end_of end.now))).passes) }
 {
     let own = is_own_within(alloc, p, end)?;
-    if !own {
-        return Ok(false);
+    if own {
+        let found = obligations(alloc, p, copies, number, end)?;
+        are_within(alloc, &found)
+    } else {
+        Ok(false)
     }
-    let found = obligations(alloc, p, copies, number, end)?;
-    are_within(alloc, &found)
 }
 
 // Whether the rule of an end is, where there is one.
@@ -219,9 +220,8 @@ fn unmet_end(
 {
     for (i, end) in ends.iter().enumerate() {
         let found = obligations(alloc, p, copies, i as u64 + 1, end)?;
-        let fault = unmet(alloc, i as u64 + 1, &found)?;
-        if fault.is_some() {
-            return Ok(fault);
+        if let Some(fault) = unmet(alloc, i as u64 + 1, &found)? {
+            return Ok(Some(fault));
         }
     }
     Ok(None)

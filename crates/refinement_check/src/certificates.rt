@@ -13,9 +13,9 @@ ghost use Rattle.refinement_rows.specs.linear_forms.Certificates.{minus_one};
 ghost use Rattle.refinement_rows.specs.guard_prep.Laws.{IsPreparable};
 ghost use Rattle.refinement_rows.specs.guard_prep.Prepared.{rows_of, prepared as prepared_by};
 ghost use Rattle.refinement_rows.specs.guard_prep.Views.{prepared_of};
-ghost use Rattle.section_checks.specs.Faults.{NotNever, obligations_of, obligations_at};
+ghost use Rattle.section_checks.specs.Faults.{NotNever, obligations_of};
 ghost use Rattle.section_decide.specs.Deciding.{obligation_tests, fits_rows};
-ghost use Rattle.refinement_check.specs.Views.{fault_of, obligation_of, denied, against, facts_against};
+ghost use Rattle.refinement_check.specs.Views.{fault_of, obligation_of, denied, against, facts_against, obligations_by};
 
 use crate::ends::NumberedEnd;
 use crate::fault::SectionFault;
@@ -24,7 +24,7 @@ use guard_prep::{RuleRows, rows, rows_suit_certificates};
 use its_model::{Program, Rule};
 use poly_terms::Memory;
 use refined_programs::{
-    Affine, End, Goal, Multipliers, SymbolCopy, below_zero, moved, rule_along, rule_at,
+    Affine, Goal, Multipliers, SymbolCopy, below_zero, moved, rule_along, rule_at,
 };
 use std::alloc::Global;
 
@@ -63,23 +63,25 @@ pub(crate) fn obligations(
 {
     match rule_at(p, end.rule) {
         None => Ok(Vec::new(alloc)),
-        Some(rule) => obligations_by(alloc, copies, number, rule, &end.end),
+        Some(rule) => {
+            let along = rule_along(alloc, rule, &end.end.atoms)?;
+            obligations_along(alloc, copies, number, along, &end.end.goal)
+        }
     }
 }
 
-// Those of an end by a rule.
-fn obligations_by(
+// Those of an end by the rule with the guard along its path.
+fn obligations_along(
     alloc: Global,
     copies: &[SymbolCopy],
     number: u64,
-    rule: &Rule,
-    end: &End,
+    along: Rule,
+    goal: &Goal,
 ) -> Result<Vec<Obligation>, Memory>
-    ensures { IfOk result (λ found. map obligation_of found.items ≡ obligations_at (map copy_of copies.now) number
-        (rule_of rule.now) (map atom_of end.now.atoms.items) (goal_of end.now.goal)) }
+    ensures { IfOk result (λ found. map obligation_of found.items
+        ≡ obligations_by (map copy_of copies.now) number (rule_of along) (goal_of goal.now)) }
 {
-    let along = rule_along(alloc, rule, &end.atoms)?;
-    match &end.goal {
+    match goal {
         Goal::Nowhere { by } => unmet_guard(alloc, number, along, by),
         Goal::Copy { copy, by } => match copies.get(*copy as usize) {
             None => Ok(Vec::new(alloc)),
@@ -178,9 +180,8 @@ pub(crate) fn unmet(
         ≡ first_failing (obligation_tests number (map obligation_of obligations.now))) }
 {
     for obligation in obligations {
-        let found = fault_in(alloc, number, obligation)?;
-        if found.is_some() {
-            return Ok(found);
+        if let Some(fault) = fault_in(alloc, number, obligation)? {
+            return Ok(Some(fault));
         }
     }
     Ok(None)
