@@ -109,11 +109,12 @@ one-more view eq ks new k n left rest all is_new same inserted added e here spli
     let absent : is_among (view k) (map view ks) ≡ false =
     among-by view (eq k) (view k) ks is_new true same added e in
     let grown : map view new ≡ map view ks ++ view k ∷ [] =
-    names-insert_key view eq ks new k inserted (key_among view (view k) (eq k) same ks ∙ absent) in
-    (ap (λ (ns : List Name). ns ++ rest) grown
-    ∙ (append_assoc (map view ks) (view k ∷ []) rest
-    ∙ (ap (λ (m : Name). map view ks ++ m ∷ rest) here
-    ∙ (ap (λ (ns : List Name). map view ks ++ ns) (sym split) ∙ so_far))),
-    subst (AllByRecursion IsName) (sym grown)
-    (all-push IsName (map view ks) (view k) are (subst IsName (sym here) is_one)),
-    subst AreDistinct (sym grown) (distinct-push (map view ks) (view k) distinct absent))
+    names-insert_key view eq ks new k inserted (key_among view (view k) (eq k) same ks ∙ absent) in (
+      ap (λ (ns : List Name). ns ++ rest) grown
+          ∙ (append_assoc (map view ks) (view k ∷ []) rest
+          ∙ (ap (λ (m : Name). map view ks ++ m ∷ rest) here
+          ∙ (ap (λ (ns : List Name). map view ks ++ ns) (sym split) ∙ so_far))),
+      subst (AllByRecursion IsName) (sym grown)
+          (all-push IsName (map view ks) (view k) are (subst IsName (sym here) is_one)),
+      subst AreDistinct (sym grown) (distinct-push (map view ks) (view k) distinct absent),
+    )

@@ -47,7 +47,16 @@ fn section_by(alloc: Global, p: &Program, back: Back) -> Result<Section, Memory>
     }
     let mut branches = Vec::new(alloc);
     for (i, copy) in copies.iter().enumerate() {
-        push_branches(alloc, &mut branches, p, Leaving { source: short(i), symbol: copy.over, back })?;
+        push_branches(
+            alloc,
+            &mut branches,
+            p,
+            Leaving {
+                source: short(i),
+                symbol: copy.over,
+                back,
+            },
+        )?;
     }
     Ok(Section { copies, branches })
 }

@@ -23,12 +23,13 @@ returns-then-not-is_name c =
     let split : names_of (drop i copies) ≡ name_of x.name ∷ names_of (drop (i + 1) copies) =
     ap (map (λ (d : Copy). d.name)) (more annotated_copy copies i x low here) in
     let all : map (λ k. k.now) c.loop-copy.seen.keys ++ name_of x.name ∷ names_of (drop (i + 1) copies) ≡ names_of copies =
-    ap (λ (ns : List Name). map (λ k. k.now) c.loop-copy.seen.keys ++ ns) (sym split) ∙ c.loop-copy.invariant.all in
-    (λ e. absurd (false≢true e),
-    λ h. absurd (unnamed c.args.section.now (map (λ k. k.now) c.loop-copy.seen.keys) (name_of x.name)
-    (names_of (drop (i + 1) copies)) all
-    (λ g. false≢true (sym c.if-not-is_name.true
-    ∙ c.is_name.ensures.1 (subst IsName (sym c.as_slice-name.ensures.value) g))) h))
+    ap (λ (ns : List Name). map (λ k. k.now) c.loop-copy.seen.keys ++ ns) (sym split) ∙ c.loop-copy.invariant.all in (
+      λ e. absurd (false≢true e),
+      λ h. absurd (unnamed c.args.section.now (map (λ k. k.now) c.loop-copy.seen.keys) (name_of x.name)
+          (names_of (drop (i + 1) copies)) all
+          (λ g. false≢true (sym c.if-not-is_name.true
+          ∙ c.is_name.ensures.1 (subst IsName (sym c.as_slice-name.ensures.value) g))) h),
+    )
 
 pub returns-then-not-is_new : goal.returns-then-not-is_new
 returns-then-not-is_new c =
@@ -42,14 +43,15 @@ returns-then-not-is_new c =
     let split : names_of (drop i copies) ≡ name_of x.name ∷ names_of (drop (i + 1) copies) =
     ap (map (λ (d : Copy). d.name)) (more annotated_copy copies i x low here) in
     let all : map (λ k. k.now) c.loop-copy.seen.keys ++ name_of x.name ∷ names_of (drop (i + 1) copies) ≡ names_of copies =
-    ap (λ (ns : List Name). map (λ k. k.now) c.loop-copy.seen.keys ++ ns) (sym split) ∙ c.loop-copy.invariant.all in
-    (λ e. absurd (false≢true e),
-    λ h. absurd (repeated c.args.section.now (map (λ k. k.now) c.loop-copy.seen.keys) (name_of x.name)
-    (names_of (drop (i + 1) copies)) all
-    (subst (λ (m : Name). is_among m (map (λ k. k.now) c.loop-copy.seen.keys) ≡ true) c.as_slice-name.ensures.value
-    (among-by (λ k. k.now) (λ j. is_same c.as_slice-name.result.now j.now) c.as_slice-name.result.now
-    c.loop-copy.seen.keys c.in_ok-is_new.is_new false (λ j. refl) c.in_ok-is_new.ensures.added
-    c.if-not-is_new.true)) h))
+    ap (λ (ns : List Name). map (λ k. k.now) c.loop-copy.seen.keys ++ ns) (sym split) ∙ c.loop-copy.invariant.all in (
+      λ e. absurd (false≢true e),
+      λ h. absurd (repeated c.args.section.now (map (λ k. k.now) c.loop-copy.seen.keys) (name_of x.name)
+          (names_of (drop (i + 1) copies)) all
+          (subst (λ (m : Name). is_among m (map (λ k. k.now) c.loop-copy.seen.keys) ≡ true) c.as_slice-name.ensures.value
+          (among-by (λ k. k.now) (λ j. is_same c.as_slice-name.result.now j.now) c.as_slice-name.result.now
+          c.loop-copy.seen.keys c.in_ok-is_new.is_new false (λ j. refl) c.in_ok-is_new.ensures.added
+          c.if-not-is_new.true)) h),
+    )
 
 pub loop-copy-preserved : goal.loop-copy-preserved
 loop-copy-preserved c =
@@ -63,11 +65,11 @@ loop-copy-preserved c =
     let split : names_of (drop i copies) ≡ name_of x.name ∷ names_of (drop (i + 1) copies) =
     ap (map (λ (d : Copy). d.name)) (more annotated_copy copies i x low here) in
     let m = one-more (λ k. k.now) (λ a b. is_same a.now b.now) c.loop-copy.seen.keys c.insert.new.self.keys
-        c.as_slice-name.result (name_of x.name) (names_of (drop i copies)) (names_of (drop (i + 1) copies))
-        (names_of copies) c.in_ok-is_new.is_new (λ j. refl) c.in_ok-is_new.ensures.keys c.in_ok-is_new.ensures.added
-        c.if-not-is_new.false c.as_slice-name.ensures.value split c.loop-copy.invariant.all
-        (subst IsName c.as_slice-name.ensures.value (c.is_name.ensures.0 c.if-not-is_name.false))
-        c.loop-copy.invariant.names c.loop-copy.invariant.distinct in
+    c.as_slice-name.result (name_of x.name) (names_of (drop i copies)) (names_of (drop (i + 1) copies))
+    (names_of copies) c.in_ok-is_new.is_new (λ j. refl) c.in_ok-is_new.ensures.keys c.in_ok-is_new.ensures.added
+    c.if-not-is_new.false c.as_slice-name.ensures.value split c.loop-copy.invariant.all
+    (subst IsName c.as_slice-name.ensures.value (c.is_name.ensures.0 c.if-not-is_name.false))
+    c.loop-copy.invariant.names c.loop-copy.invariant.distinct in
     record { all = m.0; names = m.1; distinct = m.2 }
 
 pub returns : goal.returns
@@ -79,6 +81,8 @@ returns c =
     let whole : map (λ k. k.now) c.loop-copy.seen.keys ≡ names_of copies =
     sym (append-nil _)
     ∙ (ap (λ (ns : List Name). map (λ k. k.now) c.loop-copy.seen.keys ++ ns) (sym (ap names_of (drop_all i copies past)))
-    ∙ c.loop-copy.invariant.all) in
-    (λ e. named c.args.section.now (map (λ k. k.now) c.loop-copy.seen.keys) whole c.loop-copy.invariant.names
-    c.loop-copy.invariant.distinct, λ h. refl)
+    ∙ c.loop-copy.invariant.all) in (
+      λ e. named c.args.section.now (map (λ k. k.now) c.loop-copy.seen.keys) whole c.loop-copy.invariant.names
+          c.loop-copy.invariant.distinct,
+      λ h. refl,
+    )
