@@ -1,4 +1,4 @@
--- What is wrong with the multipliers of obligations, one by one.
+-- What is wrong first with obligations, and with the ends that they belong to, one by one.
 use Rattle.std.proofs.Common.{◌≡◌, ℕ, suc, ◌+◌, ◌<◌, Bool, true, false, cond, List, [], ◌∷◌, length, map, drop, get_or}
 use Rattle.std.proofs.Common.{Option, Some, None, is_some, refl, sym, ◌∙◌, ap, subst, add-one}
 use Rattle.std.specs.Prelude.{◌&&◌, Result, Ok, Err, IfOk}

@@ -2,7 +2,8 @@
 //!
 //! Builds on `section_decide`. Definitions are in `specs/`. Main guarantee: `accept` is Ok exactly where all checks of
 //! the section pass, and else says what is wrong first. Then the section is certified: bounds of the program that it
-//! spells carry over, and facts of copies hold at their symbols (`accepted_sections_keep_bounds`).
+//! spells carry over, and facts of copies hold at their symbols; it is a valid program where `has_distinct_names` says
+//! yes (`accepted_sections_keep_bounds`).
 #![tactic(auto)]
 
 mod accepting;
