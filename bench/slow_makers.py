@@ -1,12 +1,13 @@
 """Makes random programs, and sections of them with certificates, for the script that compares their runs.
 
-`Maker(rng).case()` is a program and a section of it, sometimes damaged. Facts are those of a few candidates that are kept
-by all rules; what refutes a guard is found by Fourier and Motzkin's elimination.
+`Maker(rng).case()` is a program and a section of it, more often damaged than whole. Facts are those of a few candidates
+that are kept by all rules; what refutes a guard is found by Fourier and Motzkin's elimination.
 """
 
-from slow_sections import (Branch, Copy, If, Never, Program, Rule, Section, To, denied, fails, leaving, passes, rows_of)
+from slow_sections import (LIMIT, Branch, Copy, If, Never, Program, Rule, Section, To, denied, fails, leaving, passes,
+                           rows_of)
 
-NAMES = "ABC"
+NAMES, LARGEST = "ABC", 2**63 - 1
 
 
 def refuting(rows):
@@ -154,33 +155,60 @@ class Maker:
         return To(target, [self.shown(program, facts, key, path, it) for it in facts[target]])
 
     def damaged(self, program, section):
-        kind = self.rng.randrange(6)
         copies, branches = [Copy(it.over, [list(f) for f in it.facts]) for it in section.copies], list(section.branches)
-        at = self.rng.randrange(len(copies))
-        if kind == 0 and copies[at].facts:
-            fact = self.rng.choice(copies[at].facts)
-            fact[self.rng.randrange(len(fact))] += self.rng.choice([-1, 1])
-        elif kind == 1:
-            copies[at] = Copy(self.rng.randrange(len(program.arities)), copies[at].facts)
-        elif kind == 2 and branches:
+        kind = self.rng.randrange(5)
+        if kind < 2 or not branches:
+            self.damage_copy(program, copies, kind == 0)
+        elif kind == 2:
             del branches[self.rng.randrange(len(branches))]
-        elif kind == 3 and branches:
+        else:
             place = self.rng.randrange(len(branches))
-            branches[place] = branches[place]._replace(cases=Never([1] * self.rng.randint(0, 3)))
-        elif kind == 4 and branches:
-            place = self.rng.randrange(len(branches))
-            cases = branches[place].cases
-            if isinstance(cases, To):
-                target = self.rng.randrange(len(copies))
-                branches[place] = branches[place]._replace(cases=To(target, cases.by))
-        elif branches:
-            place = self.rng.randrange(len(branches))
-            width = len(program.rules[branches[place].rule - 1].variables)
-            cases = branches[place].cases
-            branches[place] = branches[place]._replace(cases=If(self.form(width), cases, cases))
+            branch = branches[place]
+            width = len(program.rules[branch.rule - 1].variables)
+            branches[place] = branch._replace(cases=self.damaged_cases(branch.cases, width, len(copies)))
         return Section(copies, branches)
+
+    def damage_copy(self, program, copies, moves):
+        """Changes a number of a fact, or else the symbol of a copy; a number may become too large for a rule."""
+        at = self.rng.randrange(len(copies))
+        if copies[at].facts and moves:
+            fact = self.rng.choice(copies[at].facts)
+            place = self.rng.randrange(len(fact))
+            fact[place] = self.rng.choice([fact[place] - 1, fact[place] + 1, LARGEST])
+        else:
+            copies[at] = Copy(self.rng.randrange(len(program.arities)), copies[at].facts)
+
+    def damaged_cases(self, cases, width, copies):
+        """Cases that lead nowhere, lead elsewhere, have other multipliers or other tests, or one test more."""
+        kind = self.rng.randrange(5)
+        if kind == 0:
+            return Never([1] * self.rng.randint(0, 3))
+        if isinstance(cases, If):
+            if kind == 1:
+                return cases._replace(test=cases.test + [0])
+            if kind == 2:
+                return cases._replace(test=cases.test[:-1] + [LARGEST])
+            return cases._replace(yes=self.damaged_leaf(cases.yes, copies))
+        return If(self.form(width), cases, cases) if kind == 1 else self.damaged_leaf(cases, copies)
+
+    def damaged_leaf(self, leaf, copies):
+        """A leaf that names another copy, or has other multipliers."""
+        if isinstance(leaf, Never):
+            return Never(self.other_numbers(leaf.by))
+        if not leaf.by or self.rng.random() < 0.4:
+            return leaf._replace(copy=self.rng.randrange(copies + 1))
+        at = self.rng.randrange(len(leaf.by))
+        return leaf._replace(by=leaf.by[:at] + [self.other_numbers(leaf.by[at])] + leaf.by[at + 1:])
+
+    def other_numbers(self, numbers):
+        kind = self.rng.randrange(4)
+        if kind == 0 or not numbers:
+            return numbers + [0]
+        at = self.rng.randrange(len(numbers))
+        changed = {1: numbers[at] + 1, 2: LIMIT + 1, 3: 0}[kind]
+        return numbers[:at] + [changed] + numbers[at + 1:]
 
     def case(self):
         program = self.program()
         section = self.section(program)
-        return program, section if self.rng.random() < 0.6 else self.damaged(program, section)
+        return program, section if self.rng.random() < 0.4 else self.damaged(program, section)

@@ -3,24 +3,25 @@ is used.
 
 A program is a list of rules and arities by symbol, the start symbol being 0. A section has copies of its symbols, each
 with facts (affine forms over its places, at least 0 there), and branches, one for each copy and each rule that leaves
-its symbol, with cases: a tree whose tests are affine forms over the rule's variables, and whose leaves name a copy, with
-a list of multipliers for each of its facts, or say that the rule is never enabled there, with one list.
-`fault(program, section)` is what is wrong first with a section, or None; `spelled(program, section)` the program that it
-spells, with the number of the rule below each of its rules.
+its symbol, with cases: a tree whose tests are affine forms over the rule's variables, and whose leaves name a copy,
+with a list of multipliers for each of its facts, or say that the rule is never enabled there, with one list.
+`fault(program, section)` is what is wrong first with a section, or None; `spelled(program, section)` the program that
+it spells, with the number of the rule below each of its rules.
 """
 
 from typing import NamedTuple
 
 from slow_check import implies
 from slow_forms import differences, forms_of
-from slow_reading import expanded
+from slow_reading import Unexpanded
 
-LIMIT, ATOMS, RULES, NUMBER = 2**56, 64, 1000, 2**63 - 1
+LIMIT, ATOMS, RULES = 2**56, 64, 1000
 
 
 class Rule(NamedTuple):
     """Symbols by their numbers, names of variables of which the first `left` are the places of the source, trees of
-    expressions for updates, and atoms: a left side, a relation and a right side, or None for one that always holds."""
+    expressions for updates, atoms: a left side, a relation and a right side, or None for one that always holds; and the
+    expression of a cost, where one is written."""
 
     source: int
     target: int
@@ -28,6 +29,7 @@ class Rule(NamedTuple):
     variables: list
     atoms: list
     updates: list
+    cost: object = None
 
 
 class Program(NamedTuple):
@@ -148,12 +150,18 @@ def denied(fact, rule):
     return (moved(places, rule.updates), "<", ("number", 0))
 
 
+def expands(atom):
+    """Whether the difference of a comparison can be expanded."""
+    try:
+        return atom is None or bool(differences(*atom))
+    except Unexpanded:
+        return False
+
+
 def is_within(rule, atoms):
-    """Whether a rule with these atoms is within the limits: at most 64 atoms, each of which can be expanded."""
-    def is_small(polynomial):
-        return (len(polynomial) <= 64 and all(abs(number) <= NUMBER for number in polynomial.values())
-                and all(len(monomial) <= 8 for monomial in polynomial))
-    return len(atoms) <= ATOMS and all(is_small(it) for atom in atoms if atom for it in differences(*atom))
+    """Whether a rule with these atoms is within the limits: at most 64 atoms, its cost counted as one, each of which
+    can be expanded."""
+    return len(atoms) + (rule.cost is not None) <= ATOMS and all(map(expands, atoms))
 
 
 def rows_of(rule, atoms):

@@ -6,17 +6,21 @@ ghost use Rattle.its_model.specs.Views.{program_of};
 
 use crate::listed::listed_facts;
 use crate::programs::{all_rows, one_line, program};
+use facts_section::facts_section;
 use its_model::Program;
 use its_writer::print;
 use location_facts::{LocFact, LocFacts, facts, facts_fault, strengthen};
 use model::Memory;
-use std::alloc::Global;
+use refined_programs::SymbolCopy;
+use refinement_check::{AcceptError, accept};
+use std::alloc::{AllocError, Global};
 
 /// Answers a line. `faults` is answered by the first fault of the facts: `nothing`, or the number of a fact and of a
 /// rule. `strengthened` is answered by the canonical text of the program that is strengthened by them, with `/` for a
 /// line feed, if they have no fault. The other calls have a number of pivots in place of facts, and are about the facts
 /// that are kept within it: `kept` is answered by these facts, as a line writes them, or `none`, and by their first
-/// fault; and `found` by the text of the program that is strengthened by them.
+/// fault; `found` by the text of the program that is strengthened by them; and `section` by whether the section that they
+/// make is accepted, and how many facts each of its copies has.
 pub(crate) fn answer(alloc: Global, line: &str) -> Result<String, Memory> {
     let Some((call, rest)) = line.split_once(' ') else {
         return String::from_str(alloc, line);
@@ -31,6 +35,7 @@ pub(crate) fn answer(alloc: Global, line: &str) -> Result<String, Memory> {
             "strengthened" => strengthened_text(alloc, &p, &listed_facts(alloc, facts)?),
             "kept" => kept_text(alloc, &p, pivots_of(facts)),
             "found" => found_text(alloc, &p, pivots_of(facts)),
+            "section" => section_text(alloc, &p, pivots_of(facts)),
             _ => String::from_str(alloc, "no call"),
         },
     }
@@ -105,4 +110,28 @@ fn found_text(alloc: Global, p: &Program, pivots: u32) -> Result<String, Memory>
 {
     let strong = strengthened_by_kept(alloc, p, pivots)?;
     one_line(alloc, &print(alloc, &strong)?)
+}
+
+// Whether the section that the facts kept within a number of pivots make is accepted, or what is wrong first.
+fn section_text(alloc: Global, p: &Program, pivots: u32) -> Result<String, Memory>
+    requires { IsValid (program_of p.now) }
+{
+    let prepared_rules = all_rows(alloc, p)?;
+    let found = facts(alloc, p, &prepared_rules, pivots)?;
+    let section = facts_section(alloc, p, &prepared_rules, &found)?;
+    match accept(alloc, p, &section) {
+        Ok(()) => counts_text(alloc, &section.copies),
+        Err(AcceptError::Wrong(fault)) => format!(in alloc; "{fault:?}"),
+        Err(AcceptError::Memory) => Err(AllocError),
+    }
+}
+
+// How many facts each copy of an accepted section has.
+fn counts_text(alloc: Global, copies: &[SymbolCopy]) -> Result<String, Memory> {
+    let mut text = String::from_str(alloc, "accepted, facts")?;
+    for copy in copies {
+        let number = format!(in alloc; " {}", copy.facts.len())?;
+        text.push_str(&number)?;
+    }
+    Ok(text)
 }

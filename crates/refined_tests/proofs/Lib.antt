@@ -1,0 +1,2 @@
+-- rules that are read of a program
+pub mod Rows

@@ -1,0 +1,123 @@
+//! The answer to a line: a call, and behind a blank copies, branches and rules, divided by semicolons, or rules alone.
+
+ghost use Rattle.its_model.specs.Valid.{IsValid};
+ghost use Rattle.its_model.specs.Views.{program_of};
+
+use crate::programs::{all_rows, program};
+use crate::sections::section;
+use its_model::Program;
+use model::Memory;
+use refined_programs::{Section, spell};
+use refinement_check::{AcceptError, SectionFault, accept};
+use section_makers::{by_guards, by_last_rule, peeled, unrolled, without_large_atoms};
+use std::alloc::{AllocError, Global};
+
+/// Answers a line. `accept` is answered by `accepted`, or by what is wrong first: the number of a copy, of a branch or of
+/// an end, and then of a fact. `rules` is answered by how many symbols the program has that the section spells, and by the
+/// source and the target of each of its rules. `last`, `peeled`, `unrolled` and `cells` have rules alone: they are
+/// answered by both of a section that is made of their program; and `small` by how many atoms each rule keeps where those
+/// with numbers over 100 are left out.
+pub(crate) fn answer(alloc: Global, line: &str) -> Result<String, Memory> {
+    let Some((call, rest)) = line.split_once(' ') else {
+        return String::from_str(alloc, line);
+    };
+    match call {
+        "accept" | "rules" => written_text(alloc, call, rest),
+        "last" | "peeled" | "unrolled" | "cells" | "small" => match program(alloc, rest)? {
+            None => String::from_str(alloc, "not read"),
+            Some(p) => made_text(alloc, call, &p),
+        },
+        _ => String::from_str(alloc, line),
+    }
+}
+
+// The answer about a section that is written in the line.
+fn written_text(alloc: Global, call: &str, rest: &str) -> Result<String, Memory> {
+    let Some((copies, rest)) = rest.split_once(';') else {
+        return String::from_str(alloc, "no section");
+    };
+    let Some((branches, rules)) = rest.split_once(';') else {
+        return String::from_str(alloc, "no section");
+    };
+    let Some(p) = program(alloc, rules)? else {
+        return String::from_str(alloc, "not read");
+    };
+    let section = section(alloc, copies, branches)?;
+    if call == "rules" {
+        rules_text(alloc, &p, &section)
+    } else {
+        accepted_text(alloc, &p, &section)
+    }
+}
+
+// The answer about what is made of a program.
+fn made_text(alloc: Global, call: &str, p: &Program) -> Result<String, Memory>
+    requires { IsValid (program_of p.now) }
+{
+    match call {
+        "last" => both_texts(alloc, p, &by_last_rule(alloc, p)?),
+        "peeled" => both_texts(alloc, p, &peeled(alloc, p)?),
+        "unrolled" => both_texts(alloc, p, &unrolled(alloc, p)?),
+        "cells" => both_texts(alloc, p, &by_guards(alloc, p, &all_rows(alloc, p)?)?),
+        _ => atoms_text(alloc, &without_large_atoms(alloc, p, 100)?),
+    }
+}
+
+// Whether a section is accepted, and the symbols and rules of its program.
+fn both_texts(alloc: Global, p: &Program, section: &Section) -> Result<String, Memory>
+    requires { IsValid (program_of p.now) }
+{
+    let accepted = accepted_text(alloc, p, section)?;
+    let rules = rules_text(alloc, p, section)?;
+    format!(in alloc; "{accepted}, {rules}")
+}
+
+// How many atoms each rule has.
+fn atoms_text(alloc: Global, p: &Program) -> Result<String, Memory> {
+    let mut text = String::new(alloc);
+    for rule in &p.rules {
+        if !text.is_empty() {
+            text.push_str(" ")?;
+        }
+        let number = format!(in alloc; "{}", rule.guard.len())?;
+        text.push_str(&number)?;
+    }
+    Ok(text)
+}
+
+// Whether a section is accepted, or what is wrong first.
+fn accepted_text(alloc: Global, p: &Program, section: &Section) -> Result<String, Memory>
+    requires { IsValid (program_of p.now) }
+{
+    match accept(alloc, p, section) {
+        Ok(()) => String::from_str(alloc, "accepted"),
+        Err(AcceptError::Wrong(fault)) => fault_text(alloc, fault),
+        Err(AcceptError::Memory) => Err(AllocError),
+    }
+}
+
+// A fault in words.
+fn fault_text(alloc: Global, fault: SectionFault) -> Result<String, Memory> {
+    match fault {
+        SectionFault::Start => String::from_str(alloc, "start"),
+        SectionFault::Facts { copy } => format!(in alloc; "facts {}", copy),
+        SectionFault::Branch { branch } => format!(in alloc; "from {}", branch),
+        SectionFault::Test { branch } => format!(in alloc; "if {}", branch),
+        SectionFault::Shape { end } => format!(in alloc; "shape {}", end),
+        SectionFault::Rules => String::from_str(alloc, "rules"),
+        SectionFault::Limit { end } => format!(in alloc; "limit {}", end),
+        SectionFault::Never { end } => format!(in alloc; "never {}", end),
+        SectionFault::Fact { end, fact } => format!(in alloc; "fact {} {}", end, fact),
+    }
+}
+
+// How many symbols the program has that a section spells, and the source and the target of each rule.
+fn rules_text(alloc: Global, p: &Program, section: &Section) -> Result<String, Memory> {
+    let spelled = spell(alloc, p, section)?;
+    let mut text = format!(in alloc; "{} symbols:", spelled.symbols.len())?;
+    for rule in &spelled.rules {
+        let ends = format!(in alloc; " {}>{}", rule.source, rule.target)?;
+        text.push_str(&ends)?;
+    }
+    Ok(text)
+}

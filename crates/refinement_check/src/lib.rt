@@ -1,0 +1,22 @@
+//! Whether a section of a program with certificates is accepted, so that what it spells simulates the program.
+//!
+//! Builds on `section_decide`. Definitions are in `specs/`. Main guarantee: `accept` is Ok exactly where all checks of
+//! the section pass, and else says what is wrong first. Then the section is certified: bounds of the program that it
+//! spells carry over, and facts of copies hold at their symbols; it is a valid program where `has_distinct_names` says
+//! yes (`accepted_sections_keep_bounds`).
+#![tactic(auto)]
+
+mod accepting;
+mod certificates;
+mod due;
+mod ends;
+mod fault;
+mod laws;
+mod limits;
+mod names;
+mod shape;
+
+pub use accepting::accept;
+pub use fault::{AcceptError, SectionFault};
+pub use laws::accepted_sections_keep_bounds;
+pub use names::has_distinct_names;

@@ -1,0 +1,241 @@
+//! Forms over the places of symbols that the guards of the rules that leave them compare with 0.
+
+use crate::names::short;
+use guard_prep::RuleRows;
+use its_model::{Program, Rule};
+use poly_terms::{Memory, Row};
+use refined_programs::Affine;
+use std::alloc::Global;
+
+// A symbol is split by at most so many forms.
+const FORM_LIMIT: usize = 2;
+
+/// Forms over the places of a symbol.
+#[derive(Debug, PartialEq, Eq, Drop)]
+pub(crate) struct SymbolForms {
+    pub forms: Vec<Affine>,
+}
+
+/// A program with the rows of its rules, in order.
+#[derive(Clone, Copy)]
+pub(crate) struct Prepared<'a> {
+    pub program: &'a Program,
+    pub rows: &'a [RuleRows],
+}
+
+/// The forms by whose signs symbols are split, for each symbol in order. At a symbol that isn't the start they are the
+/// first two of the rows over places alone of the rules that leave it. Left out are a row that each of these rules has,
+/// one that is the same as an earlier one or its negation, and one whose value behind some rule that leads to the symbol
+/// isn't affine.
+///
+/// # Errors
+///
+/// `Memory` where an allocation fails.
+pub(crate) fn forms_of_symbols(
+    alloc: Global,
+    prepared: Prepared<'_>,
+) -> Result<Vec<SymbolForms>, Memory> {
+    let mut found = Vec::new(alloc);
+    for (i, _) in prepared.program.symbols.iter().enumerate() {
+        let forms = forms_at(alloc, prepared, short(i))?;
+        found.push(SymbolForms { forms })?;
+    }
+    Ok(found)
+}
+
+// Those of a symbol.
+fn forms_at(alloc: Global, prepared: Prepared<'_>, symbol: u32) -> Result<Vec<Affine>, Memory> {
+    let mut forms = Vec::new(alloc);
+    if symbol == prepared.program.start {
+        return Ok(forms);
+    }
+    for (i, rule) in prepared.program.rules.iter().enumerate() {
+        if let Some(rows) = prepared.rows.get(i) {
+            if rule.source == symbol {
+                push_rows(alloc, &mut forms, prepared, rule, &rows.rows)?;
+            }
+        }
+    }
+    Ok(forms)
+}
+
+// Appends those of the rows of a rule.
+fn push_rows(
+    alloc: Global,
+    forms: &mut Vec<Affine>,
+    prepared: Prepared<'_>,
+    rule: &Rule,
+    rows: &[Row],
+) -> Result<(), Memory> {
+    for row in rows {
+        if let Some(form) = form_of(alloc, rule.left, row)? {
+            let is_new = forms.len() < FORM_LIMIT && !is_listed(forms, &form);
+            if is_new && splits(alloc, prepared, rule.source, &form)? {
+                forms.push(form)?;
+            }
+        }
+    }
+    Ok(())
+}
+
+// A row as a form over the places, where it reads some of these and nothing else, and its numbers have 64 bits.
+fn form_of(alloc: Global, places: u32, row: &Row) -> Result<Option<Affine>, Memory> {
+    let mut coefs = Vec::new(alloc);
+    let mut is_constant = true;
+    for (i, coef) in row.coefs.iter().enumerate() {
+        if i < places as usize {
+            let Ok(small) = i64::try_from(*coef) else {
+                return Ok(None);
+            };
+            is_constant = is_constant && small == 0;
+            coefs.push(small)?;
+        } else if *coef != 0 {
+            return Ok(None);
+        }
+    }
+    let Ok(constant) = i64::try_from(row.constant) else {
+        return Ok(None);
+    };
+    if is_constant {
+        return Ok(None);
+    }
+    Ok(Some(Affine { coefs, constant }))
+}
+
+// Whether a form, or its negation over whole numbers, is one of these.
+fn is_listed(forms: &[Affine], form: &Affine) -> bool {
+    for other in forms {
+        if other == form || is_negation(other, form) {
+            return true;
+        }
+    }
+    false
+}
+
+// Whether one form is at least 0 exactly where the other is below 0.
+fn is_negation(form: &Affine, other: &Affine) -> bool {
+    form.constant.saturating_add(other.constant) == -1 && are_opposite(&form.coefs, &other.coefs)
+}
+
+// Whether coefficients are the negations of others.
+fn are_opposite(coefs: &[i64], others: &[i64]) -> bool {
+    for (i, coef) in coefs.iter().enumerate() {
+        match others.get(i) {
+            Some(other) if coef.saturating_add(*other) == 0 => {}
+            _ => return false,
+        }
+    }
+    coefs.len() == others.len()
+}
+
+// Whether a form tells rules that leave a symbol apart, and has an affine value behind each rule that leads there.
+fn splits(
+    alloc: Global,
+    prepared: Prepared<'_>,
+    symbol: u32,
+    form: &Affine,
+) -> Result<bool, Memory> {
+    let mut is_shared = true;
+    for (i, rule) in prepared.program.rules.iter().enumerate() {
+        let Some(rows) = prepared.rows.get(i) else {
+            return Ok(false);
+        };
+        if rule.source == symbol && !has_row(&rows.rows, form) {
+            is_shared = false;
+        }
+        if rule.target == symbol && at_new_values(alloc, rule, rows, form)?.is_none() {
+            return Ok(false);
+        }
+    }
+    Ok(!is_shared)
+}
+
+// Whether a form is one of these rows.
+fn has_row(rows: &[Row], form: &Affine) -> bool {
+    for row in rows {
+        if row.constant == i128::from(form.constant) && has_coefs(row, &form.coefs) {
+            return true;
+        }
+    }
+    false
+}
+
+// Whether a row has these coefficients, and 0 for the variables behind them.
+fn has_coefs(row: &Row, coefs: &[i64]) -> bool {
+    for (i, coef) in row.coefs.iter().enumerate() {
+        let wanted = match coefs.get(i) {
+            Some(number) => i128::from(*number),
+            None => 0,
+        };
+        if *coef != wanted {
+            return false;
+        }
+    }
+    true
+}
+
+/// A form at the values behind a rule, over the rule's variables; none where it isn't affine, or has a number of more
+/// than 64 bits.
+///
+/// # Errors
+///
+/// `Memory` where an allocation fails.
+pub(crate) fn at_new_values(
+    alloc: Global,
+    rule: &Rule,
+    rows: &RuleRows,
+    form: &Affine,
+) -> Result<Option<Affine>, Memory> {
+    if reads_nonlinear(rows, form) {
+        return Ok(None);
+    }
+    let mut coefs = Vec::new(alloc);
+    for variable in 0..rule.left.saturating_add(rule.free) {
+        let Ok(coef) = i64::try_from(moved_coefficient(rows, form, variable)) else {
+            return Ok(None);
+        };
+        coefs.push(coef)?;
+    }
+    let Ok(constant) = i64::try_from(moved_constant(rows, form)) else {
+        return Ok(None);
+    };
+    Ok(Some(Affine { coefs, constant }))
+}
+
+// Whether a form reads a place whose new value isn't affine.
+fn reads_nonlinear(rows: &RuleRows, form: &Affine) -> bool {
+    for (i, coef) in form.coefs.iter().enumerate() {
+        let is_nonlinear = match rows.nonlinear.get(i) {
+            Some(found) => *found,
+            None => true,
+        };
+        if *coef != 0 && is_nonlinear {
+            return true;
+        }
+    }
+    false
+}
+
+// The coefficient of a variable in a form at the new values.
+fn moved_coefficient(rows: &RuleRows, form: &Affine, variable: u32) -> i128 {
+    let mut sum: i128 = 0;
+    for (i, coef) in form.coefs.iter().enumerate() {
+        if let Some(row) = rows.new_values.get(i) {
+            if let Some(number) = row.coefs.get(variable as usize) {
+                sum = sum.saturating_add(number.saturating_mul(i128::from(*coef)));
+            }
+        }
+    }
+    sum
+}
+
+// The constant of a form at the new values.
+fn moved_constant(rows: &RuleRows, form: &Affine) -> i128 {
+    let mut sum = i128::from(form.constant);
+    for (i, coef) in form.coefs.iter().enumerate() {
+        if let Some(row) = rows.new_values.get(i) {
+            sum = sum.saturating_add(row.constant.saturating_mul(i128::from(*coef)));
+        }
+    }
+    sum
+}

@@ -1,0 +1,19 @@
+//! Makers of sections of a program, and of a program with fewer atoms: an ordinary search, whose answers are only checked.
+//!
+//! Builds on `refined_programs` and `guard_prep`. No clause says that a maker finds anything: what it makes counts where
+//! `refinement_check::accept` accepts it. Of `without_large_atoms` it is proved that the program that it makes has the
+//! rules of the program with weaker guards, so that bounds carry over.
+#![tactic(auto)]
+
+mod atoms;
+mod cells;
+mod forms;
+mod last_rule;
+mod loops;
+mod names;
+mod ways;
+
+pub use atoms::{lighter_programs_keep_bounds, without_large_atoms};
+pub use cells::by_guards;
+pub use last_rule::by_last_rule;
+pub use loops::{peeled, unrolled};

@@ -1,0 +1,114 @@
+//! Peels and unrolls loops: splits symbols by how often a rule that leads back to its own symbol was used.
+
+use crate::names::{copy_name, short};
+use its_model::{Program, Rule};
+use poly_terms::Memory;
+use refined_programs::{Branch, Cases, Section, SymbolCopy};
+use std::alloc::Global;
+
+// Where a rule that leads back to its own symbol leads from the second copy of that symbol.
+#[derive(Clone, Copy)]
+enum Back {
+    // To the first copy, so that the copies alternate.
+    ToFirst,
+    // To the second copy, which is never left by such a rule.
+    ToSecond,
+}
+
+/// Peels the first turn of loops: a copy of the start symbol, and two copies of each symbol. A rule that leads from a
+/// symbol to itself leads to the second copy, and any other rule to the first copy of its target; so at the second copy
+/// such a rule was the last one. Copies have no facts, so nothing has to be certified.
+///
+/// # Errors
+///
+/// `Memory` where an allocation fails.
+pub fn peeled(alloc: Global, p: &Program) -> Result<Section, Memory> {
+    section_by(alloc, p, Back::ToSecond)
+}
+
+/// Unrolls loops by two: a copy of the start symbol, and two copies of each symbol. A rule that leads from a symbol to
+/// itself leads from the second copy to the first, and from any other copy to the second; any other rule leads to the
+/// first copy of its target. So the copies alternate in a loop. Copies have no facts, so nothing has to be certified.
+///
+/// # Errors
+///
+/// `Memory` where an allocation fails.
+pub fn unrolled(alloc: Global, p: &Program) -> Result<Section, Memory> {
+    section_by(alloc, p, Back::ToFirst)
+}
+
+// The section with two copies of each symbol behind that of the start symbol.
+fn section_by(alloc: Global, p: &Program, back: Back) -> Result<Section, Memory> {
+    let mut copies = Vec::new(alloc);
+    copies.push(copy(alloc, p, p.start, 0)?)?;
+    for (i, _) in p.symbols.iter().enumerate() {
+        copies.push(copy(alloc, p, short(i), 1)?)?;
+        copies.push(copy(alloc, p, short(i), 2)?)?;
+    }
+    let mut branches = Vec::new(alloc);
+    for (i, copy) in copies.iter().enumerate() {
+        push_branches(
+            alloc,
+            &mut branches,
+            p,
+            Leaving {
+                source: short(i),
+                symbol: copy.over,
+                back,
+            },
+        )?;
+    }
+    Ok(Section { copies, branches })
+}
+
+// A copy of a symbol, without facts.
+fn copy(alloc: Global, p: &Program, over: u32, number: usize) -> Result<SymbolCopy, Memory> {
+    Ok(SymbolCopy {
+        name: copy_name(alloc, p, over, number)?,
+        over,
+        facts: Vec::new(alloc),
+    })
+}
+
+// A copy that rules leave, with its symbol, and where a loop leads back.
+#[derive(Clone, Copy)]
+struct Leaving {
+    source: u32,
+    symbol: u32,
+    back: Back,
+}
+
+// Appends the branches of the rules that leave a copy.
+fn push_branches(
+    alloc: Global,
+    branches: &mut Vec<Branch>,
+    p: &Program,
+    leaving: Leaving,
+) -> Result<(), Memory> {
+    for (i, rule) in p.rules.iter().enumerate() {
+        if rule.source == leaving.symbol {
+            branches.push(Branch {
+                source: leaving.source,
+                rule: short(i + 1),
+                cases: Cases::To {
+                    copy: target_of(rule, leaving),
+                    by: Vec::new(alloc),
+                },
+            })?;
+        }
+    }
+    Ok(())
+}
+
+// The copy to which a rule leads.
+fn target_of(rule: &Rule, leaving: Leaving) -> u32 {
+    let first = rule.target.saturating_mul(2).saturating_add(1);
+    let second = first.saturating_add(1);
+    if rule.source != rule.target {
+        return first;
+    }
+    match leaving.back {
+        Back::ToFirst if leaving.source == second => first,
+        _ => second,
+    }
+}

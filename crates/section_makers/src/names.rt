@@ -1,0 +1,31 @@
+//! Names of copies.
+
+use its_model::{Name, Program};
+use poly_terms::Memory;
+use std::alloc::Global;
+
+/// The name of a copy: that of its symbol, a full stop and a number. Copies with numbers that differ have names that
+/// differ.
+///
+/// # Errors
+///
+/// `Memory` where an allocation fails.
+pub(crate) fn copy_name(
+    alloc: Global,
+    p: &Program,
+    symbol: u32,
+    number: usize,
+) -> Result<Name, Memory> {
+    let mut bytes = match p.symbols.get(symbol as usize) {
+        Some(s) => s.name.bytes.as_slice().to_vec(alloc)?,
+        None => b"none".to_vec(alloc)?,
+    };
+    let digits = format!(in alloc; ".{}", number)?;
+    bytes.extend_from_slice(digits.as_bytes())?;
+    Ok(Name { bytes })
+}
+
+/// A number as one of 32 bits, and the greatest of these where it has more.
+pub(crate) fn short(number: usize) -> u32 {
+    u32::try_from(number).unwrap_or(u32::MAX)
+}
