@@ -72,7 +72,9 @@ pub(crate) fn reported(alloc: Global, text: &str) -> Result<String, Memory> {
 fn kind_of(only: &CallEnd, foreseen: &[u8]) -> &'static str {
     if only.status == Status::Done && only.text.as_slice() == foreseen {
         "the report"
-    } else if only.status == Status::ProgramRefused && only.text.starts_with(b"program refused at ") {
+    } else if only.status == Status::ProgramRefused
+        && only.text.starts_with(b"program refused at ")
+    {
         "refused"
     } else {
         "another answer"

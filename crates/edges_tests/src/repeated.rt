@@ -90,7 +90,11 @@ pub(crate) fn stopped(alloc: Global, written: &str) -> Result<String, Memory> {
                 "others"
             };
             let others = shown(alloc, others)?;
-            runs.add(alloc, count, format!(in alloc; "{status:?} {wrote} @ {others}")?)?;
+            runs.add(
+                alloc,
+                count,
+                format!(in alloc; "{status:?} {wrote} @ {others}")?,
+            )?;
         }
     }
     let (text, length) = (runs.text, whole.len());
