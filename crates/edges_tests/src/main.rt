@@ -21,7 +21,7 @@ use outside_io::{FileShelf, OutSink};
 use std::{fs, io};
 
 // A file of the system with six bytes.
-const SIX_BYTES: &str = "six_bytes.txt";
+const SIX_BYTES: &str = "six-bytes.txt";
 
 fn main(rt: HostRuntime) -> io::Result<()> {
     let alloc = rt.alloc();
