@@ -1,62 +1,55 @@
-//! The status of the process, by the words that the system gives, and the numbers of all statuses.
+//! The status of the process, by the words that the system gives.
 
-use crate::words::{push_bytes, words_of};
-use koat_cli::{Status, run_program};
-use model::Memory;
+use koat_cli::run_program;
 use outside_io::{MemoryShelf, MemorySink};
-use std::alloc::Global;
+use std::alloc::{AllocError, Global};
 use std::io;
 use std::io::ErrorKind;
 use std::process::ExitCode;
+use std::test::Fail;
 
-/// The status of a process and what it writes, where the shelf holds nothing: behind `process` come the words that the
-/// system gives, the program's name first, and behind `no-process` the error in their place.
-pub(crate) fn end_of_process(alloc: Global, call: &str, rest: &str) -> Result<String, Memory> {
-    let given = match (call, rest) {
-        ("process", _) => Ok(words_of(alloc, rest)?),
-        (_, "InvalidData") => Err(io::Error::from(ErrorKind::InvalidData)),
-        (_, "OutOfMemory") => Err(io::Error::from(ErrorKind::OutOfMemory)),
-        _ => Err(io::Error::from(ErrorKind::Other)),
-    };
-    let mut shelf = MemoryShelf::new(Vec::new(alloc), Vec::new(alloc));
-    let mut sink = MemorySink::new(alloc, 299, Vec::new(alloc))?;
-    let ended = run_program(alloc, given, &mut shelf, &mut sink);
-    let number = number_of(ended);
-    let mut text = format!(in alloc; "{number}: ")?;
-    push_bytes(&mut text, sink.bytes())?;
-    Ok(text)
-}
+const USAGE: &[u8] = b"usage: koat analyse [--pivots N] FILE
+       koat prove [--pivots N] FILE
+       koat check FILE PROOF
+       koat replay FILE RUN
+       koat generate N
+       koat selfrun N
+       koat facts [--pivots N] FILE
+       koat lasso FILE RUN
+       koat lp FILE
+";
 
-// The number with which a process ends; 99 where it's over 10.
-fn number_of(ended: ExitCode) -> u8 {
-    for number in 0..11u8 {
-        if ended == ExitCode::from(number) {
-            return number;
-        }
+// Words as the system gives them, the program's name first.
+fn given(alloc: Global, words: &[&str]) -> Result<Vec<String>, AllocError> {
+    let mut all = Vec::new(alloc);
+    for word in words {
+        all.push(String::from_str(alloc, word)?)?;
     }
-    99
+    Ok(all)
 }
 
-/// The number of each status.
-pub(crate) fn numbers_of_statuses(alloc: Global) -> Result<String, Memory> {
-    let all = [
-        Status::Done,
-        Status::Unknown,
-        Status::Usage,
-        Status::ReadFault,
-        Status::WriteFault,
-        Status::Memory,
-        Status::ProgramRefused,
-        Status::ProofRefused,
-        Status::No,
-        Status::RunRefused,
-        Status::NotARun,
+#[test]
+fn a_process_ends_by_its_words(rt: HostRuntime) -> Result<(), Fail> {
+    let alloc = rt.alloc();
+    let table: [(io::Result<Vec<String>>, u8, &[u8]); 7] = [
+        (
+            Ok(given(alloc, &["koat", "analyse", "p"])?),
+            3,
+            b"read fault\n",
+        ),
+        (Ok(given(alloc, &["analyse", "p"])?), 2, USAGE),
+        (Ok(given(alloc, &["koat"])?), 2, USAGE),
+        (Ok(given(alloc, &[])?), 2, USAGE),
+        (Err(io::Error::from(ErrorKind::InvalidData)), 2, USAGE),
+        (Err(io::Error::from(ErrorKind::OutOfMemory)), 5, b""),
+        (Err(io::Error::from(ErrorKind::Other)), 5, b""),
     ];
-    let mut text = String::new(alloc);
-    for status in all {
-        let comma = if text.is_empty() { "" } else { ", " };
-        let number = status.code();
-        text.push_str(&format!(in alloc; "{comma}{status:?} {number}")?)?;
+    for (words, status, output) in table {
+        let mut shelf = MemoryShelf::new(Vec::new(alloc), Vec::new(alloc));
+        let mut sink = MemorySink::new(alloc, 299, Vec::new(alloc))?;
+        let ended = run_program(alloc, words, &mut shelf, &mut sink);
+        assert!(rt; ended == ExitCode::from(status), "status {status}");
+        assert_eq!(rt; sink.bytes(), output);
     }
-    Ok(text)
+    Ok(())
 }

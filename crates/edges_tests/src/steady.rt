@@ -1,4 +1,4 @@
-//! The top call on a shelf and a sink without faults: a fault of writing never comes, and one of reading only if the
+//! The top call on a shelf and a sink without faults: a fault of writing never comes, and one of reading only where the
 //! shelf lacks a file of the request.
 
 ghost use Rattle.std.specs.Prelude.{◌≡◌, ◌≢◌, map, string_bytes};
@@ -7,11 +7,10 @@ ghost use Rattle.command_line.specs.Requests.{Request, Asks};
 ghost use Rattle.koat_cli.specs.RequestPlans.{plan_of};
 ghost use Rattle.call_plans.specs.Endings.{EndsOn};
 
-use crate::scenes::{Scene, scene_of};
 use koat_cli::{Status, run};
-use model::Memory;
-use outside_io::{SteadyShelf, SteadySink};
+use outside_io::{Held, SteadyShelf, SteadySink};
 use std::alloc::Global;
+use std::test::Fail;
 
 fn run_steadily(
     alloc: Global,
@@ -27,15 +26,26 @@ fn run_steadily(
     run(alloc, words, shelf, sink)
 }
 
-/// The statuses with which the calls of a scene end without faults.
-pub(crate) fn ends_steadily(alloc: Global, text: &str) -> Result<String, Memory> {
-    let Scene { calls, files, .. } = scene_of(alloc, text)?;
+#[test]
+fn a_steady_run_ends_by_its_words_and_files(rt: HostRuntime) -> Result<(), Fail> {
+    let alloc = rt.alloc();
+    let mut files = Vec::new(alloc);
+    files.push(Held {
+        name: String::from_str(alloc, "p")?,
+        bytes: Vec::from_slice(
+            alloc,
+            b"(STARTTERM (FUNCTIONSYMBOLS f))(RULES f() -> Com_1(g()))",
+        )?,
+    })?;
     let mut shelf = SteadyShelf::new(files);
-    let mut text = String::new(alloc);
-    for words in &calls {
-        let comma = if text.is_empty() { "" } else { ", " };
-        let status = run_steadily(alloc, words, &mut shelf, &mut SteadySink);
-        text.push_str(&format!(in alloc; "{comma}{status:?}")?)?;
+    for (name, status) in [("p", Status::Done), ("q", Status::ReadFault)] {
+        let mut words = Vec::new(alloc);
+        words.push(String::from_str(alloc, "analyse")?)?;
+        words.push(String::from_str(alloc, name)?)?;
+        assert_eq!(rt;
+            run_steadily(alloc, &words, &mut shelf, &mut SteadySink),
+            status
+        );
     }
-    Ok(text)
+    Ok(())
 }
