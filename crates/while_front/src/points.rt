@@ -1,6 +1,7 @@
 //! The points of moves, in the order of their first occurrence.
 
-ghost use Rattle.std.specs.Prelude.{◌≡◌, ◌<◌, ◌^◌, length, map, IfOk, OnOk};
+ghost use Rattle.std.specs.List.{list_any};
+ghost use Rattle.std.specs.Prelude.{◌≡◌, ◌==◌, ◌<◌, ◌^◌, length, map, IfOk, OnOk};
 ghost use Rattle.while_model.specs.Translation.{with_point, points_of as points_of_moves, number_in as number_of_point};
 ghost use Rattle.while_front.specs.Views.{move_of};
 
@@ -20,11 +21,23 @@ pub(crate) fn points_of(alloc: Global, moves: &[Move]) -> Result<Vec<u32>, Memor
     Ok(points)
 }
 
+// Whether a point is among points.
+fn has_point(points: &[u32], k: u32) -> bool
+    ensures { result ≡ list_any (λ x. x == k) points.now }
+{
+    for x in points {
+        if *x == k {
+            return true;
+        }
+    }
+    false
+}
+
 // Appends a point, unless it is among the points.
 fn add_point(points: &mut Vec<u32>, k: u32) -> Result<(), Memory>
     ensures { OnOk result (points.new.items ≡ with_point points.old.items k) }
 {
-    if points.iter().any(|x| *x == k) {
+    if has_point(points, k) {
         return Ok(());
     }
     points.push(k)?;
