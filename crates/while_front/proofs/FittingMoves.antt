@@ -11,7 +11,7 @@ use Rattle.while_model.specs.Translation.{free_count}
 use Rattle.while_model.proofs.Members.{IsIn}
 use Rattle.while_model.proofs.Sources.{IsBranchMove, IsMoveOf}
 use Rattle.its_model.specs.Valid.{IsValidAtom}
-use Rattle.while_front.specs.Readable.{FitsAction, FitsTest, Fits, rules_of}
+use Rattle.while_tree.specs.Readable.{FitsAction, FitsTest, Fits, rules_of}
 
 -- the action of a move fits, and so does its guard
 pub record FitsMove (n : ℕ) (m : Move) : Type 0 where

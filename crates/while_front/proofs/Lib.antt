@@ -1,6 +1,6 @@
 pub mod Statements
 pub mod Names
 pub mod FittingMoves
-pub mod Points
+pub mod PointLists
 pub mod PointNames
 pub mod ValidPrograms

@@ -15,7 +15,7 @@ use Rattle.while_model.specs.Translation.{longest, apart_from, free_name, symbol
 use Rattle.while_model.proofs.Members.{IsIn}
 use Rattle.its_model.specs.text_core.Names.{continues_name, IsName, is_same, is_among, AreDistinct}
 use Rattle.its_model.proofs.text_core.NameLaws.{same_equal}
-use Rattle.while_front.proofs.Points.{AreApart}
+use Rattle.while_front.proofs.PointLists.{AreApart}
 
 -- a name goes on with a digit
 digit_continues : (c : ℕ) → digit_value c < 10 → continues_name c ≡ true

@@ -4,8 +4,8 @@ use Rattle.std.proofs.Common.{append_assoc}
 use Rattle.while_model.specs.model.Programs.{Atom}
 use Rattle.while_model.specs.Statements.{Action, Statements, Simple, While, If, size}
 use Rattle.while_model.specs.Moves.{Move, first, moves_by, moves}
-use Rattle.while_front.specs.declared.stmt.Stmt.{Stmt}
-use Rattle.while_front.specs.Views.{Statement, Plain, Loop, Branch, before, joined, stmt_of, statements_of}
+use Rattle.while_tree.specs.declared.stmt.Stmt.{Stmt}
+use Rattle.while_tree.specs.Views.{Statement, Plain, Loop, Branch, before, joined, stmt_of, statements_of}
 use Rattle.while_front.specs.Views.{statement_size, statement_moves}
 
 -- the number of statements is that of the first one and that of the others

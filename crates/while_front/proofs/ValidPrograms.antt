@@ -20,9 +20,10 @@ use Rattle.while_model.proofs.Runs.{starts}
 use Rattle.while_model.proofs.FreeNames.{free_names_are_apart}
 use Rattle.its_model.specs.text_core.Names.{IsName, AreDistinct}
 use Rattle.its_model.specs.Valid.{IsValidTerm, IsValidSymbol, IsValidRule, IsValid}
-use Rattle.while_front.specs.Readable.{FitsAction, IsReadable, HasRoom, ReadableProgramsAreValid}
+use Rattle.while_tree.specs.Readable.{FitsAction, IsReadable}
+use Rattle.while_front.specs.Readable.{HasRoom, ReadableProgramsAreValid}
 use Rattle.while_front.proofs.FittingMoves.{FitsMove, fits_moves, to_bound, length_moves, size_le_rules}
-use Rattle.while_front.proofs.Points.{apart_points, all_append, all_points, to_among, number_below, length_points}
+use Rattle.while_front.proofs.PointLists.{apart_points, all_append, all_points, to_among, number_below, length_points}
 use Rattle.while_front.proofs.PointNames.{point_is_name, symbols_distinct, free_is_name, distinct_append}
 
 -- variables are expressions over more variables

@@ -4,10 +4,11 @@ ghost use Rattle.std.specs.Prelude.{◌≡◌, ◌+◌, ◌<◌, ◌^◌, [], �
 ghost use Rattle.while_model.specs.Statements.{size};
 ghost use Rattle.while_model.specs.Moves.{first, moves as moves_of_statements, moves_by, passing};
 ghost use Rattle.its_model.specs.Views.{atom_of};
-ghost use Rattle.while_front.specs.Views.{stmt_of, statements_of, statement_size, statement_moves, action_of, move_of};
+ghost use Rattle.while_tree.specs.Views.{stmt_of, statements_of};
+ghost use Rattle.while_front.specs.Views.{statement_size, statement_moves, action_of, move_of};
 
 use crate::negations::negations;
-use crate::stmt::Stmt;
+use while_tree::Stmt;
 use its_model::Atom;
 use poly_terms::{Expr, Memory};
 use program_copies::{copied_atoms, copied_expr};

@@ -6,14 +6,16 @@ ghost use Rattle.while_model.specs.Translation.{program_of as translation_of, pr
 ghost use Rattle.while_model.specs.Translation.{rule_of as rule_of_move, symbol_of as symbol_of_point};
 ghost use Rattle.its_model.specs.Views.{name_of, symbol_of, rule_of, program_of};
 ghost use Rattle.its_model.specs.Valid.{IsValid};
-ghost use Rattle.while_front.specs.Views.{statements_of, move_of};
-ghost use Rattle.while_front.specs.Readable.{IsReadable, HasRoom};
+ghost use Rattle.while_tree.specs.Views.{statements_of};
+ghost use Rattle.while_front.specs.Views.{move_of};
+ghost use Rattle.while_tree.specs.Readable.{IsReadable};
+ghost use Rattle.while_front.specs.Readable.{HasRoom};
 
 use crate::free_name::free_name;
 use crate::moves::{Move, push_moves, size_of};
 use crate::points::{number_in, points_of};
 use crate::rules::{rule_from, symbol_from};
-use crate::stmt::Whole;
+use while_tree::Whole;
 use its_model::{Name, Program, Rule, Symbol};
 use poly_terms::Memory;
 use program_copies::copied_names;

@@ -1,7 +1,8 @@
 use Rattle.std.proofs.Common.{◌≡◌, ◌+◌, ◌<◌, ◌^◌, ◌++◌, length, map, drop}
 use Rattle.while_model.specs.Statements.{size}
 use Rattle.while_model.specs.Moves.{moves}
-use Rattle.while_front.specs.Views.{statements_of, move_of}
+use Rattle.while_tree.specs.Views.{statements_of}
+use Rattle.while_front.specs.Views.{move_of}
 use Rattle.while_front.proofs.moves.+moved.Given as goal
 
 -- the moves so far, and then those of the statements left, are those that were there and those of all statements; the

@@ -1,6 +1,6 @@
 use Rattle.std.proofs.Common.{◌≡◌, ◌+◌, drop}
 use Rattle.while_model.specs.Statements.{size}
-use Rattle.while_front.specs.Views.{statements_of}
+use Rattle.while_tree.specs.Views.{statements_of}
 use Rattle.while_front.proofs.moves.+sized.Given as goal
 
 -- the statements passed and those left are all
