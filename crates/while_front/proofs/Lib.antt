@@ -1,4 +1,5 @@
 pub mod Statements
+pub mod UpdateLists
 pub mod Names
 pub mod FittingMoves
 pub mod PointLists

@@ -1,5 +1,5 @@
 -- How the name of the free variable is found, step by step.
-use Rattle.std.proofs.Common.{◌≡◌, ℕ, zero, suc, ◌-◌, ◌<◌, true, false, List, [], ◌∷◌, ◌++◌, refl, arith}
+use Rattle.std.proofs.Common.{◌≡◌, ℕ, zero, suc, ◌-◌, ◌<◌, true, false, List, [], ◌∷◌, ◌++◌, refl, ap, arith}
 use Rattle.std.specs.Prelude.{nat_eq}
 use Rattle.std.specs.List.{list_any}
 use Rattle.std.specs.Cmp.Lexicographic.{pointwise}
@@ -22,4 +22,5 @@ pub apart_more : (names : List Name) (most : ℕ) (name : Name) → 0 < most
     → list_any (pointwise nat_eq name) names ≡ true
     → apart_from names most name ≡ apart_from names (most - 1) (name ++ 95 ∷ [])
 apart_more names zero name h e = absurd (omega (arith, h))
-apart_more names (suc most) name h e = rw e refl
+apart_more names (suc most) name h e =
+    rw e (ap (λ (k : ℕ). apart_from names k (name ++ 95 ∷ [])) (let q : most ≡ suc most - 1 = omega arith in q))

@@ -1,6 +1,6 @@
 -- The last of some, and the front after a bracket that closes.
 use Rattle.std.proofs.Common.{◌≡◌, true, false, List, [], ◌∷◌, ◌++◌, Option, Some, refl, ap, ◌∙◌, sym}
-use Rattle.expr_reader.specs.expr_text.TermFronts.{Level, Front, BaseRead, is_empty}
+use Rattle.expr_text.specs.TermFronts.{Level, Front, BaseRead, is_empty}
 use Rattle.expr_reader.specs.FrontSteps.{Closes}
 use Rattle.while_text.specs.Drafts.{last_of, before_last, closed_by, term_of}
 

@@ -1,8 +1,8 @@
 -- What has been made of a while program up to a token.
 use Rattle.std.specs.Prelude.{ℕ, ◌-◌, ◌^◌, min, Bool, false, true, nat_lt, if◌then◌else◌, List, [], ◌∷◌, ◌++◌}
 use Rattle.std.specs.Prelude.{take, drop, pos, Option, Some, None}
-use Rattle.expr_reader.specs.expr_text.TermFronts.{Level, Operand, Wanted, BaseRead, Front, empty_level, sum_made}
-use Rattle.expr_reader.specs.expr_text.TermFronts.{with_number, with_caret}
+use Rattle.expr_text.specs.TermFronts.{Level, Operand, Wanted, BaseRead, Front, empty_level, sum_made}
+use Rattle.expr_text.specs.TermFronts.{with_number, with_caret}
 use Rattle.expr_reader.specs.FrontSteps.{behind_plus, behind_minus, behind_times}
 use Rattle.text_grammar.specs.text_core.Names.{position_of}
 use Rattle.while_text.specs.model.Terms.{Term, Literal, Variable}
@@ -27,7 +27,7 @@ pub data Block : Type 0 where
 
 -- the names of the inputs; the variable of the assignment that is being read, and whether its value is `?`; the
 -- expression that is being read, and the last one that ended a value; the left side of the atom; the atoms of the test;
--- what the next block will be; the open blocks, the innermost one last; the statements of the innermost one so far; and
+-- what the next block is; the open blocks, the innermost one last; the statements of the innermost one so far; and
 -- the positions of all statements
 pub record Draft : Type 0 where
   pub names : List Name
@@ -56,7 +56,7 @@ begun_draft = record {
   value = Literal (pos 0);
   left = Literal (pos 0);
   test = [];
-  opener = openers.Loop;
+  opener = openers.Second;
   blocks = [];
   body = [];
   positions = [];
@@ -127,7 +127,12 @@ begins_test opener at d = record (begins_at at d) { test = []; opener = opener }
 
 -- a block opens inside another
 abbrev pub with_block : Block → Draft → Draft
-with_block block d = record d { blocks = d.blocks ++ block ∷ []; body = []; test = [] }
+with_block block d = record d {
+  blocks = d.blocks ++ block ∷ [];
+  body = [];
+  test = [];
+  opener = openers.Second;
+}
 
 -- the second block of a branch that was read without it, as the last statement so far
 abbrev pub second_of : Option Statement → Draft → Draft
@@ -136,7 +141,7 @@ second_of (Some (Plain action)) d = d
 second_of (Some (Loop test block)) d = d
 second_of None d = d
 
--- a block opens
+-- a block opens: outside of a test it is the second one of a branch
 abbrev pub block_opens : Opener → Draft → Draft
 block_opens openers.Loop d = with_block (InLoop d.test d.body) d
 block_opens openers.First d = with_block (InFirst d.test d.body) d
@@ -180,7 +185,6 @@ made_of_statement text p sorts.Name d =
 made_of_statement text p sorts.Skip d = with_statement (Plain Skip) (begins_at p.at d)
 made_of_statement text p sorts.While d = begins_test openers.Loop p.at d
 made_of_statement text p sorts.If d = begins_test openers.First p.at d
-made_of_statement text p sorts.Else d = record d { opener = openers.Second }
 made_of_statement text p sorts.BlockClose d = block_closes (last_of d.blocks) d
 made_of_statement text p _ d = d
 

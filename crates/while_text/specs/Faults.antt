@@ -4,7 +4,7 @@ use Rattle.std.specs.Prelude.{List, [], ◌∷◌, ◌++◌, length, Option, Som
 use Rattle.text_grammar.specs.text_core.Choices.{when}
 use Rattle.text_grammar.specs.text_core.Readers.{Fault as FaultAt}
 use Rattle.text_grammar.specs.text_core.Names.{is_among}
-use Rattle.expr_reader.specs.expr_text.Differences.{differences, first_of_all}
+use Rattle.expr_text.specs.Differences.{differences, first_of_all}
 use Rattle.while_text.specs.poly_terms.Faults.{Fault, LargeCoefficient, ManyTerms, HighDegree, first_fault}
 use Rattle.while_text.specs.model.Limits.{coefficient_limit, token_limit, atom_limit, place_limit, rule_limit, name_limit}
 use Rattle.while_text.specs.model.Programs.{Name, Atom, Always, Compare}

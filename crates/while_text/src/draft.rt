@@ -1,7 +1,7 @@
 //! What has been made of a while program up to a token.
 
 ghost use Rattle.std.specs.Prelude.{◌≡◌, ◌∷◌, ◌++◌, [], if◌then◌else◌, None, IfOk, OnOk};
-ghost use Rattle.while_model.specs.Statements.{Assign, Choose};
+ghost use Rattle.while_tree.specs.while_model.Statements.{Assign, Choose};
 ghost use Rattle.while_tree.specs.Views.{Plain, stmt_of};
 ghost use Rattle.poly_terms.specs.Views.{term_of};
 ghost use Rattle.while_text.specs.Drafts as drafts;
@@ -25,7 +25,7 @@ use std::alloc::Global;
 use std::mem::replace;
 use while_tree::Stmt;
 
-/// What the next block is.
+/// What the next block is: outside of tests it is the second one of a branch.
 #[derive(Clone, Copy, Debug, PartialEq, Eq)]
 pub enum Opener {
     /// The block of a loop.
@@ -93,7 +93,7 @@ impl Draft {
             value: Expr::Num(0),
             left: Expr::Num(0),
             test: Vec::new(alloc),
-            opener: Opener::Loop,
+            opener: Opener::Second,
             blocks: Vec::new(alloc),
             body: Vec::new(alloc),
             positions: Vec::new(alloc),
@@ -163,7 +163,6 @@ impl Draft {
             }
             Sort::While => self.begin_test(alloc, Opener::Loop, piece.at)?,
             Sort::If => self.begin_test(alloc, Opener::First, piece.at)?,
-            Sort::Else => self.opener = Opener::Second,
             Sort::BlockClose => self.close_block(alloc)?,
             _ => {}
         }
@@ -342,6 +341,7 @@ impl Draft {
         self.blocks.push(block)?;
         self.body = Vec::new(alloc);
         self.test = Vec::new(alloc);
+        self.opener = Opener::Second;
         Ok(())
     }
 

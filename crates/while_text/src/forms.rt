@@ -5,7 +5,7 @@ ghost use Rattle.model.specs.Programs.{Compare};
 ghost use Rattle.model.specs.Terms.{Literal, Subtraction};
 ghost use Rattle.poly_terms.specs.Answers.{Says};
 ghost use Rattle.poly_terms.specs.Faults.{Fault, first_fault, or_else};
-ghost use Rattle.while_model.specs.Moves.{negations_of};
+ghost use Rattle.while_tree.specs.while_model.Moves.{negations_of};
 ghost use Rattle.poly_terms.specs.Views.{term_of};
 ghost use Rattle.its_model.specs.Views.{relation_of};
 ghost use Rattle.expr_reader.specs.Faults.{fault_of};

@@ -3,6 +3,7 @@
 ghost use Rattle.std.specs.Prelude.{◌≡◌, ◌+◌, ◌≤◌, ◌<◌, ◌∷◌, length, IsTrue};
 ghost use Rattle.std.specs.List.{list_all};
 ghost use Rattle.std.specs.Char.{is_ascii_digit};
+ghost use Rattle.text_grammar.specs.text_core.Names.{continues_name};
 ghost use Rattle.text_grammar.specs.text_core.Prefixes.{prefix};
 ghost use Rattle.text_grammar.specs.Marks.{lexeme_of, lexer_of as plain_lexer};
 ghost use Rattle.while_text.specs.Lexing as lexing;
@@ -124,14 +125,22 @@ fn sign_lexeme(first: u8, others: &[u8]) -> Lexeme<Sort>
     }
 }
 
+// The name that bytes begin with.
+fn front_name<'b>(bytes: &'b [u8], first: u8, others: &[u8]) -> &'b [u8]
+    requires { bytes.now ≡ first ∷ others.now }
+    ensures { result.now ≡ first ∷ prefix continues_name others.now }
+{
+    let _first = first;
+    &bytes[..1 + name_len(others)]
+}
+
 // The lexeme of a name.
 fn name_lexeme(bytes: &[u8], first: u8, others: &[u8]) -> Lexeme<Sort>
     requires { bytes.now ≡ first ∷ others.now }
     ensures { lexeme_of result ≡ lexing.name_at first others.now }
 {
-    let _first = first;
-    let len = 1 + name_len(others);
-    lexeme(word_sort(&bytes[..len]), len)
+    let name = front_name(bytes, first, others);
+    lexeme(word_sort(name), name.len())
 }
 
 // The digits that bytes begin with.

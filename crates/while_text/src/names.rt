@@ -9,6 +9,7 @@ use crate::piece::Piece;
 use its_model::Name;
 
 /// The bytes of a piece of a text.
+#[tactic(auto, using(crate::proofs::LexingLaws::taken))]
 pub fn bytes_of<'t>(text: &'t [u8], piece: Piece) -> &'t [u8]
     ensures { result.now ≡ bytes_of_piece text.now piece }
 {

@@ -88,7 +88,7 @@ impl<'a> WhileReading<'a> {
         let first = against_first(self.text, token.piece, &course, &self.draft);
         let rules = against_rules(token.piece, &course);
         let last = self.draft.take(self.alloc, self.text, token.piece, course)?;
-        let fault = first.is_some() || last.is_some() || rules.is_some();
+        let fault = first.is_some() || (last.is_some() || rules.is_some());
         self.course = course.after(token.piece);
         self.standing = standing_after(Standing::Sound, fault, is_in_test(self.course.phase));
         let first = fault_at(first, token.at);
