@@ -1,6 +1,8 @@
 -- What one statement adds to those after it: its number of statements, and its moves.
 use Rattle.std.proofs.Common.{◌≡◌, ℕ, suc, ◌+◌, ◌<◌, ◌^◌, List, [], ◌∷◌, ◌++◌, length, map, refl, sym, ◌∙◌, ap, subst, arith}
-use Rattle.std.proofs.Common.{append_assoc}
+use Rattle.std.proofs.Common.{append_assoc, cond, drop}
+use Rattle.std.specs.Prelude.{◌==◌, get_or}
+use Rattle.std.proofs.lemmas.List.{drop_more}
 use Rattle.while_model.specs.model.Programs.{Atom}
 use Rattle.while_model.specs.Statements.{Action, Statements, Simple, While, If, size}
 use Rattle.while_model.specs.Moves.{Move, first, moves_by, moves}
@@ -44,7 +46,18 @@ action-moves action rest at after a e = rw (← e) refl
 loop-moves : (test : List Atom) (block rest : Statements) (at after a b : ℕ) → suc at ≡ a → suc at + size block ≡ b
     → moves at after (While test block rest)
     ≡ (moves_by at test (first a at block) (first b after rest) ++ moves a at block) ++ moves b after rest
-loop-moves test block rest at after a b e f = rw (← f, ← e) (simp append_assoc)
+loop-moves test block rest at after a b e f =
+    subst (λ (k : ℕ). moves at after (While test block rest)
+    ≡ (moves_by at test (first a at block) (first k after rest) ++ moves a at block) ++ moves k after rest) f
+    (subst (λ (k : ℕ). moves at after (While test block rest)
+    ≡ (moves_by at test (first k at block) (first (suc at + size block) after rest) ++ moves k at block)
+    ++ moves (suc at + size block) after rest) e exact)
+  where
+    exact : moves at after (While test block rest)
+        ≡ (moves_by at test (first (suc at) at block) (first (suc at + size block) after rest) ++ moves (suc at) at block)
+        ++ moves (suc at + size block) after rest
+    exact = sym (append_assoc (moves_by at test (first (suc at) at block) (first (suc at + size block) after rest))
+        (moves (suc at) at block) (moves (suc at + size block) after rest))
 
 -- the moves of a branch, and of statements after it
 branch-moves : (test : List Atom) (block other rest : Statements) (at after a b d : ℕ) → suc at ≡ a
@@ -52,7 +65,26 @@ branch-moves : (test : List Atom) (block other rest : Statements) (at after a b 
     → moves at after (If test block other rest)
     ≡ (moves_by at test (first a (first d after rest) block) (first b (first d after rest) other)
     ++ (moves a (first d after rest) block ++ moves b (first d after rest) other)) ++ moves d after rest
-branch-moves test block other rest at after a b d e f g = rw (← g, ← f, ← e) (simp append_assoc)
+branch-moves test block other rest at after a b d e f g =
+    subst (λ (k : ℕ). moves at after (If test block other rest) ≡ Parts a b k) g
+    (subst (λ (k : ℕ). moves at after (If test block other rest) ≡ Parts a k (suc at + size block + size other)) f
+    (subst (λ (k : ℕ). moves at after (If test block other rest)
+    ≡ Parts k (suc at + size block) (suc at + size block + size other)) e exact))
+  where
+    Parts : ℕ → ℕ → ℕ → List Move
+    Parts i j k =
+        (moves_by at test (first i (first k after rest) block) (first j (first k after rest) other)
+        ++ (moves i (first k after rest) block ++ moves j (first k after rest) other)) ++ moves k after rest
+
+    exact : moves at after (If test block other rest)
+        ≡ Parts (suc at) (suc at + size block) (suc at + size block + size other)
+    exact =
+        let next = first (suc at + size block + size other) after rest in
+        let tests = moves_by at test (first (suc at) next block) (first (suc at + size block) next other) in
+        let one = moves (suc at) next block in
+        let two = moves (suc at + size block) next other in
+        let last = moves (suc at + size block + size other) after rest in
+        sym (append_assoc tests (one ++ two) last ∙ ap (λ (v : List Move). tests ++ v) (append_assoc one two last))
 
 -- the moves of statements are those of the first one and those of the others
 pub moves_before : (s : Statement) (rest : Statements) (at after : ℕ) → moves at after (before s rest)
@@ -83,3 +115,17 @@ moves_step out new all s rest here after next n e h = both ∙ h
     both = ap (λ (v : List Move). v ++ moves (here + statement_size s) after (joined rest)) added
         ∙ append_assoc out (statement_moves here (first (here + statement_size s) after (joined rest)) s)
         (moves (here + statement_size s) after (joined rest)) ∙ sym whole
+
+-- the point after a statement: that of the next one, or the one after all where none is left
+pub next_is : (at after left : ℕ) (rest : List Stmt) → left ≡ length rest
+    → cond (left == 0) after at ≡ first at after (statements_of rest)
+next_is at after left [] e = rw e refl
+next_is at after left (s ∷ rest) e =
+    ap (λ (k : ℕ). cond (k == 0) after at) e ∙ sym (first_before at after (stmt_of s) (statements_of rest))
+
+-- one statement more of those that are left
+pub left_step : (body : List Stmt) (i : ℕ) (item : Stmt) → i < length body → item ≡ get_or body i item
+    → statements_of (drop i body) ≡ before (stmt_of item) (statements_of (drop (i + 1) body))
+left_step body i item low e =
+    ap statements_of (drop_more body i item low)
+    ∙ ap (λ (s : Stmt). before (stmt_of s) (statements_of (drop (i + 1) body))) (sym e)

@@ -2,7 +2,7 @@
 use Rattle.std.proofs.Common.{◌≡◌, ℕ, zero, suc, ◌+◌, ◌<◌, ◌≤◌, List, [], ◌∷◌, ◌++◌, length, map, refl, ap, sym, ◌∙◌, arith}
 use Rattle.std.specs.Prelude.{set}
 use Rattle.std.specs.List.{range_with_len}
-use Rattle.std.proofs.lemmas.List.{map-set}
+use Rattle.std.proofs.lemmas.List.{map-set, map-append}
 use Rattle.while_model.specs.model.Terms.{Term, Variable}
 use Rattle.while_model.specs.Translation.{variables}
 use Rattle.poly_terms.specs.declared.expr.Expr.{Expr}
@@ -31,3 +31,10 @@ pub set_beyond : (ts : List Term) (x : ℕ) (t : Term) → length ts ≤ x → s
 set_beyond [] x t h = refl
 set_beyond (u ∷ ts) zero t h = absurd (omega (arith, h))
 set_beyond (u ∷ ts) (suc x) t h = ap (λ (vs : List Term). u ∷ vs) (set_beyond ts x t (omega (arith, h)))
+
+-- one update more
+pub terms_push : (es new : List Expr) (e : Expr) (ts : List Term) → new ≡ es ++ e ∷ [] → map term_of es ≡ ts
+    → map term_of new ≡ ts ++ term_of e ∷ []
+terms_push es new e ts n h =
+    ap (λ (xs : List Expr). map term_of xs) n ∙ map-append term_of es (e ∷ [])
+    ∙ ap (λ (us : List Term). us ++ term_of e ∷ []) h

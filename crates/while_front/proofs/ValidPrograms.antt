@@ -1,7 +1,7 @@
 -- The translation of a program within the limits is valid.
 use Rattle.std.proofs.Common.{◌≡◌, ℕ, zero, suc, ◌+◌, ◌*◌, ◌<◌, ◌≤◌, ◌^◌, ◌||◌, Bool, true, false, List, [], ◌∷◌, ◌++◌}
 use Rattle.std.proofs.Common.{inl, inr, length, map, Option, refl, sym, ◌∙◌, ap, subst, arith, length-append, eq-eqb}
-use Rattle.std.specs.Prelude.{nat_eq, set}
+use Rattle.std.specs.Prelude.{nat_eq, set, Result, Ok, Err, IfOk}
 use Rattle.std.specs.Option.{option_map}
 use Rattle.std.specs.List.{AllByRecursion, list_any, range_with_len}
 use Rattle.std.proofs.lemmas.List.{length-map, length-set, append-nil}
@@ -232,3 +232,9 @@ pub valid_as : (inputs : List Name) (program : Statements) (p : Program) → IsR
     → p ≡ program_of inputs program → IsValid p
 valid_as inputs program p readable e =
     subst (λ (x : Program). IsValid x) (sym e) (translation_valid inputs program readable)
+
+-- a result that is the translation of a program within the limits is valid
+pub valid_if : {M E : Type 0} (view : M → Program) (inputs : List Name) (program : Statements) → IsReadable inputs program
+    → (result : Result M E) → IfOk result (λ p. view p ≡ program_of inputs program) → IfOk result (λ p. IsValid (view p))
+valid_if view inputs program readable (Ok p) e = valid_as inputs program (view p) readable e
+valid_if view inputs program readable (Err error) e = tt

@@ -1,6 +1,6 @@
 //! The moves between the points of statements.
 
-ghost use Rattle.std.specs.Prelude.{◌≡◌, ◌+◌, ◌<◌, ◌^◌, [], ◌∷◌, ◌++◌, map, OnOk};
+ghost use Rattle.std.specs.Prelude.{◌≡◌, ◌+◌, ◌<◌, ◌^◌, ◌==◌, if◌then◌else◌, [], ◌∷◌, ◌++◌, map, OnOk};
 ghost use Rattle.while_model.specs.Statements.{size};
 ghost use Rattle.while_model.specs.Moves.{first, moves as moves_of_statements, moves_by, passing};
 ghost use Rattle.its_model.specs.Views.{atom_of};
@@ -76,9 +76,15 @@ fn first_of(at: u32, after: u32, body: &[Stmt]) -> u32
     if body.is_empty() { after } else { at }
 }
 
+// The point after a statement: that of the next one, or the one after all where none is left.
+fn next_point(left: usize, behind: u32, after: u32) -> u32
+    ensures { result ≡ (if left == 0 then after else behind) }
+{
+    if left == 0 { after } else { behind }
+}
+
 // Appends the moves of statements that are numbered from `at` on, where the point after them is `after`.
 #[cycle(moved)]
-#[tactic(auto, using(crate::proofs::Statements::size_before, crate::proofs::Statements::moves_before))]
 pub(crate) fn push_moves(
     alloc: Global,
     moves: &mut Vec<Move>,
@@ -95,7 +101,7 @@ pub(crate) fn push_moves(
     for stmt in body {
         let behind = here + statement_size_of(stmt);
         left -= 1;
-        let next = if left == 0 { after } else { behind };
+        let next = next_point(left, behind, after);
         push_statement(alloc, moves, stmt, here, next)?;
         here = behind;
     }

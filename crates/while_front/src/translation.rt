@@ -32,16 +32,21 @@ use std::alloc::Global;
 /// # Errors
 ///
 /// `Memory` where an allocation fails.
-#[tactic(auto, using(
-    crate::proofs::ValidPrograms::readable_size,
-    crate::proofs::ValidPrograms::room_for,
-    crate::proofs::ValidPrograms::valid_as,
-))]
 pub fn translate(alloc: Global, w: &Whole) -> Result<Program, Memory>
     requires { IsReadable (map name_of w.now.names.items) (statements_of w.now.body.items) }
     ensures program { IfOk result (λ p. program_of p
         ≡ translation_of (map name_of w.now.names.items) (statements_of w.now.body.items)) }
     ensures valid { IfOk result (λ p. IsValid (program_of p)) }
+{
+    translated(alloc, w)
+}
+
+// The integer transition system of a while program.
+#[tactic(auto, using(crate::proofs::ValidPrograms::readable_size, crate::proofs::ValidPrograms::room_for))]
+fn translated(alloc: Global, w: &Whole) -> Result<Program, Memory>
+    requires { IsReadable (map name_of w.now.names.items) (statements_of w.now.body.items) }
+    ensures { IfOk result (λ p. program_of p
+        ≡ translation_of (map name_of w.now.names.items) (statements_of w.now.body.items)) }
 {
     let after = size_of(&w.body);
     let mut moves = Vec::new(alloc);
