@@ -1,7 +1,8 @@
 -- What one statement adds to those after it: its number of statements, and its moves.
 use Rattle.std.proofs.Common.{◌≡◌, ℕ, suc, ◌+◌, ◌<◌, ◌^◌, List, [], ◌∷◌, ◌++◌, length, map, refl, sym, ◌∙◌, ap, subst, arith}
-use Rattle.std.proofs.Common.{append_assoc, cond, drop}
+use Rattle.std.proofs.Common.{append_assoc, cond, drop, false}
 use Rattle.std.specs.Prelude.{◌==◌, get_or}
+use Rattle.std.proofs.lemmas.Bool.Decides.{nat_tests}
 use Rattle.std.proofs.lemmas.List.{drop_more}
 use Rattle.while_model.specs.model.Programs.{Atom}
 use Rattle.while_model.specs.Statements.{Action, Statements, Simple, While, If, size}
@@ -121,7 +122,8 @@ pub next_is : (at after left : ℕ) (rest : List Stmt) → left ≡ length rest
     → cond (left == 0) after at ≡ first at after (statements_of rest)
 next_is at after left [] e = rw e refl
 next_is at after left (s ∷ rest) e =
-    ap (λ (k : ℕ). cond (k == 0) after at) e ∙ sym (first_before at after (stmt_of s) (statements_of rest))
+    let some : (left == 0) ≡ false = grind (arith, nat_tests, e) in
+    rw some (sym (first_before at after (stmt_of s) (statements_of rest)))
 
 -- one statement more of those that are left
 pub left_step : (body : List Stmt) (i : ℕ) (item : Stmt) → i < length body → item ≡ get_or body i item

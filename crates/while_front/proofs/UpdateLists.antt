@@ -16,6 +16,7 @@ range_push a (suc n) =
     ap (λ (ts : List Term). Variable a ∷ ts)
     (ap (λ (k : ℕ). map (λ x. Variable x) (range_with_len (a + 1) n) ++ Variable k ∷ [])
     (let e : a + suc n ≡ a + 1 + n = omega arith in e) ∙ range_push (a + 1) n)
+    ∙ ap (λ (k : ℕ). map (λ x. Variable x) (range_with_len a k)) (let e : suc (n + 1) ≡ suc n + 1 = omega arith in e)
 
 -- one variable more
 pub variables_push : (n : ℕ) → variables n ++ Variable n ∷ [] ≡ variables (n + 1)

@@ -101,7 +101,7 @@ module _ (names : List Name) (n : ℕ) (text : List ℕ) (p : Piece) (c : Course
         room = f.room;
         opener = f.opener;
         blocks = b.1;
-        body = fits_append n before (Branch test first (joined d.body)) b.0.1.1 (b.0.0, b.0.1.0, f.body, tt);
+        body = fits_append n before (Branch test first (joined d.body)) b.0.2 (b.0.0, b.0.1, f.body, tt);
         count = subst (λ (x : Phase). pending x d.test + (rules_of_blocks (before_last d.blocks)
             + rules_of (joined (before ++ Branch test first (joined d.body) ∷ []))) ≤ c.rules) (sym e)
             (omega (arith, r, s, k));
@@ -482,7 +482,7 @@ module _ (names : List Name) (n : ℕ) (text : List ℕ) (p : Piece) (c : Course
   reopened e (Some (Branch test block other)) l =
       let b = fits_last n d.body (Branch test block other) f.body l in
       let r = rules_last d.body (Branch test block other) l in
-      opened (InSecond test block (before_last d.body)) (b.0.0, b.0.1.0, b.1) (omega (arith, r))
+      opened (InSecond test block (before_last d.body)) (b.0.0, b.0.1, b.1) (omega (arith, r))
 
   pub kept_block : (opener : Opener) → d.opener ≡ opener
       → Fitting names n (record c { phase = phases.Statements }) (block_opens opener d)

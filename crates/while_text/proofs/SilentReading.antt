@@ -87,7 +87,7 @@ silent_along text Fine Good keeps [] before ts e f h v g = (refl, g)
 silent_along text Fine Good keeps (Did m ∷ es) before ts e f h v g =
     silent_along text Fine Good keeps es (Did m ∷ before) ts e f h v g
 silent_along text Fine Good keeps (Read p ∷ es) before [] e f h v g = cc
-silent_along text Fine Good keeps (Read p ∷ es) before (t ∷ ts) e (fine, f) (none, h) v g =
+silent_along text Fine Good keeps (Read p ∷ es) before (t ∷ ts) e (fine, f) (shows, h) v g =
     go (silent_along text Fine Good keeps es (Read p ∷ before) ts (tails e) f h sound good)
   where
     heads : p ∷ read_in es ≡ t.piece ∷ pieces ts → p ≡ t.piece
@@ -99,7 +99,7 @@ silent_along text Fine Good keeps (Read p ∷ es) before (t ∷ ts) e (fine, f) 
     nothing : HasNone text p (state text before)
     nothing = subst (λ (q : Piece). HasNone text q (state text before)) (sym (heads e))
         (none_shown text (state text before) t
-        (subst (λ (w : Standing). faults_of w text (state text before) t ≡ []) v none))
+        (subst (λ (w : Standing). faults_of w text (state text before) t ≡ []) v shows))
 
     step : read text p (state text before) ≡ sound_after text p (state text before)
     step = read_sound text p (state text before) v nothing

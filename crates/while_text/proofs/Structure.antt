@@ -399,7 +399,7 @@ module _ (text : List ℕ) where
       → q.sort ≡ sorts.Becomes → r.sort ≡ sorts.Semicolon → AllInner ds → IsOpen s
       → Goes s (after_all text s (Read p ∷ Read q ∷ (ds ++ Read r ∷ [])))
       × IsSome (after_all text s (Read p ∷ Read q ∷ (ds ++ Read r ∷ []))).draft.body
-  reads_assignment p q r ds s e f g inner open =
+  reads_assignment p q r ds s e f g inner ready =
       subst (λ (t : State). Goes s t × IsSome t.draft.body) (sym (after_append text two ds (Read r ∷ [])))
       (record { phase = done.0.phase; blocks = done.2 ∙ three.shape.blocks ∙ shape.blocks; opener = done.0.opener; grows = λ h. done.1 }, done.1)
     where
@@ -407,7 +407,7 @@ module _ (text : List ℕ) where
       one = sound_after text p s
 
       named : one.course.phase ≡ phases.Assignment
-      named = rw (e, open.phase) refl
+      named = rw (e, ready.phase) refl
 
       two : State
       two = sound_after text q one
@@ -416,7 +416,7 @@ module _ (text : List ℕ) where
       value = rw (f, named) refl
 
       shape_one : SameShape one.draft s.draft
-      shape_one = record { blocks = rw (e, open.phase) refl; body = rw (e, open.phase) refl; opener = rw (e, open.phase) refl }
+      shape_one = record { blocks = rw (e, ready.phase) refl; body = rw (e, ready.phase) refl; opener = rw (e, ready.phase) refl }
 
       shape_two : SameShape two.draft one.draft
       shape_two = record { blocks = rw (f, named) refl; body = rw (f, named) refl; opener = rw (f, named) refl }
@@ -429,25 +429,25 @@ module _ (text : List ℕ) where
 
       done : IsOpen (sound_after text r (after_all text two ds)) × IsSome (sound_after text r (after_all text two ds)).draft.body
           × ((sound_after text r (after_all text two ds)).draft.blocks ≡ (after_all text two ds).draft.blocks)
-      done = assigned r (after_all text two ds) g three.phase (three.shape.opener ∙ shape.opener ∙ open.opener)
+      done = assigned r (after_all text two ds) g three.phase (three.shape.opener ∙ shape.opener ∙ ready.opener)
 
   -- `skip;`
   reads_skip : (p q : Piece) (s : State) → p.sort ≡ sorts.Skip → q.sort ≡ sorts.Semicolon → IsOpen s
       → Goes s (after_all text s (Read p ∷ Read q ∷ [])) × IsSome (after_all text s (Read p ∷ Read q ∷ [])).draft.body
-  reads_skip p q s e f open =
+  reads_skip p q s e f ready =
       (record { phase = rw (f, phase) phase; blocks = rw (f, phase) blocks; opener = rw (f, phase) opener; grows = λ h. some }, some)
     where
       phase : (sound_after text p s).course.phase ≡ phases.Statements
-      phase = rw (e, open.phase) refl
+      phase = rw (e, ready.phase) refl
 
       blocks : (sound_after text p s).draft.blocks ≡ s.draft.blocks
-      blocks = rw (e, open.phase) refl
+      blocks = rw (e, ready.phase) refl
 
       opener : (sound_after text p s).draft.opener ≡ openers.Second
-      opener = rw (e, open.phase) open.opener
+      opener = rw (e, ready.phase) ready.opener
 
       body : (sound_after text p s).draft.body ≡ s.draft.body ++ Plain Skip ∷ []
-      body = rw (e, open.phase) refl
+      body = rw (e, ready.phase) refl
 
       same : (sound_after text q (sound_after text p s)).draft.body ≡ (sound_after text p s).draft.body
       same = rw (f, phase) refl
@@ -618,7 +618,7 @@ module _ (text : List ℕ) where
       → (test : _) (block other : Statements) → last_of s.draft.body ≡ Some (Branch test block other)
       → ((t : State) (block : Block) → block_opens t.draft.opener t.draft ≡ with_block block t.draft
       → Closes t block (after_all text t ds)) → Goes s (after_all text s (Read p ∷ ds))
-  reads_other p ds s e open test block other last closes = record {
+  reads_other p ds s e ready test block other last closes = record {
     phase = w.phase;
     blocks = w.blocks ∙ shape.blocks;
     opener = w.opener;
@@ -629,11 +629,11 @@ module _ (text : List ℕ) where
       one = sound_after text p s
 
       shape : SameShape one.draft s.draft
-      shape = record { blocks = rw (e, open.phase) refl; body = rw (e, open.phase) refl; opener = rw (e, open.phase) refl }
+      shape = record { blocks = rw (e, ready.phase) refl; body = rw (e, ready.phase) refl; opener = rw (e, ready.phase) refl }
 
       opens : block_opens one.draft.opener one.draft ≡ with_block (InSecond test block (before_last one.draft.body)) one.draft
       opens =
-          ap (λ (o : Opener). block_opens o one.draft) (shape.opener ∙ open.opener)
+          ap (λ (o : Opener). block_opens o one.draft) (shape.opener ∙ ready.opener)
           ∙ ap (λ (o : Option Statement). second_of o one.draft) (ap last_of shape.body ∙ last)
 
       w : Closes one (InSecond test block (before_last one.draft.body)) (after_all text one ds)
@@ -663,11 +663,11 @@ module _ (text : List ℕ) where
       three : State
       three = after_all text two ds
 
-      open : IsOpen three
-      open = more two listing.phase listing.opener
+      ready : IsOpen three
+      ready = more two listing.phase listing.opener
 
       first : Goes three (after_all text three cs) × IsSome (after_all text three cs).draft.body
-      first = one three open
+      first = one three ready
 
       after : Goes (after_all text three cs) (after_all text (after_all text three cs) bs)
       after = rest (after_all text three cs) (is_open three (after_all text three cs) first.0)
@@ -704,31 +704,31 @@ module _ (text : List ℕ) where
 
   statements_stand : (es : List (Event Piece)) (ps : List Piece) → Along (symbol.Made 3 ∷ symbol.Made 2 ∷ []) es ps
       → Stands 2 es ps
-  statements_stand es ps (ds, fs, os, qs, one, e, f, (cs, gs, rs, us, rest, e2, f2, (e3, f3))) s open =
+  statements_stand es ps (ds, fs, os, qs, one, e, f, (cs, gs, rs, us, rest, e2, f2, (e3, f3))) s ready =
       subst (Goes s) (sym whole)
-      (goes_then s (after_all text s ds) (after_all text (after_all text s ds) cs) (one s open).0
-      (rest (after_all text s ds) (is_open s (after_all text s ds) (one s open).0)))
+      (goes_then s (after_all text s ds) (after_all text (after_all text s ds) cs) (one s ready).0
+      (rest (after_all text s ds) (is_open s (after_all text s ds) (one s ready).0)))
     where
       whole : after_all text s es ≡ after_all text (after_all text s ds) cs
       whole = ap (λ (x : List (Event Piece)). after_all text s x) (e ∙ ap (λ (x : List (Event Piece)). ds ++ x)
           (e2 ∙ ap (λ (x : List (Event Piece)). cs ++ x) e3 ∙ nothing_more cs)) ∙ after_append text s ds cs
 
   none_stand : (es : List (Event Piece)) (ps : List Piece) → Along [] es ps → Stands 2 es ps
-  none_stand es ps (e, f) s open = subst (λ (x : List (Event Piece)). Goes s (after_all text s x)) (sym e)
-      (record { phase = open.phase; blocks = refl; opener = open.opener; grows = λ some. some })
+  none_stand es ps (e, f) s ready = subst (λ (x : List (Event Piece)). Goes s (after_all text s x)) (sym e)
+      (record { phase = ready.phase; blocks = refl; opener = ready.opener; grows = λ some. some })
 
   no_other_stands : (es : List (Event Piece)) (ps : List Piece) → Along [] es ps → Stands 5 es ps
-  no_other_stands es ps (e, f) s open some test block other last =
+  no_other_stands es ps (e, f) s ready some test block other last =
       subst (λ (x : List (Event Piece)). Goes s (after_all text s x)) (sym e)
-      (record { phase = open.phase; blocks = refl; opener = open.opener; grows = λ h. h })
+      (record { phase = ready.phase; blocks = refl; opener = ready.opener; grows = λ h. h })
 
   other_stands : (es : List (Event Piece)) (ps : List Piece) → Along (symbol.Piece 4 ∷ symbol.Made 6 ∷ []) es ps
       → Stands 5 es ps
-  other_stands es ps (p, fs, qs, k, e, f, (ds, gs, os, rs, closes, e2, f2, (e3, f3))) s open some test block other last =
+  other_stands es ps (p, fs, qs, k, e, f, (ds, gs, os, rs, closes, e2, f2, (e3, f3))) s ready some test block other last =
       subst (λ (x : List (Event Piece)). Goes s (after_all text s x))
       (sym (e ∙ ap (λ (x : List (Event Piece)). Read p ∷ x) (e2 ∙ ap (λ (x : List (Event Piece)). ds ++ x) e3
       ∙ nothing_more ds)))
-      (reads_other p ds s (sort_of_4 p.sort k) open test block other last closes)
+      (reads_other p ds s (sort_of_4 p.sort k) ready test block other last closes)
 
   block_stands : (es : List (Event Piece)) (ps : List Piece)
       → Along (symbol.Piece 14 ∷ symbol.Made 2 ∷ symbol.Piece 15 ∷ []) es ps → Stands 6 es ps
@@ -741,26 +741,26 @@ module _ (text : List ℕ) where
   assignment_stands : (es : List (Event Piece)) (ps : List Piece)
       → Along (symbol.Piece 6 ∷ symbol.Piece 8 ∷ symbol.Made 4 ∷ symbol.Piece 10 ∷ []) es ps → Stands 3 es ps
   assignment_stands es ps (p, fs, qs, k, e, f, (q, gs, rs, l, e2, f2, (ds, hs, os, us, inner, e3, f3,
-      (r, js, vs, m, e4, f4, (e5, f5))))) s open =
+      (r, js, vs, m, e4, f4, (e5, f5))))) s ready =
       subst (λ (x : List (Event Piece)). Goes s (after_all text s x) × IsSome (after_all text s x).draft.body)
       (sym (e ∙ ap (λ (x : List (Event Piece)). Read p ∷ x) (e2 ∙ ap (λ (x : List (Event Piece)). Read q ∷ x)
       (e3 ∙ ap (λ (x : List (Event Piece)). ds ++ x) (e4 ∙ ap (λ (x : List (Event Piece)). Read r ∷ x) e5)))))
-      (reads_assignment p q r ds s (sort_of_6 p.sort k) (sort_of_8 q.sort l) (sort_of_10 r.sort m) inner open)
+      (reads_assignment p q r ds s (sort_of_6 p.sort k) (sort_of_8 q.sort l) (sort_of_10 r.sort m) inner ready)
 
   skip_stands : (es : List (Event Piece)) (ps : List Piece) → Along (symbol.Piece 1 ∷ symbol.Piece 10 ∷ []) es ps
       → Stands 3 es ps
-  skip_stands es ps (p, fs, qs, k, e, f, (q, gs, rs, l, e2, f2, (e3, f3))) s open =
+  skip_stands es ps (p, fs, qs, k, e, f, (q, gs, rs, l, e2, f2, (e3, f3))) s ready =
       subst (λ (x : List (Event Piece)). Goes s (after_all text s x) × IsSome (after_all text s x).draft.body)
       (sym (e ∙ ap (λ (x : List (Event Piece)). Read p ∷ x) (e2 ∙ ap (λ (x : List (Event Piece)). Read q ∷ x) e3)))
-      (reads_skip p q s (sort_of_1 p.sort k) (sort_of_10 q.sort l) open)
+      (reads_skip p q s (sort_of_1 p.sort k) (sort_of_10 q.sort l) ready)
 
   loop_stands : (es : List (Event Piece)) (ps : List Piece)
       → Along (symbol.Piece 2 ∷ symbol.Piece 12 ∷ symbol.Made 7 ∷ symbol.Piece 13 ∷ symbol.Made 6 ∷ []) es ps → Stands 3 es ps
   loop_stands es ps (p, fs, qs, k, e, f, (q, gs, rs, l, e2, f2, (ds, hs, os, us, inner, e3, f3,
-      (r, js, vs, m, e4, f4, (cs, bs, ws, xs, closes, e5, f5, (e6, f6)))))) s open =
+      (r, js, vs, m, e4, f4, (cs, bs, ws, xs, closes, e5, f5, (e6, f6)))))) s ready =
       subst (λ (x : List (Event Piece)). Goes s (after_all text s x) × IsSome (after_all text s x).draft.body) (sym whole)
-      (go (reads_test openers.Loop p (Read q ∷ (ds ++ Read r ∷ [])) cs s (rw (sort_of_2 p.sort k, open.phase) refl)
-      (rw (sort_of_2 p.sort k, open.phase) refl) tests closes (λ d. InLoop d.test d.body) (λ d. refl) (λ d. refl)))
+      (go (reads_test openers.Loop p (Read q ∷ (ds ++ Read r ∷ [])) cs s (rw (sort_of_2 p.sort k, ready.phase) refl)
+      (rw (sort_of_2 p.sort k, ready.phase) refl) tests closes (λ d. InLoop d.test d.body) (λ d. refl) (λ d. refl)))
     where
       tests : AllInner (Read q ∷ (ds ++ Read r ∷ []))
       tests = (ap is_inner l, all_inner-append ds (Read r ∷ []) inner (ap is_inner m, tt))
@@ -782,28 +782,28 @@ module _ (text : List ℕ) where
       → Along (symbol.Piece 3 ∷ symbol.Piece 12 ∷ symbol.Made 7 ∷ symbol.Piece 13 ∷ symbol.Made 6 ∷ symbol.Made 5 ∷ []) es ps
       → Stands 3 es ps
   branch_stands es ps (p, fs, qs, k, e, f, (q, gs, rs, l, e2, f2, (ds, hs, os, us, inner, e3, f3,
-      (r, js, vs, m, e4, f4, (cs, bs, ws, xs, closes, e5, f5, (as, zs, ys, ts, other, e6, f6, (e7, f7))))))) s open =
+      (r, js, vs, m, e4, f4, (cs, bs, ws, xs, closes, e5, f5, (is, zs, ys, ts, other, e6, f6, (e7, f7))))))) s ready =
       subst (λ (t : State). Goes s t × IsSome t.draft.body) (sym (ap (λ (x : List (Event Piece)). after_all text s x) whole
-      ∙ after_append text s (Read p ∷ ((Read q ∷ (ds ++ Read r ∷ [])) ++ cs)) as))
-      (go (reads_test openers.First p (Read q ∷ (ds ++ Read r ∷ [])) cs s (rw (sort_of_3 p.sort k, open.phase) refl)
-      (rw (sort_of_3 p.sort k, open.phase) refl) tests closes (λ d. InFirst d.test d.body) (λ d. refl) (λ d. refl)))
+      ∙ after_append text s (Read p ∷ ((Read q ∷ (ds ++ Read r ∷ [])) ++ cs)) is))
+      (go (reads_test openers.First p (Read q ∷ (ds ++ Read r ∷ [])) cs s (rw (sort_of_3 p.sort k, ready.phase) refl)
+      (rw (sort_of_3 p.sort k, ready.phase) refl) tests closes (λ d. InFirst d.test d.body) (λ d. refl) (λ d. refl)))
     where
       tests : AllInner (Read q ∷ (ds ++ Read r ∷ []))
       tests = (ap is_inner l, all_inner-append ds (Read r ∷ []) inner (ap is_inner m, tt))
 
-      whole : es ≡ (Read p ∷ ((Read q ∷ (ds ++ Read r ∷ [])) ++ cs)) ++ as
+      whole : es ≡ (Read p ∷ ((Read q ∷ (ds ++ Read r ∷ [])) ++ cs)) ++ is
       whole = e ∙ ap (λ (x : List (Event Piece)). Read p ∷ x) (e2 ∙ ap (λ (x : List (Event Piece)). Read q ∷ x)
           (e3 ∙ ap (λ (x : List (Event Piece)). ds ++ x) (e4 ∙ ap (λ (x : List (Event Piece)). Read r ∷ x)
-          (e5 ∙ ap (λ (x : List (Event Piece)). cs ++ x) (e6 ∙ ap (λ (x : List (Event Piece)). as ++ x) e7
-          ∙ nothing_more as))) ∙ sym (append_assoc ds (Read r ∷ []) (cs ++ as))
-          ∙ sym (append_assoc (ds ++ Read r ∷ []) cs as)))
+          (e5 ∙ ap (λ (x : List (Event Piece)). cs ++ x) (e6 ∙ ap (λ (x : List (Event Piece)). is ++ x) e7
+          ∙ nothing_more is))) ∙ sym (append_assoc ds (Read r ∷ []) (cs ++ is))
+          ∙ sym (append_assoc (ds ++ Read r ∷ []) cs is)))
 
       first : State
       first = after_all text s (Read p ∷ ((Read q ∷ (ds ++ Read r ∷ [])) ++ cs))
 
       go : ReadsTest openers.First s (Read p ∷ ((Read q ∷ (ds ++ Read r ∷ [])) ++ cs)) (λ d. InFirst d.test d.body)
-          → Goes s (after_all text first as) × IsSome (after_all text first as).draft.body
-      go w = (goes_then s first (after_all text first as) one two, two.grows some)
+          → Goes s (after_all text first is) × IsSome (after_all text first is).draft.body
+      go w = (goes_then s first (after_all text first is) one two, two.grows some)
         where
           some : IsSome first.draft.body
           some = subst IsSome (sym w.body) (some_append s.draft.body _)
@@ -811,7 +811,7 @@ module _ (text : List ℕ) where
           one : Goes s first
           one = record { phase = w.phase; blocks = w.blocks; opener = w.opener; grows = λ h. some }
 
-          two : Goes first (after_all text first as)
+          two : Goes first (after_all text first is)
           two = other first (is_open s first one) some w.draft.test w.statements (joined [])
               (ap last_of w.body ∙ last_append s.draft.body (Branch w.draft.test w.statements (joined [])))
 

@@ -1,6 +1,6 @@
 -- Each piece of a while program has at least one byte, and no more than there are.
 use Rattle.std.proofs.Common.{◌≡◌, ℕ, ◌<◌, ◌≤◌, Bool, true, false, cond, List, [], ◌∷◌, length, length-append, ap, arith}
-use Rattle.std.specs.Prelude.{Option, Some, None}
+use Rattle.std.specs.Prelude.{Option, Some, None, ◌==◌}
 use Rattle.std.specs.Char.{is_ascii_digit}
 use Rattle.text_core.proofs.PrefixLaws.{prefix-rest}
 use Rattle.text_grammar.specs.text_core.Names.{begins_name, continues_name}
@@ -34,15 +34,18 @@ pair_fits second two one b (x ∷ bytes) =
     either_fits (length (b ∷ x ∷ bytes)) (begins_with second (x ∷ bytes)) (lexeme two 2) (lexeme one 1)
     (omega arith, omega arith) (omega arith, omega arith)
 
+one_fits : (sort : Sort) (b : ℕ) (bytes : List ℕ) → Fits (length (b ∷ bytes)) (lexeme sort 1)
+one_fits sort b bytes = (omega arith, omega arith)
+
 sign_fits : (b : ℕ) (bytes : List ℕ) → Fits (length (b ∷ bytes)) (sign_at b bytes)
 sign_fits b bytes =
-    either_fits (length (b ∷ bytes)) _ _ _ (pair_fits 61 sorts.Becomes sorts.Wrong b bytes)
-    (either_fits (length (b ∷ bytes)) _ _ _ (pair_fits 38 sorts.Joint sorts.Wrong b bytes)
-    (either_fits (length (b ∷ bytes)) _ _ _ (pair_fits 92 sorts.Joint sorts.Wrong b bytes)
-    (either_fits (length (b ∷ bytes)) _ _ _ (pair_fits 61 sorts.AtLeast sorts.MoreThan b bytes)
-    (either_fits (length (b ∷ bytes)) _ _ _ (pair_fits 61 sorts.AtMost sorts.LessThan b bytes)
-    (either_fits (length (b ∷ bytes)) _ _ _ (pair_fits 61 sorts.Equal sorts.Equal b bytes)
-    (omega arith, omega arith))))))
+    either_fits (length (b ∷ bytes)) (b == 58) _ _ (pair_fits 61 sorts.Becomes sorts.Wrong b bytes)
+    (either_fits (length (b ∷ bytes)) (b == 38) _ _ (pair_fits 38 sorts.Joint sorts.Wrong b bytes)
+    (either_fits (length (b ∷ bytes)) (b == 47) _ _ (pair_fits 92 sorts.Joint sorts.Wrong b bytes)
+    (either_fits (length (b ∷ bytes)) (b == 62) _ _ (pair_fits 61 sorts.AtLeast sorts.MoreThan b bytes)
+    (either_fits (length (b ∷ bytes)) (b == 60) _ _ (pair_fits 61 sorts.AtMost sorts.LessThan b bytes)
+    (either_fits (length (b ∷ bytes)) (b == 61) _ _ (pair_fits 61 sorts.Equal sorts.Equal b bytes)
+    (one_fits (single_at b) b bytes))))))
 
 pub sort_fits : (b : ℕ) (bytes : List ℕ) → Fits (length (b ∷ bytes)) (sort_at b bytes)
 sort_fits b bytes =

@@ -1,11 +1,11 @@
 //! The faults of tokens that are reported at their first byte, and of statements with too many rules.
 
-ghost use Rattle.std.specs.Prelude.{◌≡◌, List, ℕ};
+ghost use Rattle.std.specs.Prelude.{◌≡◌, List, ℕ, Some};
 ghost use Rattle.text_grammar.specs.text_core.Choices.{when as when_at};
 ghost use Rattle.text_grammar.specs.Following.{first_of_two};
 ghost use Rattle.text_grammar.specs.Marks.{fault_of, refusal_of};
 ghost use Rattle.text_grammar.specs.Texts.{reader};
-ghost use Rattle.text_grammar.specs.text_core.Reading.{is_before as is_before_in};
+ghost use Rattle.text_grammar.specs.text_core.Reading.{first_of as first_at};
 ghost use Rattle.while_text.specs.Faults as faults;
 ghost use Rattle.while_text.specs.Reading.{while_text};
 ghost use Rattle.while_text.specs.Views.{course_of, draft_of};
@@ -179,11 +179,14 @@ pub fn fault_at(kind: Option<Kind>, at: u64) -> Option<Fault<Kind>>
     }
 }
 
-// Whether a fault is reported rather than another.
-fn is_before(one: Fault<Kind>, other: Fault<Kind>) -> bool
-    ensures { (text : List ℕ) → result ≡ is_before_in (reader (while_text text)) (refusal_of one) (refusal_of other) }
+// The first of two faults.
+fn first_of(best: Fault<Kind>, other: Fault<Kind>) -> Fault<Kind>
+    ensures { (text : List ℕ) → refusal_of result
+        ≡ first_at (reader (while_text text)) (Some (refusal_of best)) (refusal_of other) }
 {
-    one.at < other.at || one.at == other.at && number_of(one.kind) < number_of(other.kind)
+    let nearer = other.at < best.at;
+    let lesser = other.at == best.at && number_of(other.kind) < number_of(best.kind);
+    if nearer || lesser { other } else { best }
 }
 
 /// The first of two faults, where there are both.
@@ -194,7 +197,7 @@ pub fn first_fault(
     ensures { (text : List ℕ) → fault_of result ≡ first_of_two (while_text text) (fault_of best) (fault_of other) }
 {
     match (best, other) {
-        (Some(best), Some(other)) => Some(if is_before(other, best) { other } else { best }),
+        (Some(best), Some(other)) => Some(first_of(best, other)),
         (Some(best), None) => Some(best),
         (None, other) => other,
     }

@@ -215,12 +215,17 @@ impl Lexer for WhileLexer {
 
     ghost lexer_of = { λ lexer. plain_lexer (lexing.lexeme_at lexer.len) };
 
-    fn lexeme(&self, mode: OneMode, bytes: &[u8], first: u8, others: &[u8]) -> Lexeme<Piece> {
+    fn lexeme(&self, mode: OneMode, bytes: &[u8], first: u8, others: &[u8]) -> Lexeme<Piece>
+        requires { bytes.now ≡ first ∷ others.now }
+        ensures { lexeme_of result ≡ lexing.lexeme_at self.now.len first others.now }
+    {
         let _mode = mode;
         self.pieced(bytes, sort_at(bytes, first, others))
     }
 
-    fn behind(&self, mode: OneMode, piece: Option<Piece>) -> OneMode {
+    fn behind(&self, mode: OneMode, piece: Option<Piece>) -> OneMode
+        ensures { result ≡ (plain_lexer (lexing.lexeme_at self.now.len)).mode_behind mode piece }
+    {
         let _piece = piece;
         mode
     }

@@ -23,8 +23,8 @@ push_moves-loop-stmt-preserved t c =
     let one = c.statement_size_of.ensures in
     let sized = size_before (stmt_of item) (statements_of rest) in
     let total = ap size more in
-    let room = c.loop-stmt.invariant.1.0 in
-    let count = c.loop-stmt.invariant.1.1 in
+    let room = c.loop-stmt.invariant.1 in
+    let count = c.loop-stmt.invariant.2 in
     let short = length-drop (i + 1) body in
     let next = c.next_point-next.ensures
     ∙ next_is (here + c.statement_size_of.result) after (c.loop-stmt.left - 1) rest (omega (arith, count, low, short))
