@@ -120,7 +120,7 @@ fits_blocks_last n (b ∷ d ∷ blocks) block (a, h) e =
 -- one atom more
 pub negations_append : (test : List Atom) (atom : Atom)
     → length (negations (test ++ atom ∷ [])) ≡ length (negations test) + length (negations_of atom)
-negations_append [] atom = length-append (negations_of atom) []
+negations_append [] atom = let e = length-append (negations_of atom) [] in omega (arith, e)
 negations_append (a ∷ test) atom =
     let e = length-append (negations_of a) (negations (test ++ atom ∷ [])) in
     let f = length-append (negations_of a) (negations test) in

@@ -15,6 +15,14 @@ before_append [] x = refl
 before_append (y ∷ []) x = refl
 before_append (y ∷ z ∷ xs) x = ap (λ ys. y ∷ ys) (before_append (z ∷ xs) x)
 
+pub last_back : {X : Type 0} (xs : List X) (x : X) → last_of xs ≡ Some x → before_last xs ++ x ∷ [] ≡ xs
+last_back [] x e = cc
+last_back (y ∷ []) x e = ap (λ z. z ∷ []) (same e)
+  where
+    same : Some y ≡ Some x → x ≡ y
+    same d = cc
+last_back (y ∷ z ∷ xs) x e = ap (λ ys. y ∷ ys) (last_back (z ∷ xs) x e)
+
 -- the front after a bracket that closes
 pub closes_is : (f g : Front) → Closes f g → g ≡ closed_by (last_of f.outer) f
 closes_is f g h =

@@ -33,6 +33,7 @@ use Rattle.while_text.proofs.DraftRules.{FitsOne, rules_of_one, FitsBlock, rules
 use Rattle.while_text.proofs.DraftRules.{fits_last, rules_last, blocks_append, fits_blocks_append, blocks_last}
 use Rattle.while_text.proofs.DraftRules.{fits_blocks_last, negations_append}
 use Rattle.while_text.proofs.ReadableDrafts.{pending, VariableBelow, HasRoom, IsSecond, Fitting, test_append, valid_forms}
+use Rattle.while_text.proofs.Fronts.{last_back}
 use Rattle.while_text.proofs.ReadableDrafts.{negations_counted, kind_none}
 
 module _ (names : List Name) (n : ℕ) (text : List ℕ) (p : Piece) (c : Course) (d : Draft) (f : Fitting names n c d) where
@@ -466,6 +467,23 @@ module _ (names : List Name) (n : ℕ) (text : List ℕ) (p : Piece) (c : Course
     few = f.few;
   }
 
+  still : d.opener ≡ openers.Second → (ss : List Statement) → ss ≡ d.body
+      → Fitting names n (record c { phase = phases.Statements }) (record d { body = ss })
+  still e ss same = record {
+    names_are = f.names_are;
+    front = f.front;
+    value = f.value;
+    left = f.left;
+    test = f.test;
+    variable = tt;
+    room = tt;
+    opener = e;
+    blocks = f.blocks;
+    body = subst (λ (ss : List Statement). Fits n (joined ss)) (sym same) f.body;
+    count = (let k = f.count in let s = ap (λ (ss : List Statement). rules_of (joined ss)) same in omega (arith, k, s));
+    few = f.few;
+  }
+
   -- a first block is that of a test
   in_test : (phase : Phase) (opener : Opener) → IsSecond phase opener → ¬ (opener ≡ openers.Second)
       → pending phase d.test ≡ suc (length (negations d.test))
@@ -477,8 +495,9 @@ module _ (names : List Name) (n : ℕ) (text : List ℕ) (p : Piece) (c : Course
   reopened : d.opener ≡ openers.Second → (o : Option Statement) → last_of d.body ≡ o
       → Fitting names n (record c { phase = phases.Statements }) (second_of o d)
   reopened e None l = unopened e
-  reopened e (Some (Plain action)) l = unopened e
-  reopened e (Some (Loop test block)) l = unopened e
+  reopened e (Some (Plain action)) l = still e (before_last d.body ++ Plain action ∷ []) (last_back d.body (Plain action) l)
+  reopened e (Some (Loop test block)) l =
+      still e (before_last d.body ++ Loop test block ∷ []) (last_back d.body (Loop test block) l)
   reopened e (Some (Branch test block other)) l =
       let b = fits_last n d.body (Branch test block other) f.body l in
       let r = rules_last d.body (Branch test block other) l in

@@ -1,4 +1,5 @@
 pub mod Fronts
+pub mod Pops
 pub mod LexingLaws
 pub mod ReadableGrammar
 pub mod Lawful

@@ -1,7 +1,8 @@
 -- The names among the tokens of a text are names.
-use Rattle.std.proofs.Common.{◌≡◌, ◌≢◌, ℕ, zero, suc, ◌+◌, ◌-◌, Bool, true, false, cond, List, [], ◌∷◌, length, take, drop}
+use Rattle.std.proofs.Common.{◌≡◌, ℕ, zero, suc, ◌+◌, ◌-◌, Bool, true, false, cond, List, [], ◌∷◌, length, take, drop}
 use Rattle.std.proofs.Common.{Option, Some, None, refl, ap, sym, subst, ◌∙◌, arith}
-use Rattle.std.specs.Prelude.{⊤, ◌==◌}
+use Rattle.std.specs.Prelude.{◌==◌, nat_lt}
+use Rattle.std.proofs.lemmas.Bool.{true≢false}
 use Rattle.std.specs.Char.{is_ascii_digit}
 use Rattle.text_core.proofs.PrefixLaws.{take-prefix, all_prefix}
 use Rattle.text_grammar.specs.text_core.Names.{begins_name, continues_name, IsName}
@@ -14,6 +15,7 @@ use Rattle.while_text.specs.declared.piece.Piece.{Piece}
 use Rattle.while_text.specs.declared.piece.Sort.{Sort}
 use Rattle.while_text.specs.declared.piece.Sort.TheVariants as sorts
 use Rattle.while_text.specs.Drafts.{bytes_of}
+use Rattle.while_text.specs.Faults.{is_name}
 use Rattle.while_text.specs.Lexing.{lexeme, lexeme_at, sort_at, pair_or, single_at, sign_at, name_at, number_at, piece_in, tokens}
 use Rattle.while_text.proofs.SilentReading.{AllPieces}
 
@@ -21,36 +23,38 @@ use Rattle.while_text.proofs.SilentReading.{AllPieces}
 abbrev pub IsPieceOf : List ℕ → Piece → Type 0
 IsPieceOf text p = p.sort ≡ sorts.Name → IsName (bytes_of text p)
 
+-- whether what bytes begin with is a name
+abbrev names_one : Option Sort → Bool
+names_one None = false
+names_one (Some sort) = is_name sort
+
 -- a choice between two that are no name is none
-no_name : (v : Bool) (a b : Sort) → a ≢ sorts.Name → b ≢ sorts.Name → cond v a b ≢ sorts.Name
+no_name : (v : Bool) (a b : Sort) → is_name a ≡ false → is_name b ≡ false → is_name (cond v a b) ≡ false
 no_name true a b h k = h
 no_name false a b h k = k
 
-no_lexeme : (v : Bool) (a b : Lexeme (Option Sort)) → a.piece ≢ Some sorts.Name → b.piece ≢ Some sorts.Name
-    → (cond v a b).piece ≢ Some sorts.Name
+no_lexeme : (v : Bool) (a b : Lexeme (Option Sort)) → names_one a.piece ≡ false → names_one b.piece ≡ false
+    → names_one (cond v a b).piece ≡ false
 no_lexeme true a b h k = h
 no_lexeme false a b h k = k
 
 -- what begins with a sign is no name
-single_none : (b : ℕ) → single_at b ≢ sorts.Name
+single_none : (b : ℕ) → is_name (single_at b) ≡ false
 single_none b =
-    no_name (b == 63) _ _ (λ e. cc) (no_name (b == 59) _ _ (λ e. cc) (no_name (b == 44) _ _ (λ e. cc)
-    (no_name (b == 40) _ _ (λ e. cc) (no_name (b == 41) _ _ (λ e. cc) (no_name (b == 123) _ _ (λ e. cc)
-    (no_name (b == 125) _ _ (λ e. cc) (no_name (b == 43) _ _ (λ e. cc) (no_name (b == 45) _ _ (λ e. cc)
-    (no_name (b == 42) _ _ (λ e. cc) (no_name (b == 94) _ _ (λ e. cc) (no_name _ _ _ (λ e. cc) (λ e. cc))))))))))))
+    no_name (b == 63) _ _ refl (no_name (b == 59) _ _ refl (no_name (b == 44) _ _ refl (no_name (b == 40) _ _ refl (no_name (b == 41) _ _ refl (no_name (b == 123) _ _ refl (no_name (b == 125) _ _ refl (no_name (b == 43) _ _ refl (no_name (b == 45) _ _ refl (no_name (b == 42) _ _ refl (no_name (b == 94) _ _ refl (no_name (nat_lt 127 b) _ _ refl refl)))))))))))
 
-some_same : (a b : Sort) → Some a ≡ Some b → a ≡ b
-some_same a b e = cc
+pair_none : (second : ℕ) (two one : Sort) (bytes : List ℕ) → is_name two ≡ false → is_name one ≡ false
+    → names_one (pair_or second two one bytes).piece ≡ false
+pair_none second two one bytes h k = no_lexeme (begins_with second bytes) (lexeme two 2) (lexeme one 1) h k
 
-sign_none : (b : ℕ) (bytes : List ℕ) → (sign_at b bytes).piece ≢ Some sorts.Name
+sign_none : (b : ℕ) (bytes : List ℕ) → names_one (sign_at b bytes).piece ≡ false
 sign_none b bytes =
-    no_lexeme (b == 58) _ _ (no_lexeme (begins_with 61 bytes) _ _ (λ e. cc) (λ e. cc))
-    (no_lexeme (b == 38) _ _ (no_lexeme (begins_with 38 bytes) _ _ (λ e. cc) (λ e. cc))
-    (no_lexeme (b == 47) _ _ (no_lexeme (begins_with 92 bytes) _ _ (λ e. cc) (λ e. cc))
-    (no_lexeme (b == 62) _ _ (no_lexeme (begins_with 61 bytes) _ _ (λ e. cc) (λ e. cc))
-    (no_lexeme (b == 60) _ _ (no_lexeme (begins_with 61 bytes) _ _ (λ e. cc) (λ e. cc))
-    (no_lexeme (b == 61) _ _ (no_lexeme (begins_with 61 bytes) _ _ (λ e. cc) (λ e. cc))
-    (λ e. single_none b (some_same (single_at b) sorts.Name e)))))))
+    no_lexeme (b == 58) _ _ (pair_none 61 sorts.Becomes sorts.Wrong bytes refl refl)
+    (no_lexeme (b == 38) _ _ (pair_none 38 sorts.Joint sorts.Wrong bytes refl refl)
+    (no_lexeme (b == 47) _ _ (pair_none 92 sorts.Joint sorts.Wrong bytes refl refl)
+    (no_lexeme (b == 62) _ _ (pair_none 61 sorts.AtLeast sorts.MoreThan bytes refl refl)
+    (no_lexeme (b == 60) _ _ (pair_none 61 sorts.AtMost sorts.LessThan bytes refl refl)
+    (no_lexeme (b == 61) _ _ (pair_none 61 sorts.Equal sorts.Equal bytes refl refl) (single_none b))))))
 
 -- a name at the beginning of bytes
 name_named : (b : ℕ) (bytes : List ℕ) → begins_name b ≡ true → IsName (take (name_at b bytes).len (b ∷ bytes))
@@ -58,19 +62,22 @@ name_named b bytes h = subst IsName (sym (ap (λ (xs : List ℕ). b ∷ xs) (tak
     (h, all_prefix continues_name bytes)
 
 -- so are the bytes of what is a name by its sort
+abbrev white : Lexeme (Option Sort)
+white = record { piece = None; len = 1 }
+
 sort_named : (b : ℕ) (bytes : List ℕ) → (sort_at b bytes).piece ≡ Some sorts.Name
     → IsName (take (sort_at b bytes).len (b ∷ bytes))
 sort_named b bytes = go (is_white_space b) (begins_name b) (is_ascii_digit b) refl
   where
-    go : (u v w : Bool) → begins_name b ≡ v
-        → (cond u (record { piece = None; len = 1 }) (cond v (name_at b bytes) (cond w (number_at b bytes) (sign_at b bytes)))).piece
-        ≡ Some sorts.Name
-        → IsName (take (cond u (record { piece = None {A = Sort}; len = 1 })
-        (cond v (name_at b bytes) (cond w (number_at b bytes) (sign_at b bytes)))).len (b ∷ bytes))
-    go true v w k e = cc
+    chosen : Bool → Bool → Bool → Lexeme (Option Sort)
+    chosen u v w = cond u white (cond v (name_at b bytes) (cond w (number_at b bytes) (sign_at b bytes)))
+
+    go : (u v w : Bool) → begins_name b ≡ v → (chosen u v w).piece ≡ Some sorts.Name
+        → IsName (take (chosen u v w).len (b ∷ bytes))
+    go true v w k e = absurd (true≢false (sym (ap names_one e)))
     go false true w k e = name_named b bytes k
-    go false false true k e = cc
-    go false false false k e = absurd (sign_none b bytes e)
+    go false false true k e = absurd (true≢false (sym (ap names_one e)))
+    go false false false k e = absurd (true≢false (sym (ap names_one e) ∙ sign_none b bytes))
 
 -- what is dropped one by one
 drop_next : (k : ℕ) (text rest : List ℕ) (b : ℕ) → b ∷ rest ≡ drop k text → rest ≡ drop (k + 1) text
@@ -80,7 +87,8 @@ drop_next zero (x ∷ text) rest b e = tails e
     tails : b ∷ rest ≡ x ∷ text → rest ≡ text
     tails d = cc
 drop_next (suc k) [] rest b e = cc
-drop_next (suc k) (x ∷ text) rest b e = drop_next k text rest b e
+drop_next (suc k) (x ∷ text) rest b e =
+    drop_next k text rest b e ∙ ap (λ (j : ℕ). drop j (x ∷ text)) (let q : suc (k + 1) ≡ suc k + 1 = omega arith in q)
 
 module _ (text : List ℕ) where
   -- a piece at its position

@@ -36,7 +36,7 @@ or_none : (a b : Option Kind) → or_kind a b ≡ None → (a ≡ None) × (b �
 or_none None b h = (refl, h)
 or_none (Some k) b h = cc
 
-when_none : (v : Bool) (k : Kind) → when v k ≡ None → v ≡ false
+pub when_none : (v : Bool) (k : Kind) → when v k ≡ None → v ≡ false
 when_none true k h = cc
 when_none false k h = refl
 
@@ -82,7 +82,7 @@ pub number_below : (name : Name) (names : List Name) → is_among name names ≡
 number_below name names h = let low = among_below name names h in omega (arith, low)
 
 -- names with one more that isn't among them
-absent_append : (n : Name) (names : List Name) (x : Name) → is_among n names ≡ false → is_same n x ≡ false
+pub absent_append : (n : Name) (names : List Name) (x : Name) → is_among n names ≡ false → is_same n x ≡ false
     → is_among n (names ++ x ∷ []) ≡ false
 absent_append n [] x a s = rw s refl
 absent_append n (y ∷ names) x a s = go (is_same n y) a (λ h. absent_append n names x h s)
@@ -141,7 +141,7 @@ valid_forms n l r relation a b h =
     go LessThan k = (valid_atom n l r AtLeast a b (lesser_none _ _ k).0, tt)
     go EqualTo k =
         let e = lesser_none (fault_of_atom (Compare l LessThan r)) _ k in
-        (valid_atom n l r LessThan a b e.0, valid_atom n l r MoreThan a b (lesser_none _ _ e.1).0, tt)
+        (valid_atom n l r LessThan a b e.0, (valid_atom n l r MoreThan a b (lesser_none _ _ e.1).0, tt))
 
 -- the negations of a comparison are as many as it was counted
 pub negations_counted : (l r : Term) (relation : Relation)
@@ -221,6 +221,6 @@ pub record Fitting (names : List Name) (n : ℕ) (c : Course) (d : Draft) : Type
 
 -- the inputs are names, all different, and not too many
 pub record Named (names : List Name) : Type 0 where
-  pub names : AllByRecursion IsName names
+  pub valid : AllByRecursion IsName names
   pub distinct : AreDistinct names
   pub few : length names ≤ place_limit

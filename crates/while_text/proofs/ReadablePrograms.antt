@@ -57,6 +57,10 @@ fails : (a b : Bool) → a ≡ true → (a && b) ≡ false → b ≡ false
 fails true b e h = h
 fails false b e h = cc
 
+both_hold : (a b : Bool) → a ≡ true → b ≡ true → (a && b) ≡ true
+both_hold true b e f = f
+both_hold false b e f = cc
+
 -- while the inputs are read nothing else has been made
 pub record IsListed (names : List Name) (s : State) : Type 0 where
   pub phase : s.course.phase ≡ phases.Inputs
@@ -73,7 +77,7 @@ pub record Good (s : State) : Type 0 where
 pub begun_good : Good begun
 begun_good = record {
   names = [];
-  named = record { names = tt; distinct = tt; few = omega arith };
+  named = record { valid = tt; distinct = tt; few = omega arith };
   made = inl (record { phase = refl; rules = refl; draft = refl });
 }
 
@@ -99,7 +103,7 @@ begins_fitting names c e = record {
 names_append : (names : List Name) (x : Name) → Named names → IsName x → is_among x names ≡ false
     → length names < place_limit → Named (names ++ x ∷ [])
 names_append names x h valid absent low = record {
-  names = all_append names h.names;
+  valid = all_append names h.valid;
   distinct = go names h.distinct absent;
   few = (let e = length-append names (x ∷ []) in omega (arith, e, low));
 }
@@ -166,8 +170,8 @@ known : (text : List ℕ) (p : Piece) (s : State) → is_inputs s.course.phase �
     → number_of s.draft.names (bytes_of text p) < length s.draft.names
 known text p s i h e =
     number_below (bytes_of text p) s.draft.names
-    (go (is_among (bytes_of text p) s.draft.names) (fails (not (is_inputs s.course.phase)) _ (rw i refl)
-    (fails (is_name p.sort) _ e h.unknown)))
+    (go (is_among (bytes_of text p) s.draft.names)
+    (fails (is_name p.sort && not (is_inputs s.course.phase)) _ (both_hold _ _ e (ap not i)) h.unknown))
   where
     go : (v : Bool) → not v ≡ false → v ≡ true
     go true k = refl
@@ -309,12 +313,12 @@ kept_good text p s valid g h = go g.made (opens_block p.sort) refl
         absent : is_name p.sort ≡ true → is_among (bytes_of text p) g.names ≡ false
         absent e =
             subst (λ (ns : List Name). is_among (bytes_of text p) ns ≡ false) (ap (λ (d : Draft). d.names) l.draft)
-            (fails (is_inputs s.course.phase) _ (ap is_inputs l.phase) (fails (is_name p.sort) _ e cleared.repeated))
+            (fails (is_name p.sort && is_inputs s.course.phase) _ (both_hold _ _ e (ap is_inputs l.phase)) cleared.repeated)
 
         low : is_name p.sort ≡ true → length g.names < place_limit
         low e = from (subst (λ (ns : List Name). nat_le place_limit (length ns) ≡ false)
             (ap (λ (d : Draft). d.names) l.draft)
-            (fails (is_name p.sort) _ e (fails (is_inputs s.course.phase) _ (ap is_inputs l.phase) cleared.inputs)))
+            (fails (is_inputs s.course.phase && is_name p.sort) _ (both_hold _ _ (ap is_inputs l.phase) e) cleared.inputs))
           where
             from : nat_le place_limit (length g.names) ≡ false → length g.names < place_limit
             from k = grind (arith, nat_tests, k)
@@ -365,7 +369,7 @@ good_readable s g some = go g.made
         let m = f.few in
         subst (λ (ns : List Name). IsReadable ns (joined s.draft.body)) (sym f.names_are) (record {
           nonempty = nonempty s.draft.body some;
-          names = g.named.names;
+          names = g.named.valid;
           distinct = g.named.distinct;
           few_inputs = g.named.few;
           few_rules = omega (arith, k, m);

@@ -20,11 +20,12 @@ use Rattle.while_text.specs.declared.phase.Standing.TheVariants.{Sound}
 use Rattle.while_text.specs.declared.piece.Sort.{Sort}
 use Rattle.while_text.specs.declared.piece.Sort.TheVariants as sorts
 use Rattle.while_text.specs.declared.piece.Piece.{Piece}
-use Rattle.while_text.specs.Courses.{Course, is_in_test, is_last, opens_block, course_after, after_phase}
+use Rattle.while_text.specs.Courses.{Course, is_relation, is_in_test, is_last, opens_block, course_after, after_phase}
 use Rattle.while_text.specs.Courses.{after_input, after_left, after_right, after_test, after_value}
 use Rattle.while_text.specs.Drafts.{Block, InLoop, InFirst, InSecond, Draft, last_of, before_last, with_block, block_opens}
 use Rattle.while_text.specs.Drafts.{before_of, statement_of, draft_after, made_in, made_of_left, made_of_right, made_of_test}
-use Rattle.while_text.specs.Drafts.{made_of_value, made_of_input, assignment, begins_test, block_closes, second_of}
+use Rattle.while_text.specs.Drafts.{made_of_value, made_of_left_side, made_of_input, assignment, begins_test, block_closes, second_of}
+use Rattle.while_text.specs.Drafts.{no_front, term_of, with_token}
 use Rattle.while_text.specs.Grammar.{while_grammar, class_of_sort}
 use Rattle.while_text.specs.Reading.{State}
 use Rattle.while_text.proofs.Fronts.{last_append, before_append}
@@ -98,10 +99,15 @@ left_course sorts.Caret c t = t
 left_course sorts.Strange c t = t
 left_course sorts.Wrong c t = t
 
+left_side_shape : (text : List ℕ) (p : Piece) (d : Draft) → SameShape (made_of_left_side text p d) d
+left_side_shape text p d =
+    either_shape (is_relation p.sort) (record d { left = term_of d.front; front = no_front })
+    (record d { front = with_token text p d }) d (record { blocks = refl; body = refl; opener = refl })
+    (record { blocks = refl; body = refl; opener = refl })
+
 left_shape : (sort : Sort) (text : List ℕ) (p : Piece) (d : Draft) → SameShape (made_of_left text p sort d) d
 left_shape sorts.Truth text p d = record { blocks = refl; body = refl; opener = refl }
-left_shape sort text p d = either_shape _ _ _ d (record { blocks = refl; body = refl; opener = refl })
-    (record { blocks = refl; body = refl; opener = refl })
+left_shape sort text p d = left_side_shape text p d
 
 right_course : (p : Piece) (c : Course) → is_in_test c.phase ≡ true → is_in_test (after_right p c).phase ≡ true
 right_course p c t = either_test (is_last p c) _ _ refl t
@@ -233,6 +239,19 @@ value_shape sorts.Semicolon text p c d h = cc
 value_shape sort text p c d h = either_shape (is_last p c) _ _ d (record { blocks = refl; body = refl; opener = refl })
     (record { blocks = refl; body = refl; opener = refl })
 
+-- a token that opens no block, in some part
+outside : (p : Piece) (c : Course) (phase : Phase) → opens_block p.sort ≡ false → c.phase ≡ phase
+    → (after_phase phase p c).phase ≡ phase → (course_after p c).phase ≡ phase
+outside p c phase o e h =
+    ap (λ (w : Bool). (cond w (record c { phase = phases.Statements }) (after_phase c.phase p c)).phase) o
+    ∙ ap (λ (x : Phase). (after_phase x p c).phase) e ∙ h
+
+outside_shape : (text : List ℕ) (p : Piece) (c : Course) (d : Draft) (phase : Phase) → opens_block p.sort ≡ false
+    → c.phase ≡ phase → SameShape (made_in phase text p c d) d → SameShape (draft_after text p c d) d
+outside_shape text p c d phase o e h =
+    subst (λ (w : Bool). SameShape (cond w (block_opens d.opener d) (made_in c.phase text p c d)) d) (sym o)
+    (subst (λ (x : Phase). SameShape (made_in x text p c d) d) (sym e) h)
+
 pub record Valued (s t : State) : Type 0 where
   pub phase : t.course.phase ≡ phases.Value
   pub shape : SameShape t.draft s.draft
@@ -244,10 +263,11 @@ valued text (Did m ∷ es) s h v = valued text es s h v
 valued text (Read p ∷ es) s (a, h) v = go (valued text es (sound_after text p s) h phase)
   where
     phase : (course_after p s.course).phase ≡ phases.Value
-    phase = rw (not_block p.sort a, v) (value_course p.sort s.course a v)
+    phase = outside p s.course phases.Value (not_block p.sort a) v (value_course p.sort s.course a v)
 
     shape : SameShape (draft_after text p s.course s.draft) s.draft
-    shape = rw (not_block p.sort a, v) (value_shape p.sort text p s.course s.draft a)
+    shape = outside_shape text p s.course s.draft phases.Value (not_block p.sort a) v
+        (value_shape p.sort text p s.course s.draft a)
 
     go : Valued (sound_after text p s) (after_all text (sound_after text p s) es)
         → Valued s (after_all text (sound_after text p s) es)
@@ -484,26 +504,26 @@ module _ (text : List ℕ) where
       open_blocks : two.draft.blocks ≡ s.draft.blocks ++ block ∷ []
       open_blocks = went.blocks ∙ ap (λ (d : Draft). d.blocks) draft
 
-      closed : (sound_after text q two).draft ≡ block_closes (Some block) two.draft
-      closed =
+      shut : (sound_after text q two).draft ≡ block_closes (Some block) two.draft
+      shut =
           (let a : (sound_after text q two).draft ≡ block_closes (last_of two.draft.blocks) two.draft =
           rw (f, went.phase) refl in a)
           ∙ ap (λ (o : Option Block). block_closes o two.draft) (ap last_of open_blocks ∙ last_append s.draft.blocks block)
 
       blocks : (sound_after text q two).draft.blocks ≡ s.draft.blocks
-      blocks = ap (λ (d : Draft). d.blocks) closed ∙ ap before_last open_blocks ∙ before_append s.draft.blocks block
+      blocks = ap (λ (d : Draft). d.blocks) shut ∙ ap before_last open_blocks ∙ before_append s.draft.blocks block
 
       opener : (sound_after text q two).draft.opener ≡ openers.Second
-      opener = ap (λ (d : Draft). d.opener) closed ∙ went.opener
+      opener = ap (λ (d : Draft). d.opener) shut ∙ went.opener
 
       body : (sound_after text q two).draft.body ≡ before_of block ++ statement_of block (joined two.draft.body) ∷ []
-      body = ap (λ (d : Draft). d.body) closed
+      body = ap (λ (d : Draft). d.body) shut
 
   -- a statement with a test is read up to the end of its block, which is the one of a draft
   pub record ReadsTest (opener : Opener) (s : State) (es : List (Event Piece)) (block : Draft → Block) : Type 0 where
     pub phase : (after_all text s es).course.phase ≡ phases.Statements
     pub blocks : (after_all text s es).draft.blocks ≡ s.draft.blocks
-    pub opener : (after_all text s es).draft.opener ≡ openers.Second
+    pub second : (after_all text s es).draft.opener ≡ openers.Second
     pub draft : Draft
     pub statements : Statements
     pub body : (after_all text s es).draft.body ≡ s.draft.body ++ statement_of (block draft) statements ∷ []
@@ -520,7 +540,7 @@ module _ (text : List ℕ) where
     phase = ap (λ (t : State). t.course.phase) parted ∙ w.phase;
     blocks = ap (λ (t : State). t.draft.blocks) parted ∙ w.blocks ∙ tests.shape.blocks
         ∙ ap (λ (d : Draft). d.blocks) draft;
-    opener = ap (λ (t : State). t.draft.opener) parted ∙ w.opener;
+    second = ap (λ (t : State). t.draft.opener) parted ∙ w.opener;
     draft = two.draft;
     statements = w.statements;
     body = ap (λ (t : State). t.draft.body) parted ∙ w.body
@@ -590,12 +610,13 @@ module _ (text : List ℕ) where
   listed : (p : Piece) (s : State) → is_inner (class_of_sort p.sort) ≡ true → IsListing s
       → IsListing (sound_after text p s)
   listed p s a l = record {
-    phase = rw (not_block p.sort a, l.phase) (input_course p.sort s.course a l.phase);
+    phase = outside p s.course phases.Inputs (not_block p.sort a) l.phase (input_course p.sort s.course a l.phase);
     opener = shape.opener ∙ l.opener;
   }
     where
       shape : SameShape (draft_after text p s.course s.draft) s.draft
-      shape = rw (not_block p.sort a, l.phase) (input_shape p.sort p s.draft)
+      shape = outside_shape text p s.course s.draft phases.Inputs (not_block p.sort a) l.phase
+          (input_shape p.sort p s.draft)
 
   -- the `;` after the inputs
   inputs_end : (p : Piece) (s : State) → p.sort ≡ sorts.Semicolon → IsListing s → IsOpen (sound_after text p s)
@@ -773,7 +794,7 @@ module _ (text : List ℕ) where
       go : ReadsTest openers.Loop s (Read p ∷ ((Read q ∷ (ds ++ Read r ∷ [])) ++ cs)) (λ d. InLoop d.test d.body)
           → Goes s (after_all text s (Read p ∷ ((Read q ∷ (ds ++ Read r ∷ [])) ++ cs)))
           × IsSome (after_all text s (Read p ∷ ((Read q ∷ (ds ++ Read r ∷ [])) ++ cs))).draft.body
-      go w = (record { phase = w.phase; blocks = w.blocks; opener = w.opener; grows = λ h. some }, some)
+      go w = (record { phase = w.phase; blocks = w.blocks; opener = w.second; grows = λ h. some }, some)
         where
           some : IsSome (after_all text s (Read p ∷ ((Read q ∷ (ds ++ Read r ∷ [])) ++ cs))).draft.body
           some = subst IsSome (sym w.body) (some_append s.draft.body _)
@@ -809,7 +830,7 @@ module _ (text : List ℕ) where
           some = subst IsSome (sym w.body) (some_append s.draft.body _)
 
           one : Goes s first
-          one = record { phase = w.phase; blocks = w.blocks; opener = w.opener; grows = λ h. some }
+          one = record { phase = w.phase; blocks = w.blocks; opener = w.second; grows = λ h. some }
 
           two : Goes first (after_all text first is)
           two = other first (is_open s first one) some w.draft.test w.statements (joined [])

@@ -134,11 +134,15 @@ with_block block d = record d {
   opener = openers.Second;
 }
 
--- the second block of a branch that was read without it, as the last statement so far
+-- a branch that was the last statement is open again, with its second block; another statement stays the last one
+abbrev pub reopened : Statement → Draft → Draft
+reopened (Branch test block other) d = with_block (InSecond test block d.body) d
+reopened (Plain action) d = with_statement (Plain action) d
+reopened (Loop test block) d = with_statement (Loop test block) d
+
+-- the second block of the branch that is the last statement so far
 abbrev pub second_of : Option Statement → Draft → Draft
-second_of (Some (Branch test block other)) d = with_block (InSecond test block (before_last d.body)) d
-second_of (Some (Plain action)) d = d
-second_of (Some (Loop test block)) d = d
+second_of (Some s) d = reopened s (record d { body = before_last d.body })
 second_of None d = d
 
 -- a block opens: outside of a test it is the second one of a branch
@@ -158,13 +162,14 @@ before_of (InLoop test before) = before
 before_of (InFirst test before) = before
 before_of (InSecond test first before) = before
 
--- the innermost block closes, where one is open; a branch has no second block as yet
+-- a block closes: its statement comes behind those before it; a branch has no second block as yet
+abbrev pub closed : Block → Draft → Draft
+closed block d = record d { body = before_of block ++ statement_of block (joined d.body) ∷ [] }
+
+-- the innermost block closes, where one is open
 abbrev pub block_closes : Option Block → Draft → Draft
 block_closes None d = d
-block_closes (Some block) d = record d {
-  blocks = before_last d.blocks;
-  body = before_of block ++ statement_of block (joined d.body) ∷ [];
-}
+block_closes (Some block) d = closed block (record d { blocks = before_last d.blocks })
 
 -- an assignment ends
 abbrev pub assignment : Draft → Statement

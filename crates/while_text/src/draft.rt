@@ -367,17 +367,27 @@ impl Draft {
     fn open_second(&mut self, alloc: Global) -> Result<(), Memory>
         ensures { OnOk result (draft_of self.new ≡ drafts.block_opens opener.Second (draft_of self.old)) }
     {
-        match self.body.pop() {
-            Some(Stmt::If(test, first, _)) => {
-                let before = replace(&mut self.body, Vec::new(alloc));
-                self.push_block(alloc, Block::InSecond(test, first, before))
-            }
-            Some(other) => {
-                self.body.push(other)?;
-                Ok(())
-            }
-            None => Ok(()),
+        if let Some(last) = self.body.pop() {
+            self.reopen(alloc, last)?;
         }
+        Ok(())
+    }
+
+    // A branch that was the last statement is open again, with its second block; another statement stays the last one.
+    fn reopen(&mut self, alloc: Global, last: Stmt) -> Result<(), Memory>
+        ensures { OnOk result (draft_of self.new ≡ drafts.reopened (stmt_of last) (draft_of self.old)) }
+    {
+        match last {
+            Stmt::If(test, first, _) => {
+                let before = replace(&mut self.body, Vec::new(alloc));
+                self.push_block(alloc, Block::InSecond(test, first, before))?;
+            }
+            Stmt::While(test, block) => self.body.push(Stmt::While(test, block))?,
+            Stmt::Assign(x, e) => self.body.push(Stmt::Assign(x, e))?,
+            Stmt::Any(x) => self.body.push(Stmt::Any(x))?,
+            Stmt::Skip => self.body.push(Stmt::Skip)?,
+        }
+        Ok(())
     }
 
     // A block closes.
@@ -385,21 +395,30 @@ impl Draft {
         ensures { OnOk result (draft_of self.new
             ≡ drafts.block_closes (drafts.last_of (draft_of self.old).blocks) (draft_of self.old)) }
     {
-        match self.blocks.pop() {
-            Some(Block::InLoop(test, before)) => {
+        if let Some(block) = self.blocks.pop() {
+            self.close(alloc, block)?;
+        }
+        Ok(())
+    }
+
+    // The statement of a block that has closed comes behind those before it.
+    fn close(&mut self, alloc: Global, block: Block) -> Result<(), Memory>
+        ensures { OnOk result (draft_of self.new ≡ drafts.closed (block_of block) (draft_of self.old)) }
+    {
+        match block {
+            Block::InLoop(test, before) => {
                 let block = replace(&mut self.body, before);
                 self.body.push(Stmt::While(test, block))?;
             }
-            Some(Block::InFirst(test, before)) => {
+            Block::InFirst(test, before) => {
                 let block = replace(&mut self.body, before);
                 let none = Vec::new(alloc);
                 self.body.push(Stmt::If(test, block, none))?;
             }
-            Some(Block::InSecond(test, first, before)) => {
+            Block::InSecond(test, first, before) => {
                 let block = replace(&mut self.body, before);
                 self.body.push(Stmt::If(test, first, block))?;
             }
-            None => {}
         }
         Ok(())
     }
