@@ -1,8 +1,11 @@
 #!/usr/bin/env python3
 """A plain slow reading of while programs, written from docs/while.md: it lists every fault, and answers the first one.
 
-usage: while_reading.py lines < LINES    answers lines as the program while_tests does, for its calls `read`, `count` and `rules`
+usage: while_reading.py lines < LINES    answers lines as the program while_tests does, for its calls `read`, `count` and
+                                          `rules`
+       while_reading.py random COUNT SEED    so many lines with random programs, three in four of them damaged
 """
+import random
 import re
 import sys
 
@@ -441,8 +444,79 @@ def unfolded(written):
     return text
 
 
+# random texts
+
+class Making:
+    def __init__(self, rng):
+        self.rng, self.names = rng, rng.sample(["A", "B", "C", "h", "x'", "whileA", "p0"], rng.randint(1, 4))
+
+    def name(self):
+        return "Z" if self.rng.random() < 0.01 else self.rng.choice(self.names)
+
+    def sum(self, depth):
+        kind = self.rng.random()
+        if depth == 0 or kind < 0.45:
+            return self.name() if self.rng.random() < 0.6 else str(self.rng.choice([0, 1, 2, 7, 2 ** 62, LARGEST, LARGEST + 1]
+                                                                                  if self.rng.random() < 0.1 else [0, 1, 2, 7]))
+        if kind < 0.55:
+            return f"({self.sum(depth - 1)})"
+        if kind < 0.65:
+            return f"-{self.sum(depth - 1)}"
+        if kind < 0.75:
+            return f"{self.name()}^{self.rng.choice([0, 1, 2, 3, 8, 9])}"
+        return f"{self.sum(depth - 1)} {self.rng.choice('+-*')} {self.sum(depth - 1)}"
+
+    def atom(self):
+        if self.rng.random() < 0.1:
+            return self.rng.choice(["TRUE", "true"])
+        return f"{self.sum(2)} {self.rng.choice([b.decode() for b in RELATIONS])} {self.sum(2)}"
+
+    def test(self):
+        joint = self.rng.choice([" && ", " /\\ ", "&&"])
+        return joint.join(self.atom() for _ in range(self.rng.randint(1, 3)))
+
+    def block(self, depth):
+        return " ".join(self.statement(depth) for _ in range(self.rng.choice([0, 1, 1, 2, 3])))
+
+    def statement(self, depth):
+        kind = self.rng.random()
+        if depth == 0 or kind < 0.5:
+            return self.rng.choice([f"{self.name()} := {self.sum(3)};", f"{self.name()} := ?;", "skip;"])
+        if kind < 0.75:
+            return f"while ({self.test()}) {{ {self.block(depth - 1)} }}"
+        other = f" else {{ {self.block(depth - 1)} }}" if self.rng.random() < 0.5 else ""
+        return f"if ({self.test()}) {{ {self.block(depth - 1)} }}{other}"
+
+    def text(self):
+        body = " ".join(self.statement(3) for _ in range(self.rng.randint(1, 4)))
+        return f"input {', '.join(self.names)}; {body}"
+
+    def damaged(self, text):
+        for _ in range(self.rng.randint(1, 2)):
+            at = self.rng.randrange(len(text) + 1)
+            piece = self.rng.choice(list(" ;,(){}?<>=+-*^&/|!:.'$_09azA") + ["`ff", ":=", "&&", "else", "skip", "TRUE", "input"])
+            upto = at + self.rng.choice([0, 0, 1, 1, 2, 5])
+            if "`" in text[max(0, at - 3):upto + 3]:
+                continue
+            text = text[:at] + (piece if self.rng.random() < 0.6 else "") + text[upto:]
+        return text
+
+
+def random_lines(count, seed):
+    rng = random.Random(seed)
+    for _ in range(count):
+        making = Making(rng)
+        text = making.text()
+        if rng.random() < 0.75:
+            text = making.damaged(text)
+        print(rng.choice(["read", "rules"]), text)
+
+
 def main():
     sys.setrecursionlimit(100000)
+    if sys.argv[1:2] == ["random"]:
+        random_lines(int(sys.argv[2]), int(sys.argv[3]))
+        return
     for line in sys.stdin.read().splitlines():
         call, blank, rest = line.partition(" ")
         if call not in ("read", "count", "rules") or not blank:

@@ -118,7 +118,8 @@ branch_length at test one other more =
     omega (
       arith,
       length-append (moves_by at test one other) more,
-      length-map (negations test) (λ (atom : Atom). passing at (atom ∷ []) other))
+      length-map (negations test) (λ (atom : Atom). passing at (atom ∷ []) other),
+    )
 
 -- there is a rule for each move
 pub length_moves : (here : Statements) (at after : ℕ) → length (moves at after here) ≡ rules_of here

@@ -8,11 +8,11 @@ ghost use Rattle.while_tree.specs.Views.{stmt_of, statements_of};
 ghost use Rattle.while_front.specs.Views.{statement_size, statement_moves, action_of, move_of};
 
 use crate::negations::negations;
-use while_tree::Stmt;
 use its_model::Atom;
 use poly_terms::{Expr, Memory};
 use program_copies::{copied_atoms, copied_expr};
 use std::alloc::Global;
+use while_tree::Stmt;
 
 /// What happens along a move: a variable takes the value of an expression, or any integer, or nothing happens.
 #[derive(Debug, PartialEq, Eq, Drop)]
@@ -131,7 +131,11 @@ fn push_statement(
         Stmt::While(test, block) => {
             let begins = at + 1;
             let holds = first_of(begins, at, block);
-            let fork = Fork { at, holds, fails: next };
+            let fork = Fork {
+                at,
+                holds,
+                fails: next,
+            };
             push_test(alloc, moves, test, fork)?;
             push_moves(alloc, moves, block, begins, at)
         }
@@ -159,17 +163,17 @@ fn push_action(
         ++ record { from = from; to = to; guard = []; action = action_of action } ∷ []) }
 {
     let guard = Vec::new(alloc);
-    moves.push(Move { from, to, guard, action })?;
+    moves.push(Move {
+        from,
+        to,
+        guard,
+        action,
+    })?;
     Ok(())
 }
 
 // Appends the moves of a test: one where it holds, and then one for each negation of its atoms.
-fn push_test(
-    alloc: Global,
-    moves: &mut Vec<Move>,
-    test: &[Atom],
-    fork: Fork,
-) -> Result<(), Memory>
+fn push_test(alloc: Global, moves: &mut Vec<Move>, test: &[Atom], fork: Fork) -> Result<(), Memory>
     ensures { OnOk result (map move_of moves.new.items
         ≡ map move_of moves.old.items ++ moves_by fork.at (map atom_of test.now) fork.holds fork.fails) }
 {
@@ -180,17 +184,17 @@ fn push_test(
 }
 
 // Appends a move on which nothing happens.
-fn push_passing(
-    moves: &mut Vec<Move>,
-    from: u32,
-    guard: Vec<Atom>,
-    to: u32,
-) -> Result<(), Memory>
+fn push_passing(moves: &mut Vec<Move>, from: u32, guard: Vec<Atom>, to: u32) -> Result<(), Memory>
     ensures { OnOk result (map move_of moves.new.items
         ≡ map move_of moves.old.items ++ passing from (map atom_of guard.items) to ∷ []) }
 {
     let action = Action::Skip;
-    moves.push(Move { from, to, guard, action })?;
+    moves.push(Move {
+        from,
+        to,
+        guard,
+        action,
+    })?;
     Ok(())
 }
 

@@ -15,11 +15,11 @@ use crate::free_name::free_name;
 use crate::moves::{Move, push_moves, size_of};
 use crate::points::{number_in, points_of};
 use crate::rules::{rule_from, symbol_from};
-use while_tree::Whole;
 use its_model::{Name, Program, Rule, Symbol};
 use poly_terms::Memory;
 use program_copies::copied_names;
 use std::alloc::Global;
+use while_tree::Whole;
 
 /// The integer transition system of a while program. Its executions are the runs of the system, with as many steps and
 /// the same values.

@@ -153,11 +153,25 @@ kept_input text p names sorts.Name c named e r valid absent low = record {
 kept_input text p names sort c named e r valid absent low =
     record { names = names; named = named; made = inl (record { phase = e; rules = r; draft = refl }) }
 
+-- the state after a token, by whether it opens a block
+placed : (text : List ℕ) (p : Piece) (s : State) (v : Bool) → opens_block p.sort ≡ v
+    → Good (record {
+      course = cond v (record s.course { phase = phases.Statements }) (after_phase s.course.phase p s.course);
+      draft = cond v (block_opens s.draft.opener s.draft) (made_in s.course.phase text p s.course s.draft);
+      standing = Sound;
+    }) → Good (sound_after text p s)
+placed text p s v o g =
+    subst (λ (w : Bool). Good (record {
+      course = cond w (record s.course { phase = phases.Statements }) (after_phase s.course.phase p s.course);
+      draft = cond w (block_opens s.draft.opener s.draft) (made_in s.course.phase text p s.course s.draft);
+      standing = Sound;
+    })) (sym o) g
+
 -- where nothing has been made a block opens none
 first_block : (text : List ℕ) (p : Piece) (names : List Name) (s : State) → Named names → IsListed names s
     → opens_block p.sort ≡ true → Good (sound_after text p s)
 first_block text p names s named l o =
-    rw o (record {
+    placed text p s true o (record {
       names = names;
       named = named;
       made = inr (refl, subst (λ (d : Draft). Fitting names (length names) (record s.course { phase = phases.Statements })
@@ -308,7 +322,18 @@ kept_good text p s valid g h = go g.made (opens_block p.sort) refl
     cleared = clear text p s.course s.draft h.first
 
     listed : IsListed g.names s → opens_block p.sort ≡ false → Good (sound_after text p s)
-    listed l o = rw (o, l.phase, l.draft) (kept_input text p g.names p.sort s.course g.named l.phase l.rules valid absent low)
+    listed l o =
+        placed text p s false o
+        (subst (λ (x : Phase). Good (record {
+          course = after_phase x p s.course;
+          draft = made_in x text p s.course s.draft;
+          standing = Sound;
+        })) (sym l.phase)
+        (subst (λ (d : Draft). Good (record {
+          course = after_input p.sort s.course;
+          draft = made_of_input text p p.sort d;
+          standing = Sound;
+        })) (sym l.draft) (kept_input text p g.names p.sort s.course g.named l.phase l.rules valid absent low)))
       where
         absent : is_name p.sort ≡ true → is_among (bytes_of text p) g.names ≡ false
         absent e =
@@ -326,7 +351,7 @@ kept_good text p s valid g h = go g.made (opens_block p.sort) refl
     opened : (i : is_inputs s.course.phase ≡ false) → Fitting g.names (length g.names) s.course s.draft
         → opens_block p.sort ≡ true → Good (sound_after text p s)
     opened i f o =
-        rw o (record {
+        placed text p s true o (record {
           names = g.names;
           named = g.named;
           made = inr (refl, kept_block g.names (length g.names) text p s.course s.draft f s.draft.opener refl);
@@ -337,7 +362,7 @@ kept_good text p s valid g h = go g.made (opens_block p.sort) refl
     inside i f o =
         let last : against_last_in s.course.phase text p s.course s.draft ≡ None =
         subst (λ (v : Bool). (cond v None (against_last_in s.course.phase text p s.course s.draft)) ≡ None) o h.last in
-        rw o (record {
+        placed text p s false o (record {
           names = g.names;
           named = g.named;
           made = inr (kept_in text p g.names s i f cleared last h.rules s.course.phase refl);

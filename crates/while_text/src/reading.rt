@@ -1,6 +1,9 @@
 //! Reads a while program from its text.
 
-ghost use Rattle.std.specs.Prelude.{◌≡◌, length};
+ghost use Rattle.std.specs.Prelude.{◌≡◌, length, map, IfOk};
+ghost use Rattle.its_model.specs.Views.{name_of};
+ghost use Rattle.while_tree.specs.Readable.{IsReadable};
+ghost use Rattle.while_tree.specs.Views.{statements_of};
 ghost use Rattle.text_grammar.specs.text_core.Reading.{answer};
 ghost use Rattle.text_grammar.specs.Results.{Tells};
 ghost use Rattle.text_grammar.specs.Texts.{reader};
@@ -30,7 +33,8 @@ use while_tree::Whole;
 /// an atom with a form of more than 64 terms or of a degree over 8, at atom 65 of a test, at input 33, at the `{` of
 /// level 65, and at the statement whose rules pass 1,000. `Memory` comes where memory ran out.
 pub fn read_while(alloc: Global, bytes: &[u8]) -> Result<Whole, WhileError>
-    ensures { Answers bytes.now result }
+    ensures answer { Answers bytes.now result }
+    ensures readable { IfOk result (λ w. IsReadable (map name_of w.names.items) (statements_of w.body.items)) }
 {
     judge(alloc, bytes)
 }

@@ -28,12 +28,11 @@ push_moves-loop-stmt-preserved t c =
     let short = length-drop (i + 1) body in
     let next = c.next_point-next.ensures
     ∙ next_is (here + c.statement_size_of.result) after (c.loop-stmt.left - 1) rest (omega (arith, count, low, short))
-    ∙ ap (λ (k : ℕ). first (here + k) after (statements_of rest)) one in
-    (
+    ∙ ap (λ (k : ℕ). first (here + k) after (statements_of rest)) one in (
       ap (λ (k : ℕ). new ++ moves (here + k) after (statements_of rest)) one
-      ∙ moves_step out new all (stmt_of item) (map stmt_of rest) here after c.next_point-next.result next
-      c.in_ok-push_statement.ensures
-      (ap (λ (v : Statements). out ++ moves here after v) (sym more) ∙ c.loop-stmt.invariant.0),
+          ∙ moves_step out new all (stmt_of item) (map stmt_of rest) here after c.next_point-next.result next
+          c.in_ok-push_statement.ensures
+          (ap (λ (v : Statements). out ++ moves here after v) (sym more) ∙ c.loop-stmt.invariant.0),
       omega (arith, one, sized, total, room),
       omega (arith, count, low),
     )
