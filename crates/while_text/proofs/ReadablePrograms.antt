@@ -174,8 +174,11 @@ first_block text p names s named l o =
     placed text p s true o (record {
       names = names;
       named = named;
-      made = inr (refl, subst (λ (d : Draft). Fitting names (length names) (record s.course { phase = phases.Statements })
-          (block_opens d.opener d)) (sym l.draft) (begins_fitting names s.course l.rules));
+      made = inr (
+        refl,
+        subst (λ (d : Draft). Fitting names (length names) (record s.course { phase = phases.Statements })
+            (block_opens d.opener d)) (sym l.draft) (begins_fitting names s.course l.rules),
+      );
     })
 
 -- a name of an expression is that of an input
@@ -256,7 +259,7 @@ module _ (text : List ℕ) (p : Piece) (names : List Name) (s : State) (i : is_i
   kept_in phases.Value e = (
     outside_value p.sort,
     kept_value names (length names) text p s.course s.draft f p.sort e front_kept
-    (subst (λ (x : Phase). against_last_in x text p s.course s.draft ≡ None) e last),
+        (subst (λ (x : Phase). against_last_in x text p s.course s.draft ≡ None) e last),
   )
     where
       outside_value : (sort : Sort) → is_inputs (after_value sort s.course).phase ≡ false
@@ -303,7 +306,7 @@ module _ (text : List ℕ) (p : Piece) (names : List Name) (s : State) (i : is_i
   kept_in phases.Right e = (
     outside_right (is_last p s.course),
     kept_right names (length names) text p s.course s.draft f e front_kept
-    (subst (λ (x : Phase). against_last_in x text p s.course s.draft ≡ None) e last) (rules_room e),
+        (subst (λ (x : Phase). against_last_in x text p s.course s.draft ≡ None) e last) (rules_room e),
   )
     where
       outside_right : (v : Bool) → is_inputs (cond v (record (with_token_of p.sort s.course) {

@@ -670,8 +670,41 @@ module _ (text : List ℕ) where
 
   text_stands : (es : List (Event Piece)) (ps : List Piece)
       → Along (symbol.Piece 0 ∷ symbol.Piece 6 ∷ symbol.Made 1 ∷ symbol.Made 3 ∷ symbol.Made 2 ∷ []) es ps → Stands 0 es ps
-  text_stands es ps (p, fs, qs, k, e, f, (q, gs, rs, l, e2, f2, (ds, hs, os, us, more, e3, f3, (cs, js, vs, ws, one, e4, f4,
-      (bs, ks, xs, ys, rest, e5, f5, (e6, f6)))))) s phase opener =
+  text_stands es ps (
+    p,
+    fs,
+    qs,
+    k,
+    e,
+    f,
+    (
+      q,
+      gs,
+      rs,
+      l,
+      e2,
+      f2,
+      (
+        ds,
+        hs,
+        os,
+        us,
+        more,
+        e3,
+        f3,
+        (
+          cs,
+          js,
+          vs,
+          ws,
+          one,
+          e4,
+          f4,
+          (bs, ks, xs, ys, rest, e5, f5, (e6, f6)),
+        ),
+      ),
+    ),
+  ) s phase opener =
       subst (λ (t : State). IsSome t.draft.body) (sym whole) (after.grows first.1)
     where
       two : State
@@ -761,8 +794,32 @@ module _ (text : List ℕ) where
 
   assignment_stands : (es : List (Event Piece)) (ps : List Piece)
       → Along (symbol.Piece 6 ∷ symbol.Piece 8 ∷ symbol.Made 4 ∷ symbol.Piece 10 ∷ []) es ps → Stands 3 es ps
-  assignment_stands es ps (p, fs, qs, k, e, f, (q, gs, rs, l, e2, f2, (ds, hs, os, us, inner, e3, f3,
-      (r, js, vs, m, e4, f4, (e5, f5))))) s ready =
+  assignment_stands es ps (
+    p,
+    fs,
+    qs,
+    k,
+    e,
+    f,
+    (
+      q,
+      gs,
+      rs,
+      l,
+      e2,
+      f2,
+      (
+        ds,
+        hs,
+        os,
+        us,
+        inner,
+        e3,
+        f3,
+        (r, js, vs, m, e4, f4, (e5, f5)),
+      ),
+    ),
+  ) s ready =
       subst (λ (x : List (Event Piece)). Goes s (after_all text s x) × IsSome (after_all text s x).draft.body)
       (sym (e ∙ ap (λ (x : List (Event Piece)). Read p ∷ x) (e2 ∙ ap (λ (x : List (Event Piece)). Read q ∷ x)
       (e3 ∙ ap (λ (x : List (Event Piece)). ds ++ x) (e4 ∙ ap (λ (x : List (Event Piece)). Read r ∷ x) e5)))))
@@ -777,8 +834,32 @@ module _ (text : List ℕ) where
 
   loop_stands : (es : List (Event Piece)) (ps : List Piece)
       → Along (symbol.Piece 2 ∷ symbol.Piece 12 ∷ symbol.Made 7 ∷ symbol.Piece 13 ∷ symbol.Made 6 ∷ []) es ps → Stands 3 es ps
-  loop_stands es ps (p, fs, qs, k, e, f, (q, gs, rs, l, e2, f2, (ds, hs, os, us, inner, e3, f3,
-      (r, js, vs, m, e4, f4, (cs, bs, ws, xs, closes, e5, f5, (e6, f6)))))) s ready =
+  loop_stands es ps (
+    p,
+    fs,
+    qs,
+    k,
+    e,
+    f,
+    (
+      q,
+      gs,
+      rs,
+      l,
+      e2,
+      f2,
+      (
+        ds,
+        hs,
+        os,
+        us,
+        inner,
+        e3,
+        f3,
+        (r, js, vs, m, e4, f4, (cs, bs, ws, xs, closes, e5, f5, (e6, f6))),
+      ),
+    ),
+  ) s ready =
       subst (λ (x : List (Event Piece)). Goes s (after_all text s x) × IsSome (after_all text s x).draft.body) (sym whole)
       (go (reads_test openers.Loop p (Read q ∷ (ds ++ Read r ∷ [])) cs s (rw (sort_of_2 p.sort k, ready.phase) refl)
       (rw (sort_of_2 p.sort k, ready.phase) refl) tests closes (λ d. InLoop d.test d.body) (λ d. refl) (λ d. refl)))
@@ -802,8 +883,32 @@ module _ (text : List ℕ) where
   branch_stands : (es : List (Event Piece)) (ps : List Piece)
       → Along (symbol.Piece 3 ∷ symbol.Piece 12 ∷ symbol.Made 7 ∷ symbol.Piece 13 ∷ symbol.Made 6 ∷ symbol.Made 5 ∷ []) es ps
       → Stands 3 es ps
-  branch_stands es ps (p, fs, qs, k, e, f, (q, gs, rs, l, e2, f2, (ds, hs, os, us, inner, e3, f3,
-      (r, js, vs, m, e4, f4, (cs, bs, ws, xs, closes, e5, f5, (is, zs, ys, ts, other, e6, f6, (e7, f7))))))) s ready =
+  branch_stands es ps (
+    p,
+    fs,
+    qs,
+    k,
+    e,
+    f,
+    (
+      q,
+      gs,
+      rs,
+      l,
+      e2,
+      f2,
+      (
+        ds,
+        hs,
+        os,
+        us,
+        inner,
+        e3,
+        f3,
+        (r, js, vs, m, e4, f4, (cs, bs, ws, xs, closes, e5, f5, (is, zs, ys, ts, other, e6, f6, (e7, f7)))),
+      ),
+    ),
+  ) s ready =
       subst (λ (t : State). Goes s t × IsSome t.draft.body) (sym (ap (λ (x : List (Event Piece)). after_all text s x) whole
       ∙ after_append text s (Read p ∷ ((Read q ∷ (ds ++ Read r ∷ [])) ++ cs)) is))
       (go (reads_test openers.First p (Read q ∷ (ds ++ Read r ∷ [])) cs s (rw (sort_of_3 p.sort k, ready.phase) refl)

@@ -378,7 +378,7 @@ impl Draft {
         ensures { OnOk result (draft_of self.new ≡ drafts.reopened (stmt_of last) (draft_of self.old)) }
     {
         match last {
-            Stmt::If(test, first, _) => {
+            Stmt::If(test, first, _other) => {
                 let before = replace(&mut self.body, Vec::new(alloc));
                 self.push_block(alloc, Block::InSecond(test, first, before))?;
             }

@@ -89,8 +89,7 @@ fn against_token(piece: Piece, course: &Course, draft: &Draft) -> Option<Kind>
 {
     let in_sum = is_in_expression(course.phase) && is_in_sums(piece.sort);
     let many_tokens = in_sum && course.tokens >= TOKEN_LIMIT as u64;
-    let many_atoms =
-        begins_atom(course.phase, course.tokens) && draft.test.len() >= ATOM_LIMIT;
+    let many_atoms = begins_atom(course.phase, course.tokens) && draft.test.len() >= ATOM_LIMIT;
     or_kind(
         when(many_tokens, Kind::Limit(WhileKind::Tokens)),
         when(many_atoms, Kind::Limit(WhileKind::Atoms)),
@@ -101,11 +100,12 @@ fn against_token(piece: Piece, course: &Course, draft: &Draft) -> Option<Kind>
 fn against_count(piece: Piece, course: &Course, draft: &Draft) -> Option<Kind>
     ensures { result ≡ faults.against_count piece (course_of course.now) (draft_of draft.now) }
 {
-    let many_inputs =
-        is_inputs(course.phase) && is_name(piece.sort) && draft.names.len() >= PLACE_LIMIT;
+    let many_inputs = is_inputs(course.phase)
+        && is_name(piece.sort)
+        && draft.names.len() >= PLACE_LIMIT;
     let many_blocks = opens_block(piece.sort) && draft.blocks.len() >= DEPTH_LIMIT;
-    let many_rules =
-        begins_statement(course.phase, piece.sort) && course.rules >= RULE_LIMIT as u64;
+    let many_rules = begins_statement(course.phase, piece.sort)
+        && course.rules >= RULE_LIMIT as u64;
     or_kind(
         when(many_inputs, Kind::Limit(WhileKind::Variables)),
         or_kind(
@@ -190,10 +190,7 @@ fn first_of(best: Fault<Kind>, other: Fault<Kind>) -> Fault<Kind>
 }
 
 /// The first of two faults, where there are both.
-pub fn first_fault(
-    best: Option<Fault<Kind>>,
-    other: Option<Fault<Kind>>,
-) -> Option<Fault<Kind>>
+pub fn first_fault(best: Option<Fault<Kind>>, other: Option<Fault<Kind>>) -> Option<Fault<Kind>>
     ensures { (text : List ℕ) → fault_of result ≡ first_of_two (while_text text) (fault_of best) (fault_of other) }
 {
     match (best, other) {

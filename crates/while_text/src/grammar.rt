@@ -25,20 +25,35 @@ pub const ROUNDS: u32 = 6;
 
 // The nonterminals, in the order of their rules.
 const MORE: u32 = 1;
+
 const STATEMENTS: u32 = 2;
+
 const STATEMENT: u32 = 3;
+
 const VALUE: u32 = 4;
+
 const OTHER: u32 = 5;
+
 const BLOCK: u32 = 6;
+
 const ATOMS: u32 = 7;
+
 const MORE_ATOMS: u32 = 8;
+
 const ATOM: u32 = 9;
+
 const SUM: u32 = 10;
+
 const MORE_PRODUCTS: u32 = 11;
+
 const PRODUCT: u32 = 12;
+
 const MORE_FACTORS: u32 = 13;
+
 const FACTOR: u32 = 14;
+
 const EXPONENT: u32 = 15;
+
 const BASE: u32 = 16;
 
 /// The rules. They have no marks: what a token does follows from the tokens before it.

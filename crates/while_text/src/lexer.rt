@@ -11,9 +11,7 @@ ghost use Rattle.while_text.specs.Within.{lexes_within};
 
 use crate::piece::{Follower, Piece, Sort};
 use model::COEFFICIENT_LIMIT;
-use text_core::{
-    begins_name, begins_with, digits_len, is_white_space, name_len, value_up_to,
-};
+use text_core::{begins_name, begins_with, digits_len, is_white_space, name_len, value_up_to};
 use text_grammar::{Lexeme, Lexer, OneMode};
 
 /// The lexer of a text with this number of bytes.

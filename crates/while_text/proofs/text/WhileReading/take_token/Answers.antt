@@ -27,8 +27,8 @@ returns-in-Sound-clause-shown c =
     (λ (shown : Option (Fault Kind)). (text : List ℕ) → fault_of shown
     ≡ first_shown (while_text text) None (faults_of s.standing bytes s t))
     (λ shown h text.
-        h text ∙ first_of_faults text a b r t.at (t.upto - 1) s.course.at
-        ∙ ap (λ (v : Standing). first_shown (while_text text) None (faults_of v bytes s t)) (sym c.in-Sound.is))
+    h text ∙ first_of_faults text a b r t.at (t.upto - 1) s.course.at
+    ∙ ap (λ (v : Standing). first_shown (while_text text) None (faults_of v bytes s t)) (sym c.in-Sound.is))
     c.take_sound.result c.take_sound.ensures.shown
 
 pub returns-in-Faulty-clause-shown : goal.returns-in-Faulty-clause-shown
@@ -37,5 +37,5 @@ returns-in-Faulty-clause-shown c =
     let bytes = c.args.self.now.text.now in
     let t = token_of c.args.token in
     λ text.
-        c.take_faulty.ensures.shown ∙ first_of_one text (against_rules t.piece s.course) s.course.at
-        ∙ ap (λ (v : Standing). first_shown (while_text text) None (faults_of v bytes s t)) (sym c.in-Faulty.is)
+    c.take_faulty.ensures.shown ∙ first_of_one text (against_rules t.piece s.course) s.course.at
+    ∙ ap (λ (v : Standing). first_shown (while_text text) None (faults_of v bytes s t)) (sym c.in-Faulty.is)
