@@ -1,7 +1,7 @@
 #!/usr/bin/env python3
 """A plain slow reading of while programs, written from docs/while.md: it lists every fault, and answers the first one.
 
-usage: while_reading.py lines < LINES    answers lines as the program while_tests does, for its calls `read`, `count` and
+usage: while_reading.py lines < LINES    answers lines, each with a call and a text in a short notation: the calls are `read`, `count` and
                                           `rules`
        while_reading.py random COUNT SEED    so many lines with random programs, three in four of them damaged
 """
@@ -433,7 +433,7 @@ def rules_of(names, body):
 
 
 def unfolded(written):
-    """The bytes of a text in the short notation of while_tests."""
+    """The bytes of a text in a short notation: `%3:A#,%` is `A0,A1,A2,`, and two hexadecimal digits follow a backquote."""
     text = b""
     for k, part in enumerate(written.encode().split(b"%")):
         if k % 2 == 0:
