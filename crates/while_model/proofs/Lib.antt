@@ -1,11 +1,11 @@
-mod Members
+pub mod Members
 mod Segments
-mod Sources
+pub mod Sources
 mod Tests
 mod Routes
-mod Numbers
-mod Rules
-mod Runs
+pub mod Numbers
+pub mod Rules
+pub mod Runs
 pub mod Translating
 pub mod FreeNames
 mod WorkedPrograms

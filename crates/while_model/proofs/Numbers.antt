@@ -33,7 +33,7 @@ with_point-keeps points k j h = go (list_any (λ x. x == k) points) refl
     go true e = rw e h
     go false e = rw e (is_in-left j points (k ∷ []) h)
 
-with_points-keeps : (points : List ℕ) (ms : List Move) (j : ℕ) → IsIn j points → IsIn j (with_points points ms)
+pub with_points-keeps : (points : List ℕ) (ms : List Move) (j : ℕ) → IsIn j points → IsIn j (with_points points ms)
 with_points-keeps points [] j h = h
 with_points-keeps points (m ∷ ms) j h =
     with_points-keeps (with_point (with_point points m.from) m.to) ms j

@@ -22,7 +22,7 @@ abbrev pub points : Statements → List ℕ
 points program = points_of (program_moves program)
 
 -- a program with a statement has a move from point 0
-starts : (program : Statements) → IsNonempty program → (m : Move) × IsMoveOf m 0 (size program) program × (m.from ≡ 0)
+pub starts : (program : Statements) → IsNonempty program → (m : Move) × IsMoveOf m 0 (size program) program × (m.from ≡ 0)
 starts Nothing some = absurd some
 starts (Simple action rest) some = (_, inl refl, refl)
 starts (While test block rest) some = (_, inl (inl refl), refl)

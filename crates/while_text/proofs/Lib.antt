@@ -1,0 +1,14 @@
+pub mod Fronts
+pub mod Pops
+pub mod LexingLaws
+pub mod ReadableGrammar
+pub mod Lawful
+pub mod Judging
+pub mod SilentReading
+pub mod Structure
+pub mod BelowFronts
+pub mod DraftRules
+pub mod ReadableDrafts
+pub mod KeptDrafts
+pub mod PieceNames
+pub mod ReadablePrograms

@@ -1,0 +1,125 @@
+-- The grammar of while programs can be read: the test holds at each class of pieces, and so it holds as a whole.
+use Rattle.std.proofs.Common.{◌≡◌, ℕ, zero, suc, Bool, true, false, ◌&&◌, refl}
+use Rattle.std.specs.Prelude.{◌==◌, ⊤}
+use Rattle.text_grammar.specs.Grammars.{Grammar}
+use Rattle.text_grammar.specs.Sounding.{each_below, is_flagged, follows, completed, agrees, is_readable}
+use Rattle.while_text.specs.Grammar.{while_grammar}
+
+-- a statement on each number below a limit
+abbrev Below : ℕ → (ℕ → Type 0) → Type 0
+Below zero P = ⊤
+Below (suc n) P = P n × Below n P
+
+-- two tests that are true are true together
+both_true : (a b : Bool) → a ≡ true → b ≡ true → a && b ≡ true
+both_true true b h k = k
+both_true false b h k = cc
+
+-- a test that is true of each number below a limit is true below it
+each_is_true : (n : ℕ) (test : ℕ → Bool) → Below n (λ k. test k ≡ true) → each_below n test ≡ true
+each_is_true zero test h = refl
+each_is_true (suc n) test (h, more) = both_true (test n) (each_below n test) h (each_is_true n test more)
+
+-- a grammar whose parts pass their tests can be read
+readable_by : {P : Type 0} (g : Grammar P) → Below (suc g.classes) (λ c. agrees g c ≡ true)
+    → is_flagged (follows g g.classes) 0 ≡ true → is_flagged (completed g) 0 ≡ true
+    → each_below g.classes (λ c. g.class_of (g.sample c) == c) ≡ true → is_readable g ≡ true
+readable_by g h ends completes sampled =
+    let a = each_is_true (suc g.classes) (agrees g) h in
+    let b = both_true (each_below (suc g.classes) (agrees g)) _ a ends in
+    let d = both_true (each_below (suc g.classes) (agrees g) && is_flagged (follows g g.classes) 0) _ b completes in
+    both_true _ _ d sampled
+
+-- the test holds at a class
+abbrev At : ℕ → Type 0
+At c = agrees while_grammar c ≡ true
+
+-- it holds at each class and at the end of the text, one by one, since the test of all at once is too long to compute
+up_to_0 : Below 0 At
+up_to_0 = tt
+
+up_to_1 : Below 1 At
+up_to_1 = (refl, up_to_0)
+
+up_to_2 : Below 2 At
+up_to_2 = (refl, up_to_1)
+
+up_to_3 : Below 3 At
+up_to_3 = (refl, up_to_2)
+
+up_to_4 : Below 4 At
+up_to_4 = (refl, up_to_3)
+
+up_to_5 : Below 5 At
+up_to_5 = (refl, up_to_4)
+
+up_to_6 : Below 6 At
+up_to_6 = (refl, up_to_5)
+
+up_to_7 : Below 7 At
+up_to_7 = (refl, up_to_6)
+
+up_to_8 : Below 8 At
+up_to_8 = (refl, up_to_7)
+
+up_to_9 : Below 9 At
+up_to_9 = (refl, up_to_8)
+
+up_to_10 : Below 10 At
+up_to_10 = (refl, up_to_9)
+
+up_to_11 : Below 11 At
+up_to_11 = (refl, up_to_10)
+
+up_to_12 : Below 12 At
+up_to_12 = (refl, up_to_11)
+
+up_to_13 : Below 13 At
+up_to_13 = (refl, up_to_12)
+
+up_to_14 : Below 14 At
+up_to_14 = (refl, up_to_13)
+
+up_to_15 : Below 15 At
+up_to_15 = (refl, up_to_14)
+
+up_to_16 : Below 16 At
+up_to_16 = (refl, up_to_15)
+
+up_to_17 : Below 17 At
+up_to_17 = (refl, up_to_16)
+
+up_to_18 : Below 18 At
+up_to_18 = (refl, up_to_17)
+
+up_to_19 : Below 19 At
+up_to_19 = (refl, up_to_18)
+
+up_to_20 : Below 20 At
+up_to_20 = (refl, up_to_19)
+
+up_to_21 : Below 21 At
+up_to_21 = (refl, up_to_20)
+
+up_to_22 : Below 22 At
+up_to_22 = (refl, up_to_21)
+
+up_to_23 : Below 23 At
+up_to_23 = (refl, up_to_22)
+
+up_to_24 : Below 24 At
+up_to_24 = (refl, up_to_23)
+
+-- the end can follow the text, the text can be completed, and the sample piece of each class belongs to it
+ends : is_flagged (follows while_grammar 23) 0 ≡ true
+ends = refl
+
+completes : is_flagged (completed while_grammar) 0 ≡ true
+completes = refl
+
+sampled : each_below 23 (λ c. while_grammar.class_of (while_grammar.sample c) == c) ≡ true
+sampled = refl
+
+-- the grammar of while programs can be read
+pub readable : is_readable while_grammar ≡ true
+readable = readable_by while_grammar up_to_24 ends completes sampled

@@ -1,0 +1,70 @@
+//! An expression that is being read, token by token.
+
+ghost use Rattle.std.specs.Prelude.{◌≡◌, IfOk, OnOk};
+ghost use Rattle.poly_terms.specs.Views.{term_of};
+ghost use Rattle.expr_reader.specs.Views.{front_of};
+ghost use Rattle.while_text.specs.Drafts.{front_after, with_minus, no_front, term_of as term_of_front};
+
+use crate::piece::Sort;
+use expr_reader::Expression;
+use poly_terms::{Expr, Memory};
+use std::alloc::Global;
+use std::mem::replace;
+
+/// An expression of which nothing has been read.
+pub fn no_expression(alloc: Global) -> Expression
+    ensures { front_of result ≡ no_front }
+{
+    Expression::new(alloc)
+}
+
+/// Reads a token of an expression, where a name is the variable with this number.
+///
+/// # Errors
+///
+/// `Memory` where an allocation fails.
+#[tactic(auto, using(crate::proofs::Fronts::closes_is, crate::proofs::Fronts::stays_is))]
+pub fn read_token(
+    alloc: Global,
+    expression: &mut Expression,
+    variable: u32,
+    sort: Sort,
+) -> Result<(), Memory>
+    ensures { OnOk result (front_of expression.new ≡ front_after variable sort (front_of expression.old)) }
+{
+    match sort {
+        Sort::Name => expression.take_variable(variable),
+        Sort::Number(value) => expression.take_value(value),
+        Sort::Open => expression.open_bracket()?,
+        Sort::Close => expression.close_bracket(alloc)?,
+        Sort::Plus => expression.take_plus(alloc)?,
+        Sort::Minus => read_minus(alloc, expression)?,
+        Sort::Times => expression.take_times(alloc)?,
+        Sort::Caret => expression.take_caret(),
+        _ => {}
+    }
+    Ok(())
+}
+
+// Reads a `-`.
+fn read_minus(alloc: Global, expression: &mut Expression) -> Result<(), Memory>
+    ensures { OnOk result (front_of expression.new ≡ with_minus (front_of expression.old)) }
+{
+    if expression.level.minuses < u32::MAX {
+        expression.take_minus(alloc)?;
+    }
+    Ok(())
+}
+
+/// The expression that ends here; then nothing has been read.
+///
+/// # Errors
+///
+/// `Memory` where an allocation fails.
+pub fn ended(alloc: Global, expression: &mut Expression) -> Result<Expr, Memory>
+    ensures made { IfOk result (λ made. term_of made ≡ term_of_front (front_of expression.old)) }
+    ensures begun { OnOk result (front_of expression.new ≡ no_front) }
+{
+    let mut whole = replace(expression, Expression::new(alloc));
+    whole.finish(alloc)
+}

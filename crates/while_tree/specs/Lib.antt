@@ -1,0 +1,8 @@
+-- what the contracts of crates above this one cite
+pub mod Views
+pub mod Readable
+-- the crates below, which callers name through this one
+pub use Rattle.while_model.specs as while_model
+pub use Rattle.its_model.specs as its_model
+pub use Rattle.its_model.specs.poly_terms
+pub use Rattle.its_model.specs.model
