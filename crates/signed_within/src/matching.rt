@@ -28,7 +28,8 @@ pub(crate) fn factors_match(
     let mut left = Vec::new(alloc);
     left.extend_from_slice(others)?;
     for i in 0..factors.len() {
-        match position_taken(alloc, test, factors[i], &left)? {
+        let taken = position_taken(alloc, test, factors[i], &left)?;
+        match taken {
             None => return Ok(false),
             Some(position) => {
                 let _ = left.remove(position);
@@ -68,7 +69,8 @@ fn first_taken(
     ensures { IfOk result (λ o. IsFirstTaken (may_take test (signed_of factor.now)) (signed_at others.now) o) }
 {
     for i in 0..others.len() {
-        if takes(alloc, test, factor, others[i])? {
+        let is_taken = takes(alloc, test, factor, others[i])?;
+        if is_taken {
             return Ok(Some(i));
         }
     }

@@ -5,8 +5,9 @@ ghost use Rattle.signed_bounds.specs.Views.{signed_of, signeds_of, parts_of};
 ghost use Rattle.signed_bounds.specs.Products.{product_count as count_of, product_count_of_sum as count_of_sum};
 ghost use Rattle.signed_bounds.specs.Products.{product_count_of_product as count_of_product, number_sum as sum_of};
 ghost use Rattle.signed_bounds.specs.Products.{number_sum_of_sum as sum_of_sum, number_sum_of_product as sum_of_product};
-ghost use Rattle.signed_bounds.specs.Products.{is_multipliable as is_limited};
+ghost use Rattle.signed_bounds.specs.Products.{is_multipliable as is_limited, at_least_1 as one_at_least};
 
+use crate::constants::constant_part;
 use signed_bounds::{CONSTANT_LIMIT, PRODUCT_LIMIT, Signed};
 
 /// Whether a bound is multiplied out within the limits: into at most `PRODUCT_LIMIT` products, and with numbers that
@@ -65,14 +66,24 @@ fn number_sum(bound: &Signed) -> u128
 {
     match bound {
         Signed::Const(c) => (*c).max(1),
+        Signed::Part(p) => at_least_1(constant_part(p)),
         Signed::Sum(parts) => number_sum_in_sum(parts).max(1),
         Signed::Prod(parts) => number_sum_in_product(parts),
-        Signed::Part(_)
-        | Signed::Max(_)
+        Signed::Max(_)
         | Signed::Min(_, _)
         | Signed::Quotient(_, _)
         | Signed::Root(_)
         | Signed::Power(_, _) => 1,
+    }
+}
+
+// A number, where 0 and no number count as 1.
+fn at_least_1(number: Option<u128>) -> u128
+    ensures { result ≡ one_at_least number }
+{
+    match number {
+        Some(n) => n.max(1),
+        None => 1,
     }
 }
 

@@ -8,10 +8,10 @@ use Rattle.signed_within.proofs.covering.use_up.Given as goal
 abbrev pub invariant-loop-i : goal.invariant-loop-i
 invariant-loop-i l = record {
   lacking : missing_times (lists_match l.test) l.missing (signed_at l.p.factors.items)
-      (counted (drop l.i-index l.qs) (drop l.i-index l.left))
+      (counted (drop l.i l.qs) (drop l.i l.left))
       ≡ missing_times (lists_match l.test) l.n (signed_at l.p.factors.items) (counted l.qs l.left);
-  taken : counted (take l.i-index l.qs) l.rest.items ++ used_up (lists_match l.test) l.missing (signed_at l.p.factors.items)
-      (counted (drop l.i-index l.qs) (drop l.i-index l.left))
+  taken : counted (take l.i l.qs) l.rest.items ++ used_up (lists_match l.test) l.missing (signed_at l.p.factors.items)
+      (counted (drop l.i l.qs) (drop l.i l.left))
       ≡ used_up (lists_match l.test) l.n (signed_at l.p.factors.items) (counted l.qs l.left);
-  size : length l.rest.items ≡ l.i-index;
+  size : length l.rest.items ≡ l.i;
 }

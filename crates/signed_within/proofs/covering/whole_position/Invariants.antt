@@ -8,7 +8,7 @@ use Rattle.signed_within.proofs.covering.whole_position.Given as goal
 -- no product that was passed is enough
 abbrev pub invariant-loop-i : goal.invariant-loop-i
 invariant-loop-i l =
-    behind (counted (take l.i-index l.qs) (take l.i-index l.left))
+    behind (counted (take l.i l.qs) (take l.i l.left))
     (used_whole expands_to_squares (record { times = l.n; factors = signed_at l.p.factors.items })
-    (counted (drop l.i-index l.qs) (drop l.i-index l.left)))
+    (counted (drop l.i l.qs) (drop l.i l.left)))
     ≡ used_whole expands_to_squares (record { times = l.n; factors = signed_at l.p.factors.items }) (counted l.qs l.left)

@@ -9,6 +9,6 @@ use Rattle.signed_within.proofs.matching.first_taken.Given as goal
 -- no factor that was passed may be taken
 abbrev pub invariant-loop-i : goal.invariant-loop-i
 invariant-loop-i l =
-    behind (take l.i-index (signed_at l.others))
-    (without_first (tests.takes l.test (signed_of l.factor)) (drop l.i-index (signed_at l.others)))
+    behind (take l.i (signed_at l.others))
+    (without_first (tests.takes l.test (signed_of l.factor)) (drop l.i (signed_at l.others)))
     ≡ without_first (tests.takes l.test (signed_of l.factor)) (signed_at l.others)

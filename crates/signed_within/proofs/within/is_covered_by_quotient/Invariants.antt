@@ -7,6 +7,6 @@ use Rattle.signed_within.proofs.within.is_covered_by_quotient.Given as goal
 -- the quotients that are left decide
 abbrev pub invariant-loop-i : goal.invariant-loop-i
 invariant-loop-i l =
-    comparison.is_covered_by_quotient expands_to_squares l.den (products_at l.ps) (products_at (take l.i-index l.qs))
-    (products_at (drop l.i-index l.qs))
+    comparison.is_covered_by_quotient expands_to_squares l.den (products_at l.ps) (products_at (take l.i l.qs))
+    (products_at (drop l.i l.qs))
     ≡ comparison.is_covered_by_quotient expands_to_squares l.den (products_at l.ps) [] (products_at l.qs)
