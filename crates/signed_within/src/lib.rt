@@ -1,15 +1,20 @@
-//! Tests for expressions that are never negative, the order of polynomials and of bounds by them, and what bounds are
-//! multiplied out into, decided exactly as the definitions of signed bounds say.
+//! Whether a number that is at most one signed bound, a number of times, is at most another: the comparison `within` of
+//! signed bounds, decided exactly.
 #![tactic(auto)]
 
 mod constants;
+mod covering;
 mod fitting;
+mod matching;
+mod multiplying;
 mod parts;
+mod product;
 mod sizes;
 mod squares;
 mod terms;
+mod test;
+mod whole;
+mod within;
 
-pub use fitting::{factor_fits, fits, is_equal};
-pub use sizes::is_multipliable;
 pub use squares::expands_to_squares;
-pub use terms::{is_below, is_weighted_below};
+pub use within::is_within;

@@ -1,0 +1,81 @@
+-- The prepared rows of a program's rules are what is known of its steps.
+use Rattle.std.proofs.Common.{◌≡◌, ℕ, zero, suc, ◌-◌, ◌<◌, List, [], ◌∷◌, map, Option, Some, None, Bor, refl, sym, ap, ◌∙◌}
+use Rattle.std.specs.Prelude.{slice_get, option_map}
+use Rattle.std.specs.Slice.{IsItemAt}
+use Rattle.poly_terms.specs.Views.{form_of}
+use Rattle.poly_terms.specs.linear_forms.Forms.{Form}
+use Rattle.poly_terms.specs.model.Programs.{Program, Rule, rule_at}
+use Rattle.poly_terms.specs.model.Terms.{Term}
+use Rattle.poly_terms.specs.declared.poly.Row.{Row}
+use Rattle.guard_prep.specs.Prepared.{Prepared, prepared}
+use Rattle.guard_prep.specs.Views.{prepared_of}
+use Rattle.guard_prep.specs.declared.rule_rows.RuleRows.{RuleRows}
+use Rattle.potential_nodes.specs.Lookup.{numbered}
+use Rattle.potential_ground.specs.RowTerms.{form_expression, row_terms, new_terms}
+use Rattle.check_potentials.specs.Views.{row_term, row_terms_of}
+use Rattle.check_potentials.proofs.LookupLaws.{get-map, item-numbered}
+
+-- forms of rows as expressions
+rows-mapped : (rows : List Row) → row_terms_of rows ≡ map form_expression (map form_of rows)
+rows-mapped [] = refl
+rows-mapped (r ∷ rows) = ap (λ (ts : List Term). row_term r ∷ ts) (rows-mapped rows)
+
+-- what is prepared of the rule with a number
+prepared-at : (p : Program) (t : ℕ) → numbered (map prepared p.rules) t ≡ option_map prepared (rule_at p t)
+prepared-at p zero = refl
+prepared-at p (suc t) = get-map prepared p.rules t
+
+found : (p : Program) (rules : List RuleRows) (t : ℕ) (o : Option (Bor RuleRows)) → map prepared_of rules ≡ map prepared p.rules
+    → 0 < t → IsItemAt rules (t - 1) o
+    → option_map (λ r. prepared_of r.now) o ≡ option_map prepared (rule_at p t)
+found p rules t o same low item =
+    item-numbered prepared_of rules t o low item
+    ∙ ap (λ (ms : List Prepared). numbered ms t) same
+    ∙ prepared-at p t
+
+-- two that are there are equal, and nothing is nothing
+some-equal : {A : Type 0} {a b : A} → Some a ≡ Some b → a ≡ b
+some-equal e = cc
+
+-- the rows of a rule that is found, and of one that isn't
+pub rows-found : (p : Program) (rules : List RuleRows) (t : ℕ) (m : Bor RuleRows)
+    → map prepared_of rules ≡ map prepared p.rules → 0 < t → IsItemAt rules (t - 1) (Some m)
+    → row_terms_of m.now.rows.items ≡ row_terms (rule_at p t)
+rows-found p rules t m same low item = go (rule_at p t) (found p rules t (Some m) same low item)
+  where
+    go : (o : Option Rule) → Some (prepared_of m.now) ≡ option_map prepared o
+        → row_terms_of m.now.rows.items ≡ row_terms o
+    go None e = absurd (apart e)
+      where
+        apart : Some (prepared_of m.now) ≡ None → ⊥
+        apart e = cc
+    go (Some r) e =
+        rows-mapped m.now.rows.items
+        ∙ ap (λ (q : Prepared). map form_expression q.rows) (some-equal e)
+
+pub new-values-found : (p : Program) (rules : List RuleRows) (t : ℕ) (m : Bor RuleRows)
+    → map prepared_of rules ≡ map prepared p.rules → 0 < t → IsItemAt rules (t - 1) (Some m)
+    → row_terms_of m.now.new_values.items ≡ new_terms (rule_at p t)
+new-values-found p rules t m same low item = go (rule_at p t) (found p rules t (Some m) same low item)
+  where
+    go : (o : Option Rule) → Some (prepared_of m.now) ≡ option_map prepared o
+        → row_terms_of m.now.new_values.items ≡ new_terms o
+    go None e = absurd (apart e)
+      where
+        apart : Some (prepared_of m.now) ≡ None → ⊥
+        apart e = cc
+    go (Some r) e =
+        rows-mapped m.now.new_values.items
+        ∙ ap (λ (q : Prepared). map form_expression q.new_values) (some-equal e)
+
+pub none-found : (p : Program) (rules : List RuleRows) (t : ℕ)
+    → map prepared_of rules ≡ map prepared p.rules → 0 < t → IsItemAt rules (t - 1) None
+    → ([] ≡ row_terms (rule_at p t)) × ([] ≡ new_terms (rule_at p t))
+none-found p rules t same low item = go (rule_at p t) (found p rules t None same low item)
+  where
+    go : (o : Option Rule) → None ≡ option_map prepared o → ([] ≡ row_terms o) × ([] ≡ new_terms o)
+    go None e = (refl, refl)
+    go (Some r) e = absurd (apart e)
+      where
+        apart : None ≡ Some (prepared r) → ⊥
+        apart e = cc

@@ -1,0 +1,49 @@
+//! Nodes that bound a form of a rule by a number.
+
+ghost use Rattle.std.specs.Prelude.{◌≡◌, IfOk, option_map};
+ghost use Rattle.signed_bounds.specs.Views.{signed_of};
+ghost use Rattle.potential_nodes.specs.Checks.{first_refused};
+ghost use Rattle.potential_nodes.specs.PlainPeaks.{row_checks};
+ghost use Rattle.check_potentials.specs.Views.{reason_of, row_node_of};
+ghost use Rattle.check_potentials.specs.Grounds.{IsPrepared, plain_ground};
+
+use crate::certificates::shows;
+use crate::comparing::reads_below;
+use crate::expressions::form_expr;
+use crate::ground::{Ground, rows_of, variables_of};
+use crate::nodes::RowNode;
+use crate::reason::Reason;
+use poly_terms::{Expr, Memory};
+use signed_bounds::Signed;
+use signed_within::is_within;
+use std::alloc::Global;
+
+/// The first reason for which a node with a stated bound isn't accepted; none where it is.
+///
+/// # Errors
+///
+/// `Memory` where an allocation fails.
+pub fn row_refusal(
+    alloc: Global,
+    ground: Ground,
+    node: &RowNode,
+    bound: &Signed,
+) -> Result<Option<Reason>, Memory>
+    requires { IsPrepared ground }
+    ensures { IfOk result (λ o. option_map reason_of o
+        ≡ first_refused (row_checks (plain_ground ground.entry) (row_node_of node.now) (signed_of bound.now))) }
+{
+    if !reads_below(variables_of(ground, node.rule), &node.form) {
+        return Ok(Some(Reason::BadShape));
+    }
+    let form = form_expr(alloc, &node.form)?;
+    let goal = Expr::difference(alloc, Expr::Num(node.number as i128), form)?;
+    if !shows(alloc, rows_of(ground, node.rule), &node.certificate, goal)? {
+        return Ok(Some(Reason::BadFloor(node.rule)));
+    }
+    let number = Signed::Const(node.number as u128);
+    if !is_within(alloc, 1, &number, bound)? {
+        return Ok(Some(Reason::LowBound));
+    }
+    Ok(None)
+}
