@@ -1,5 +1,5 @@
 -- The prepared rows of a program's rules are what is known of its steps.
-use Rattle.std.proofs.Common.{◌≡◌, ℕ, zero, suc, ◌-◌, ◌<◌, List, [], ◌∷◌, map, Option, Some, None, Bor, refl, sym, ap, ◌∙◌}
+use Rattle.std.proofs.Common.{◌≡◌, ℕ, zero, suc, ◌+◌, ◌-◌, ◌^◌, ◌<◌, min, arith, List, [], ◌∷◌, map, Option, Some, None, Bor, refl, sym, ap, ◌∙◌}
 use Rattle.std.specs.Prelude.{slice_get, option_map}
 use Rattle.std.specs.Slice.{IsItemAt}
 use Rattle.poly_terms.specs.Views.{form_of}
@@ -11,9 +11,11 @@ use Rattle.guard_prep.specs.Prepared.{Prepared, prepared}
 use Rattle.guard_prep.specs.Views.{prepared_of}
 use Rattle.guard_prep.specs.declared.rule_rows.RuleRows.{RuleRows}
 use Rattle.potential_nodes.specs.Lookup.{numbered}
-use Rattle.potential_ground.specs.RowTerms.{form_expression, row_terms, new_terms}
-use Rattle.check_potentials.specs.Views.{row_term, row_terms_of}
-use Rattle.check_potentials.proofs.LookupLaws.{get-map, item-numbered}
+use Rattle.its_model.specs.Valid.{IsValid}
+use Rattle.its_model.proofs.ValidLaws.{rule-valid}
+use Rattle.potential_ground.specs.RowTerms.{form_expression, row_terms, new_terms, variable_count}
+use Rattle.check_potentials.specs.Grounds.{row_term, row_terms_of}
+use Rattle.potential_types.proofs.LookupLaws.{get-map, item-numbered}
 
 -- forms of rows as expressions
 rows-mapped : (rows : List Row) → row_terms_of rows ≡ map form_expression (map form_of rows)
@@ -79,3 +81,16 @@ none-found p rules t same low item = go (rule_at p t) (found p rules t None same
       where
         apart : None ≡ Some (prepared r) → ⊥
         apart e = cc
+
+-- the rule with a number, by its number
+pub rule-numbered : (p : Program) (t : ℕ) → numbered p.rules t ≡ rule_at p t
+rule-numbered p zero = refl
+rule-numbered p (suc t) = refl
+
+-- the variables of a rule of a valid program are few
+pub variables-few : (p : Program) (t : ℕ) (r : Rule) (sum : ℕ) → IsValid p → Some r ≡ rule_at p t
+    → sum ≡ min (r.left + r.free) (2 ^ 32 - 1) → sum ≡ variable_count (rule_at p t)
+variables-few p t r sum valid e is =
+    (let few = (rule-valid p t r valid (sym e)).few_variables in
+    let same : sum ≡ r.left + r.free = omega (arith, few) in same)
+    ∙ ap variable_count e

@@ -1,3 +1,10 @@
-pub mod LookupLaws
 pub mod GroundLaws
 pub mod TakingLaws
+pub mod RefusalLaws
+pub mod StageLaws
+pub mod KeyLaws
+pub mod PartLaws
+pub mod LevelLaws
+pub mod MissingLaws
+pub mod SizeLaws
+pub mod ListLaws

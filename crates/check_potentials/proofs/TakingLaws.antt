@@ -6,8 +6,8 @@ use Rattle.std.proofs.lemmas.List.{drop_all, length-map}
 use Rattle.potential_nodes.specs.potentials.Sums as sums
 use Rattle.potential_nodes.specs.Facts.{same_charge}
 use Rattle.potential_nodes.specs.Combinations.{without_charge}
-use Rattle.check_potentials.specs.declared.facts.Charge.{Charge}
-use Rattle.check_potentials.specs.Views.{charge_of}
+use Rattle.potential_types.specs.declared.facts.Charge.{Charge}
+use Rattle.potential_types.specs.Views.{charge_of}
 
 -- what is found behind a prefix
 abbrev pub behind : List sums.Charge → Option (List sums.Charge) → Option (List sums.Charge)

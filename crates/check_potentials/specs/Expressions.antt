@@ -4,7 +4,7 @@ use Rattle.poly_terms.specs.model.Terms.{Term, Variable}
 use Rattle.potential_nodes.specs.PolynomialTerms.{term_at}
 use Rattle.check_potentials.specs.declared.expressions.Unknowns.{Unknowns}
 use Rattle.check_potentials.specs.declared.expressions.Unknowns.TheVariants.{Own, New}
-use Rattle.check_potentials.specs.Views.{row_terms_of}
+use Rattle.check_potentials.specs.Grounds.{row_terms_of}
 
 -- the expression that stands for a variable
 abbrev pub put_of : Unknowns → ℕ → Term

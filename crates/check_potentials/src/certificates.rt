@@ -5,11 +5,12 @@ ghost use Rattle.poly_terms.specs.Views.{term_of};
 ghost use Rattle.signed_bounds.specs.Safe.{expands_to_squares as expands};
 ghost use Rattle.potential_nodes.specs.Certificates.{shows as is_shown, summand_term, rest as what_is_left};
 ghost use Rattle.potential_nodes.specs.Certificates.{are_opposite as is_opposite, all_opposite as each_opposite};
-ghost use Rattle.check_potentials.specs.Views.{row_terms_of, summand_of, summands_of};
+ghost use Rattle.check_potentials.specs.Grounds.{row_terms_of};
+ghost use Rattle.potential_types.specs.Views.{summand_of, summands_of};
 
 use crate::expressions::row_at;
-use crate::summand::Summand;
 use poly_terms::{Expr, Memory, Row};
+use potential_types::Summand;
 use signed_within::expands_to_squares;
 use std::alloc::Global;
 
@@ -19,7 +20,7 @@ use std::alloc::Global;
 /// # Errors
 ///
 /// `Memory` where an allocation fails.
-pub fn shows(
+pub(crate) fn shows(
     alloc: Global,
     rows: &[Row],
     summands: &[Summand],

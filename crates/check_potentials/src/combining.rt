@@ -1,29 +1,28 @@
 //! Facts that are composed of others.
 
-ghost use Rattle.std.specs.Prelude.{◌≡◌, [], ◌∷◌, IfOk, option_map, map};
+ghost use Rattle.std.specs.Prelude.{◌≡◌, [], ◌∷◌, Some, IfOk, option_map, map};
 ghost use Rattle.potential_nodes.specs.Checks.{first_refused};
 ghost use Rattle.potential_nodes.specs.Combinations.{combination_checks};
-ghost use Rattle.check_potentials.specs.Grounds.{plain_ground};
-ghost use Rattle.check_potentials.specs.Views.{reason_of};
+ghost use Rattle.potential_nodes.specs.potentials.model.Programs.{Program};
+ghost use Rattle.potential_ground.specs.RowTerms.{ground_of};
+ghost use Rattle.signed_bounds.specs.Safe.{expands_to_squares as expands};
+ghost use Rattle.potential_types.specs.Views.{reason_of};
 ghost use Rattle.poly_terms.specs.Views.{poly_of};
 ghost use Rattle.signed_bounds.specs.Views.{signed_of};
-ghost use Rattle.potential_nodes.specs.Facts.{once_charge as charge_once, one_form as form_one};
 ghost use Rattle.potential_nodes.specs.Combinations.{lesser as lesser_of, product_fact as fact_of_product};
 ghost use Rattle.potential_nodes.specs.Combinations.{least_fact as fact_of_least, added_fact as fact_of_sum};
 ghost use Rattle.potential_nodes.specs.Combinations.{composed as composed_of};
 ghost use Rattle.potential_nodes.specs.Combinations.{without_charge as charges_without, are_among as all_among};
-ghost use Rattle.potential_nodes.specs.Combinations.{among_fact as fact_among};
-ghost use Rattle.check_potentials.specs.Views.{charge_of, fact_view, combination_of};
+ghost use Rattle.potential_nodes.specs.Combinations.{among_fact as fact_among, bound_of as bound_of_fact};
+ghost use Rattle.potential_nodes.specs.Facts.{SumFact, PeakFact};
+ghost use Rattle.potential_types.specs.Views.{charge_of, fact_view, combination_of};
 ghost use Rattle.check_potentials.specs.Combining.{IsTakenFrom};
 
-use crate::comparing::{same_charge, same_charges, same_polynomial};
-use crate::copies::{copied_bound, copied_charges, copied_poly};
-use crate::facts::{Charge, SignedFact};
-use crate::ground::Ground;
-use crate::lookup::{numbered, peak_bound, sum_bound};
-use crate::nodes::Combination;
-use crate::reason::Reason;
-use poly_terms::{Memory, Monomial, Poly};
+use poly_terms::{Memory, Poly};
+use potential_types::{
+    Charge, Combination, Reason, SignedFact, copied_bound, copied_charges, copied_poly, numbered,
+    peak_bound, same_charge, same_charges, same_polynomial, time_bound,
+};
 use signed_bounds::Signed;
 use signed_within::is_within;
 use std::alloc::Global;
@@ -33,28 +32,34 @@ use std::alloc::Global;
 /// # Errors
 ///
 /// `Memory` where an allocation fails.
-pub fn combination_refusal(
+pub(crate) fn combination_refusal(
     alloc: Global,
-    ground: Ground,
     facts: &[SignedFact],
     node: &Combination,
     bound: &Signed,
 ) -> Result<Option<Reason>, Memory>
-    ensures { IfOk result (λ o. option_map reason_of o ≡ first_refused (combination_checks (plain_ground ground.entry)
-        (map fact_view facts.now) (combination_of node.now) (signed_of bound.now))) }
+    ensures { IfOk result (λ o. (p : Program) → option_map reason_of o ≡ first_refused
+        (combination_checks (ground_of p expands) (map fact_view facts.now) (combination_of node.now) (signed_of bound.now))) }
 {
-    let Some(fact) = composed(alloc, facts, node)? else {
-        return Ok(Some(Reason::BadShape));
-    };
-    let own = match &fact {
-        SignedFact::Sum(_, own) => own,
-        SignedFact::Peak(_, _, own) => own,
-        SignedFact::Size(_, _, own) => own,
-    };
-    if is_within(alloc, 1, own, bound)? {
-        Ok(None)
-    } else {
-        Ok(Some(Reason::LowBound))
+    match composed(alloc, facts, node)? {
+        None => Ok(Some(Reason::BadShape)),
+        Some(fact) => {
+            if is_within(alloc, 1, bound_of(&fact), bound)? {
+                return Ok(None);
+            }
+            Ok(Some(Reason::LowBound))
+        }
+    }
+}
+
+// The bound of a fact.
+fn bound_of(fact: &SignedFact) -> &Signed
+    ensures { signed_of result.now ≡ bound_of_fact (fact_view fact.now) }
+{
+    match fact {
+        SignedFact::Sum(_, bound) => bound,
+        SignedFact::Peak(_, _, bound) => bound,
+        SignedFact::Size(_, _, bound) => bound,
     }
 }
 
@@ -63,7 +68,7 @@ pub fn combination_refusal(
 /// # Errors
 ///
 /// `Memory` where an allocation fails.
-pub fn composed(
+pub(crate) fn composed(
     alloc: Global,
     facts: &[SignedFact],
     node: &Combination,
@@ -77,8 +82,7 @@ pub fn composed(
             time,
             peak,
         } => {
-            let once = one_charge(alloc, *rule)?;
-            let often = sum_bound(facts, &once, *time);
+            let often = time_bound(facts, *rule, *time);
             let high = peak_bound(facts, *rule, form, *peak);
             product_fact(alloc, *rule, form, often, high)
         }
@@ -86,28 +90,6 @@ pub fn composed(
         Combination::Add(a, b) => added_fact(alloc, numbered(facts, *a), numbered(facts, *b)),
         Combination::Among(goal, a) => among_fact(alloc, goal, numbered(facts, *a)),
     }
-}
-
-// The polynomial 1.
-fn one_poly(alloc: Global) -> Result<Poly, Memory>
-    ensures { IfOk result (λ p. poly_of p ≡ form_one) }
-{
-    let mut terms = Vec::new(alloc);
-    terms.push(Monomial {
-        coef: 1,
-        vars: Vec::new(alloc),
-    })?;
-    Ok(Poly { terms })
-}
-
-// The charge of 1 for each step by a rule, alone.
-fn one_charge(alloc: Global, rule: u32) -> Result<Vec<Charge>, Memory>
-    ensures { IfOk result (λ cs. map charge_of cs.items ≡ charge_once rule ∷ []) }
-{
-    let form = one_poly(alloc)?;
-    let mut charges = Vec::new(alloc);
-    charges.push(Charge { rule, form })?;
-    Ok(charges)
 }
 
 // The sum of a form of a rule by its time and its peak.
@@ -121,16 +103,17 @@ fn product_fact(
     ensures { IfOk result (λ o. option_map fact_view o ≡ fact_of_product rule (poly_of form.now)
         (option_map (λ b. signed_of b.now) often.entry) (option_map (λ b. signed_of b.now) high.entry)) }
 {
-    match (often, high) {
-        (Some(often), Some(high)) => {
-            let form = copied_poly(alloc, form)?;
-            let mut charges = Vec::new(alloc);
-            charges.push(Charge { rule, form })?;
-            let parts = both(alloc, often, high)?;
-            Ok(Some(SignedFact::Sum(charges, Signed::Prod(parts))))
-        }
-        _ => Ok(None),
-    }
+    let Some(times) = often else {
+        return Ok(None);
+    };
+    let Some(peak) = high else {
+        return Ok(None);
+    };
+    let form = copied_poly(alloc, form)?;
+    let mut charges = Vec::new(alloc);
+    charges.push(Charge { rule, form })?;
+    let parts = both(alloc, times, peak)?;
+    Ok(Some(SignedFact::Sum(charges, Signed::Prod(parts))))
 }
 
 // Two bounds, in order.
@@ -162,22 +145,63 @@ fn least_fact(
     ensures { IfOk result (λ o. option_map fact_view o
         ≡ fact_of_least (option_map (λ f. fact_view f.now) a.entry) (option_map (λ f. fact_view f.now) b.entry)) }
 {
-    match (a, b) {
-        (Some(SignedFact::Sum(goal, a)), Some(SignedFact::Sum(other, b))) => {
+    let Some(first) = a else {
+        return Ok(None);
+    };
+    let Some(second) = b else {
+        return Ok(None);
+    };
+    match first {
+        SignedFact::Sum(goal, bound) => least_sum(alloc, goal, bound, second),
+        SignedFact::Peak(rule, form, bound) => least_peak(alloc, *rule, form, bound, second),
+        SignedFact::Size(_, _, _) => Ok(None),
+    }
+}
+
+// The lesser of two bounds, where the second is on the same sum.
+fn least_sum(
+    alloc: Global,
+    goal: &[Charge],
+    bound: &Signed,
+    second: &SignedFact,
+) -> Result<Option<SignedFact>, Memory>
+    ensures { IfOk result (λ o. option_map fact_view o
+        ≡ fact_of_least (Some (SumFact (map charge_of goal.now) (signed_of bound.now))) (Some (fact_view second.now))) }
+{
+    match second {
+        SignedFact::Sum(other, upper) => {
             if !same_charges(goal, other) {
                 return Ok(None);
             }
             let charges = copied_charges(alloc, goal)?;
-            Ok(Some(SignedFact::Sum(charges, lesser(alloc, a, b)?)))
+            Ok(Some(SignedFact::Sum(charges, lesser(alloc, bound, upper)?)))
         }
-        (Some(SignedFact::Peak(rule, form, a)), Some(SignedFact::Peak(other, covered, b))) => {
-            if *rule != *other || !same_polynomial(form, covered) {
+        SignedFact::Peak(_, _, _) => Ok(None),
+        SignedFact::Size(_, _, _) => Ok(None),
+    }
+}
+
+// The lesser of two bounds, where the second is on the same peak.
+fn least_peak(
+    alloc: Global,
+    rule: u32,
+    form: &Poly,
+    bound: &Signed,
+    second: &SignedFact,
+) -> Result<Option<SignedFact>, Memory>
+    ensures { IfOk result (λ o. option_map fact_view o
+        ≡ fact_of_least (Some (PeakFact rule (poly_of form.now) (signed_of bound.now))) (Some (fact_view second.now))) }
+{
+    match second {
+        SignedFact::Sum(_, _) => Ok(None),
+        SignedFact::Peak(other, covered, upper) => {
+            if !(rule == *other && same_polynomial(form, covered)) {
                 return Ok(None);
             }
             let form = copied_poly(alloc, form)?;
-            Ok(Some(SignedFact::Peak(*rule, form, lesser(alloc, a, b)?)))
+            Ok(Some(SignedFact::Peak(rule, form, lesser(alloc, bound, upper)?)))
         }
-        _ => Ok(None),
+        SignedFact::Size(_, _, _) => Ok(None),
     }
 }
 
@@ -190,15 +214,39 @@ fn added_fact(
     ensures { IfOk result (λ o. option_map fact_view o
         ≡ fact_of_sum (option_map (λ f. fact_view f.now) a.entry) (option_map (λ f. fact_view f.now) b.entry)) }
 {
-    match (a, b) {
-        (Some(SignedFact::Sum(goal, a)), Some(SignedFact::Sum(other, b))) => {
+    let Some(first) = a else {
+        return Ok(None);
+    };
+    let Some(second) = b else {
+        return Ok(None);
+    };
+    match first {
+        SignedFact::Sum(goal, bound) => added_sum(alloc, goal, bound, second),
+        SignedFact::Peak(_, _, _) => Ok(None),
+        SignedFact::Size(_, _, _) => Ok(None),
+    }
+}
+
+// A sum and a second one together.
+fn added_sum(
+    alloc: Global,
+    goal: &[Charge],
+    bound: &Signed,
+    second: &SignedFact,
+) -> Result<Option<SignedFact>, Memory>
+    ensures { IfOk result (λ o. option_map fact_view o
+        ≡ fact_of_sum (Some (SumFact (map charge_of goal.now) (signed_of bound.now))) (Some (fact_view second.now))) }
+{
+    match second {
+        SignedFact::Sum(other, upper) => {
             let mut charges = copied_charges(alloc, goal)?;
             let mut more = copied_charges(alloc, other)?;
             charges.append(&mut more)?;
-            let parts = both(alloc, a, b)?;
+            let parts = both(alloc, bound, upper)?;
             Ok(Some(SignedFact::Sum(charges, Signed::Sum(parts))))
         }
-        _ => Ok(None),
+        SignedFact::Peak(_, _, _) => Ok(None),
+        SignedFact::Size(_, _, _) => Ok(None),
     }
 }
 
@@ -211,15 +259,19 @@ fn among_fact(
     ensures { IfOk result (λ o. option_map fact_view o
         ≡ fact_among (map charge_of goal.now) (option_map (λ f. fact_view f.now) a.entry)) }
 {
-    match a {
-        Some(SignedFact::Sum(charges, bound)) => {
+    let Some(fact) = a else {
+        return Ok(None);
+    };
+    match fact {
+        SignedFact::Sum(charges, bound) => {
             if !are_among(goal, copied_charges(alloc, charges)?) {
                 return Ok(None);
             }
             let goal = copied_charges(alloc, goal)?;
             Ok(Some(SignedFact::Sum(goal, copied_bound(alloc, bound)?)))
         }
-        _ => Ok(None),
+        SignedFact::Peak(_, _, _) => Ok(None),
+        SignedFact::Size(_, _, _) => Ok(None),
     }
 }
 

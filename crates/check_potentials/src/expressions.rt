@@ -1,19 +1,19 @@
 //! Rows and polynomials as expressions.
 
 ghost use Rattle.std.specs.Prelude.{◌≡◌, IfOk};
-ghost use Rattle.poly_terms.specs.Views.{term_of, monomial_of, monomials_of, poly_of, form_of};
+ghost use Rattle.poly_terms.specs.Views.{term_of, monomial_of, monomials_of, form_of};
 ghost use Rattle.potential_nodes.specs.PolynomialTerms.{product_term, monomial_term, polynomial_term, form_term};
 ghost use Rattle.potential_nodes.specs.PolynomialTerms.{form_after, term_at as term_in};
 ghost use Rattle.potential_ground.specs.RowTerms.{coefficients_term, form_expression};
-ghost use Rattle.check_potentials.specs.Views.{row_terms_of};
 ghost use Rattle.check_potentials.specs.Expressions.{put_of};
+ghost use Rattle.check_potentials.specs.Grounds.{row_terms_of};
 
-use poly_terms::{Expr, Memory, Monomial, Poly, Row};
+use poly_terms::{Expr, Memory, Monomial, Row};
 use std::alloc::{AllocError, Global};
 
 /// What stands for the variables of a polynomial.
 #[derive(Clone, Copy)]
-pub enum Unknowns<'a> {
+pub(crate) enum Unknowns<'a> {
     /// The variables themselves.
     Own,
     /// New values, a form for each variable, and 0 where there is none.
@@ -42,7 +42,7 @@ fn coefficients_expr(alloc: Global, variable: u32, coefs: &[i128]) -> Result<Exp
 /// # Errors
 ///
 /// `Memory` where an allocation fails.
-pub fn row_expr(alloc: Global, row: &Row) -> Result<Expr, Memory>
+pub(crate) fn row_expr(alloc: Global, row: &Row) -> Result<Expr, Memory>
     ensures { IfOk result (λ e. term_of e ≡ form_expression (form_of row.now)) }
 {
     let coefficients = coefficients_expr(alloc, 0, &row.coefs)?;
@@ -54,7 +54,7 @@ pub fn row_expr(alloc: Global, row: &Row) -> Result<Expr, Memory>
 /// # Errors
 ///
 /// `Memory` where an allocation fails.
-pub fn row_at(alloc: Global, rows: &[Row], number: u32) -> Result<Expr, Memory>
+pub(crate) fn row_at(alloc: Global, rows: &[Row], number: u32) -> Result<Expr, Memory>
     ensures { IfOk result (λ e. term_of e ≡ term_in (row_terms_of rows.now) number) }
 {
     match rows.get(number as usize) {
@@ -109,24 +109,28 @@ fn polynomial_expr(alloc: Global, unknowns: Unknowns, monomials: &[Monomial]) ->
     }
 }
 
-/// A polynomial over its own variables as an expression.
+/// A sum of monomials over its own variables as an expression.
 ///
 /// # Errors
 ///
 /// `Memory` where an allocation fails.
-pub fn form_expr(alloc: Global, p: &Poly) -> Result<Expr, Memory>
-    ensures { IfOk result (λ e. term_of e ≡ form_term (poly_of p.now)) }
+pub(crate) fn form_expr(alloc: Global, monomials: &[Monomial]) -> Result<Expr, Memory>
+    ensures { IfOk result (λ e. term_of e ≡ form_term (monomials_of monomials.now)) }
 {
-    polynomial_expr(alloc, Unknowns::Own, &p.terms)
+    polynomial_expr(alloc, Unknowns::Own, monomials)
 }
 
-/// A polynomial with new values in place of its variables as an expression.
+/// A sum of monomials with new values in place of its variables as an expression.
 ///
 /// # Errors
 ///
 /// `Memory` where an allocation fails.
-pub fn form_after_expr(alloc: Global, new_values: &[Row], p: &Poly) -> Result<Expr, Memory>
-    ensures { IfOk result (λ e. term_of e ≡ form_after (row_terms_of new_values.now) (poly_of p.now)) }
+pub(crate) fn form_after_expr(
+    alloc: Global,
+    new_values: &[Row],
+    monomials: &[Monomial],
+) -> Result<Expr, Memory>
+    ensures { IfOk result (λ e. term_of e ≡ form_after (row_terms_of new_values.now) (monomials_of monomials.now)) }
 {
-    polynomial_expr(alloc, Unknowns::New(new_values), &p.terms)
+    polynomial_expr(alloc, Unknowns::New(new_values), monomials)
 }

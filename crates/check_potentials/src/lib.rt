@@ -1,40 +1,27 @@
-//! Lemmas about potentials as the code holds them, with their plain forms, and parts of what is checked of them: whether
-//! certificates show an expression, whether a lemma is within the limits, and which polynomials and charges are the same.
+//! Checks of lemmas about potentials, one after the other.
 //!
-//! Builds on `potential_nodes` and `potential_ground` (what is checked, and that accepted lemmas hold), `signed_within`
-//! (expressions that are never negative) and `poly_terms` (expressions). Main guarantee: `shows` decides exactly whether
-//! the summands of a certificate show a goal over rows.
+//! Builds on `potential_nodes` and `potential_ground` (what is checked, and that accepted lemmas hold), `potential_types`
+//! (lemmas as the code holds them) and `signed_within` (the comparison of bounds). Main guarantee: `refusal` answers
+//! exactly the first reason for which a lemma isn't accepted over a program's prepared rows, `check_lemmas` the first
+//! lemma of a list that isn't, and the facts of accepted lemmas hold on all runs of the program.
 #![tactic(auto)]
 
 mod certificates;
 mod combining;
-mod comparing;
-mod copies;
 mod expressions;
-mod facts;
+mod falls;
+mod functions;
+mod gains;
 mod ground;
-mod limits;
-mod lookup;
-mod nodes;
-mod reason;
+mod lemmas;
+mod moves;
+mod peaks;
+mod phases;
+mod phasing;
 mod rows;
-mod summand;
-mod tables;
+mod shapes;
+mod sized;
 
-pub use certificates::shows;
-pub use combining::{combination_refusal, composed};
-pub use comparing::{reads_below, same_charge, same_charges, same_polynomial};
-pub use copies::{copied_bound, copied_charges, copied_poly};
-pub use expressions::{form_after_expr, form_expr};
-pub use facts::{Charge, SignedFact};
 pub use ground::Ground;
-pub use limits::is_within_limits;
-pub use nodes::{
-    Combination, CountedRule, FallNode, Payment, PeakNode, PhaseMove, PhasesNode, RowNode,
-    SignedLemma, SignedNode, SizedNode,
-};
+pub use lemmas::{LemmaFault, Refusal, check_lemmas, fact_of, refusal};
 pub use poly_terms::Memory;
-pub use reason::Reason;
-pub use rows::row_refusal;
-pub use summand::Summand;
-pub use tables::{Move, PotentialTable, SymbolFunction};

@@ -4,16 +4,14 @@ ghost use Rattle.std.specs.Prelude.{◌≡◌, IfOk, option_map};
 ghost use Rattle.signed_bounds.specs.Views.{signed_of};
 ghost use Rattle.potential_nodes.specs.Checks.{first_refused};
 ghost use Rattle.potential_nodes.specs.PlainPeaks.{row_checks};
-ghost use Rattle.check_potentials.specs.Views.{reason_of, row_node_of};
+ghost use Rattle.potential_types.specs.Views.{reason_of, row_node_of};
 ghost use Rattle.check_potentials.specs.Grounds.{IsPrepared, plain_ground};
 
 use crate::certificates::shows;
-use crate::comparing::reads_below;
 use crate::expressions::form_expr;
 use crate::ground::{Ground, rows_of, variables_of};
-use crate::nodes::RowNode;
-use crate::reason::Reason;
 use poly_terms::{Expr, Memory};
+use potential_types::{Reason, RowNode, reads_below};
 use signed_bounds::Signed;
 use signed_within::is_within;
 use std::alloc::Global;
@@ -23,7 +21,7 @@ use std::alloc::Global;
 /// # Errors
 ///
 /// `Memory` where an allocation fails.
-pub fn row_refusal(
+pub(crate) fn row_refusal(
     alloc: Global,
     ground: Ground,
     node: &RowNode,
@@ -36,7 +34,7 @@ pub fn row_refusal(
     if !reads_below(variables_of(ground, node.rule), &node.form) {
         return Ok(Some(Reason::BadShape));
     }
-    let form = form_expr(alloc, &node.form)?;
+    let form = form_expr(alloc, &node.form.terms)?;
     let goal = Expr::difference(alloc, Expr::Num(node.number as i128), form)?;
     if !shows(alloc, rows_of(ground, node.rule), &node.certificate, goal)? {
         return Ok(Some(Reason::BadFloor(node.rule)));

@@ -1,5 +1,5 @@
 -- Positions of factors that are taken.
-use Rattle.std.specs.Prelude.{◌≡◌, ℕ, ◌<◌, Bool, List, length, remove, Option, Some, None}
+use Rattle.std.specs.Prelude.{◌≡◌, ℕ, ◌<◌, Bool, true, false, List, length, remove, Option, Some, None}
 use Rattle.signed_bounds.specs.Bounds.{Signed}
 use Rattle.signed_bounds.specs.Covers.{without_first}
 
@@ -11,3 +11,8 @@ IsTakenBy without bs (Some i) = (i < length bs) × (without bs ≡ Some (remove 
 -- no factor passes the test; or the one at a position is the first that does
 abbrev pub IsFirstTaken : (Signed → Bool) → List Signed → Option ℕ → Type 0
 IsFirstTaken test bs o = IsTakenBy (without_first test) bs o
+
+-- one is taken, and these are left; or none is
+abbrev pub IsTakenOut : Option (List Signed) → Bool → List Signed → Type 0
+IsTakenOut o true left = o ≡ Some left
+IsTakenOut o false left = o ≡ None

@@ -3,7 +3,7 @@
 ghost use Rattle.std.specs.Prelude.{◌≡◌, ◌-◌, if◌then◌else◌, length, IfOk};
 ghost use Rattle.signed_bounds.specs.Safe.{expands_to_squares as expands};
 ghost use Rattle.signed_bounds.specs.Covers.{dominated as are_dominated};
-ghost use Rattle.signed_bounds.specs.Covers.{covers as is_covering};
+ghost use Rattle.signed_bounds.specs.Covers.{covers as is_covering, fits_whole as is_fitting_whole};
 ghost use Rattle.signed_within.specs.Tests.{lists_match};
 ghost use Rattle.signed_within.specs.Views.{signed_at, products_at, times_of, counted};
 ghost use Rattle.signed_within.specs.Taking.{IsUsedUp, AreEqualUsed, IsWithoutWhole, IsWithoutProduct, IsWholeAt};
@@ -138,6 +138,20 @@ fn without_whole(
     }
 }
 
+// Whether so many of another product as a whole are at least n times the product.
+fn is_enough_whole(
+    alloc: Global,
+    n: u128,
+    p: &Product,
+    left: u128,
+    q: &Product,
+) -> Result<bool, Memory>
+    ensures { IfOk result (λ r. r
+        ≡ is_fitting_whole expands n (signed_at p.now.factors.items) left (signed_at q.now.factors.items)) }
+{
+    fits_whole(alloc, n, &p.factors, left, &q.factors)
+}
+
 // The position of the first product that as a whole is at least n times the product.
 fn whole_position(
     alloc: Global,
@@ -150,7 +164,8 @@ fn whole_position(
     ensures { IfOk result (λ o. IsWholeAt n (signed_at p.now.factors.items) qs.now left.now o) }
 {
     for i in 0..qs.len() {
-        if fits_whole(alloc, n, &p.factors, left[i], &qs[i].factors)? {
+        let is_enough = is_enough_whole(alloc, n, p, left[i], &qs[i])?;
+        if is_enough {
             return Ok(Some(i));
         }
     }

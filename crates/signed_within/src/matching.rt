@@ -4,7 +4,7 @@ ghost use Rattle.std.specs.Prelude.{◌≡◌, IfOk};
 ghost use Rattle.signed_bounds.specs.Views.{signed_of};
 ghost use Rattle.signed_within.specs.Views.{signed_at};
 ghost use Rattle.signed_within.specs.Tests.{takes as may_take, without, lists_match};
-ghost use Rattle.signed_within.specs.Positions.{IsFirstTaken, IsTakenBy};
+ghost use Rattle.signed_within.specs.Positions.{IsFirstTaken, IsTakenBy, IsTakenOut};
 
 use crate::fitting::{factor_fits, is_equal};
 use crate::test::Test;
@@ -28,15 +28,32 @@ pub(crate) fn factors_match(
     let mut left = Vec::new(alloc);
     left.extend_from_slice(others)?;
     for i in 0..factors.len() {
-        let taken = position_taken(alloc, test, factors[i], &left)?;
-        match taken {
-            None => return Ok(false),
-            Some(position) => {
-                let _ = left.remove(position);
-            }
+        let is_taken = take_one(alloc, test, factors[i], &mut left)?;
+        if !is_taken {
+            return Ok(false);
         }
     }
     Ok(left.is_empty())
+}
+
+// Takes the factor that a factor takes out of the others, and says whether there is one.
+fn take_one(
+    alloc: Global,
+    test: Test,
+    factor: &Signed,
+    left: &mut Vec<&Signed>,
+) -> Result<bool, Memory>
+    ensures { IfOk result (λ taken. IsTakenOut (without test (signed_of factor.now) (signed_at left.old.items)) taken
+        (signed_at left.new.items)) }
+{
+    let found = position_taken(alloc, test, factor, left)?;
+    match found {
+        None => Ok(false),
+        Some(position) => {
+            let _ = left.remove(position);
+            Ok(true)
+        }
+    }
 }
 
 // The position of the factor that a factor takes.

@@ -85,7 +85,8 @@ fn products_of_product<'a>(alloc: Global, parts: &'a [Signed]) -> Result<Vec<Pro
     let mut products = one_product(alloc, number(alloc, 1))?;
     for part in parts {
         let factors = products_of(alloc, part)?;
-        products = multiplied(alloc, &products, &factors)?;
+        let longer = multiplied(alloc, &products, &factors)?;
+        products = longer;
     }
     Ok(products)
 }

@@ -1,7 +1,7 @@
 use Rattle.std.proofs.Common.{◌≡◌, drop}
 use Rattle.signed_bounds.specs.Safe.{expands_to_squares}
 use Rattle.potential_nodes.specs.Certificates.{all_opposite}
-use Rattle.check_potentials.specs.Views.{row_terms_of, summands_of}
+use Rattle.potential_types.specs.Views.{row_terms_of, summands_of}
 use Rattle.check_potentials.proofs.certificates.all_opposite.Given as goal
 
 -- what is left decides

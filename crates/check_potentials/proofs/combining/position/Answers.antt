@@ -1,7 +1,7 @@
 use Rattle.std.proofs.Common.{◌≡◌, ◌<◌, length, take, drop, map, ℕ, sym, subst, ◌∙◌, add-one, arith}
 use Rattle.std.proofs.lemmas.List.{length-map}
 use Rattle.potential_nodes.specs.Combinations.{without_charge}
-use Rattle.check_potentials.specs.Views.{charge_of}
+use Rattle.potential_types.specs.Views.{charge_of}
 use Rattle.check_potentials.proofs.TakingLaws.{behind, first_fails, first_passes, first_none, charge_of-get}
 use Rattle.check_potentials.proofs.combining.position.Goals as goal
 

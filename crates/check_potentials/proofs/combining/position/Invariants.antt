@@ -1,6 +1,6 @@
 use Rattle.std.proofs.Common.{◌≡◌, take, drop, map}
 use Rattle.potential_nodes.specs.Combinations.{without_charge}
-use Rattle.check_potentials.specs.Views.{charge_of}
+use Rattle.potential_types.specs.Views.{charge_of}
 use Rattle.check_potentials.proofs.TakingLaws.{behind}
 use Rattle.check_potentials.proofs.combining.position.Given as goal
 

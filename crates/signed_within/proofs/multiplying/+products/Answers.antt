@@ -28,22 +28,24 @@ products_of_product-products_of-requires t c = (
   ),
 )
 
-pub products_of_product-multiplied-requires : goal.products_of_product-multiplied-requires
-products_of_product-multiplied-requires t c =
-    factors_limited c.args.parts.now c.loop-part.part-index c.part-item.result
+pub products_of_product-multiplied-longer-requires : goal.products_of_product-multiplied-longer-requires
+products_of_product-multiplied-longer-requires t c =
+    rw (c.deref.ensures.value, c.deref-in-loop-part.ensures.value)
+    (factors_limited c.args.parts.now c.loop-part.part-index c.part-item.result
     (times_sum (products_at c.loop-part.products.items)) constant_limit c.in_ok-factors.factors.items c.loop-part-test.true
-    c.part-item.is c.in_ok-factors.ensures c.loop-part.invariant.limited
+    c.part-item.is c.in_ok-factors.ensures c.loop-part.invariant.limited)
 
 pub products_of_product-loop-part-preserved : goal.products_of_product-loop-part-preserved
 products_of_product-loop-part-preserved t c =
+    let made = rw (c.deref.ensures.value, c.deref-in-loop-part.ensures.value) at c.in_ok-longer.ensures in
     let left = number_sum_of_product (loops.rest c.args.parts.now (c.loop-part.part-index + 1)) in
-    let whole = product-times c.loop-part.products.items c.in_ok-factors.factors.items c.in_ok-products.products.items
-    (signed_of c.part-item.result) c.in_ok-factors.ensures c.in_ok-products.ensures in
+    let whole = product-times c.loop-part.products.items c.in_ok-factors.factors.items c.in_ok-longer.longer.items
+    (signed_of c.part-item.result) c.in_ok-factors.ensures made in
     let grown = mul-le-mul_right left whole in
     record {
       made = product-more c.args.parts.now c.loop-part.part-index c.part-item.result c.loop-part.products.items
-          c.in_ok-factors.factors.items c.in_ok-products.products.items _ c.loop-part-test.true c.part-item.is
-          c.in_ok-factors.ensures c.in_ok-products.ensures c.loop-part.invariant.made;
+          c.in_ok-factors.factors.items c.in_ok-longer.longer.items _ c.loop-part-test.true c.part-item.is
+          c.in_ok-factors.ensures made c.loop-part.invariant.made;
       limited = omega (
         arith,
         grown,

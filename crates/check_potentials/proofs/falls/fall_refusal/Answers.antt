@@ -1,0 +1,64 @@
+use Rattle.std.proofs.Common.{◌≡◌, ◌++◌, ◌∙◌, List, [], ◌∷◌, Bool, false, true, map, refl, sym, ap, subst, Option, Some, None}
+use Rattle.std.specs.Prelude.{IfOk, option_map}
+use Rattle.potential_nodes.specs.Checks as checks
+use Rattle.signed_bounds.specs.Views.{signed_of}
+use Rattle.potential_nodes.specs.Checks.{BadShape}
+use Rattle.potential_nodes.specs.Facts.{is_never}
+use Rattle.potential_nodes.specs.Tables.{missing_checks, move_check}
+use Rattle.potential_nodes.specs.Falls.{amount_at, fall_checks}
+use Rattle.potential_types.specs.Views.{fact_view, fall_of, reason_of}
+use Rattle.check_potentials.specs.Grounds.{plain_ground}
+use Rattle.check_potentials.specs.Stages.{fall_shape, fall_missing, fall_moves, fall_payments}
+use Rattle.check_potentials.proofs.RefusalLaws.{misshapen, well_shaped, stops_behind, passes_behind}
+use Rattle.check_potentials.proofs.StageLaws.{fall-shapes}
+use Rattle.check_potentials.proofs.falls.fall_refusal.Goals as goal
+
+pub returns-then-not-is_right : goal.returns-then-not-is_right
+returns-then-not-is_right c =
+    let g = plain_ground c.args.ground in
+    let facts = map fact_view c.args.facts.now in
+    let n = fall_of c.args.node.now in
+    let b = signed_of c.args.bound.now in
+    misshapen BadShape (fall_shape g facts n) (fall_missing g facts n b) (fall-shapes g facts n)
+    (sym c.if-not-is_right.true ∙ c.has_fall_shape-is_right.ensures)
+
+pub returns-in-Some : goal.returns-in-Some
+returns-in-Some c =
+    let g = plain_ground c.args.ground in
+    let facts = map fact_view c.args.facts.now in
+    let n = fall_of c.args.node.now in
+    let b = signed_of c.args.bound.now in
+    stops_behind (fall_checks g facts n b) (missing_checks g n.potential (is_never facts)) (fall_moves g facts n b)
+    (reason_of c.in-Some.reason)
+    (well_shaped (fall_shape g facts n) (fall_missing g facts n b)
+    (sym c.if-not-is_right.false ∙ c.has_fall_shape-is_right.ensures))
+    c.in-Some.ensures
+
+pub returns-in-Some-2 : goal.returns-in-Some-2
+returns-in-Some-2 c =
+    let g = plain_ground c.args.ground in
+    let facts = map fact_view c.args.facts.now in
+    let n = fall_of c.args.node.now in
+    let b = signed_of c.args.bound.now in
+    stops_behind (fall_checks g facts n b) (map (move_check g n.potential (amount_at n)) n.potential.moves) (fall_payments g facts n b)
+    (reason_of c.in-Some-2.reason)
+    (passes_behind (fall_checks g facts n b) (missing_checks g n.potential (is_never facts)) (fall_moves g facts n b)
+    (well_shaped (fall_shape g facts n) (fall_missing g facts n b)
+    (sym c.if-not-is_right.false ∙ c.has_fall_shape-is_right.ensures))
+    c.in_default.ensures)
+    c.in-Some-2.ensures
+
+pub returns : goal.returns
+returns c =
+    let g = plain_ground c.args.ground in
+    let facts = map fact_view c.args.facts.now in
+    let n = fall_of c.args.node.now in
+    let b = signed_of c.args.bound.now in
+    subst (λ (v : Option checks.Reason). IfOk c.payments_refusal.result (λ o. option_map reason_of o ≡ v))
+    (sym (passes_behind (fall_checks g facts n b) (map (move_check g n.potential (amount_at n)) n.potential.moves) (fall_payments g facts n b)
+    (passes_behind (fall_checks g facts n b) (missing_checks g n.potential (is_never facts)) (fall_moves g facts n b)
+    (well_shaped (fall_shape g facts n) (fall_missing g facts n b)
+    (sym c.if-not-is_right.false ∙ c.has_fall_shape-is_right.ensures))
+    c.in_default.ensures)
+    c.in_default-2.ensures))
+    c.payments_refusal.ensures

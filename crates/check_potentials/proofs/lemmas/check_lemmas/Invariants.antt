@@ -1,0 +1,14 @@
+use Rattle.std.proofs.Common.{◌≡◌, ◌+◌, drop, map}
+use Rattle.potential_nodes.specs.Acceptance.{facts_after, first_refusal}
+use Rattle.potential_types.specs.Views.{fact_view, lemma_of}
+use Rattle.check_potentials.specs.Grounds.{plain_ground}
+use Rattle.check_potentials.proofs.lemmas.check_lemmas.Given as goal
+
+-- the lemmas that are left decide, behind the facts known
+abbrev pub invariant-loop-i : goal.invariant-loop-i
+invariant-loop-i l = record {
+  refused : first_refusal (plain_ground l.ground) (map fact_view l.known.items) (l.i + 1) (map lemma_of (drop l.i l.lemmas))
+      ≡ first_refusal (plain_ground l.ground) (map fact_view l.fn.facts.items) 1 (map lemma_of l.lemmas);
+  facts_behind : facts_after (map fact_view l.known.items) (map lemma_of (drop l.i l.lemmas))
+      ≡ facts_after (map fact_view l.fn.facts.items) (map lemma_of l.lemmas);
+}

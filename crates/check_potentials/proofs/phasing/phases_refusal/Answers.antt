@@ -1,0 +1,62 @@
+use Rattle.std.proofs.Common.{◌≡◌, ◌++◌, ◌∙◌, List, [], ◌∷◌, Bool, false, true, map, refl, sym, ap, subst, Option, Some, None}
+use Rattle.std.specs.Prelude.{IfOk, option_map}
+use Rattle.potential_nodes.specs.Checks as checks
+use Rattle.signed_bounds.specs.Views.{signed_of}
+use Rattle.potential_nodes.specs.Checks.{BadShape, first_refused}
+use Rattle.potential_nodes.specs.Facts.{is_never}
+use Rattle.potential_nodes.specs.Tables.{PotentialTable, missing_checks}
+use Rattle.potential_nodes.specs.PhaseNodes.{first_table, second_table, phases_checks}
+use Rattle.potential_types.specs.Views.{fact_view, phases_node_of, reason_of}
+use Rattle.check_potentials.specs.Grounds.{plain_ground}
+use Rattle.check_potentials.specs.Stages.{phase_shapes, phase_behind, phase_missing, phase_moves}
+use Rattle.check_potentials.proofs.RefusalLaws.{misshapen, well_shaped, stops_behind, passes_behind}
+use Rattle.check_potentials.proofs.StageLaws.{phase-shapes}
+use Rattle.check_potentials.proofs.phasing.phases_refusal.Goals as goal
+
+pub returns-then-not-is_right : goal.returns-then-not-is_right
+returns-then-not-is_right c =
+    let g = plain_ground c.args.ground in
+    let facts = map fact_view c.args.facts.now in
+    let n = phases_node_of c.args.node.now in
+    let b = signed_of c.args.bound.now in
+    misshapen BadShape (phase_shapes g n) (phase_behind g facts n b) (phase-shapes g n)
+    (sym c.if-not-is_right.true ∙ c.have_phase_shapes-is_right.ensures)
+
+pub returns-in-Some : goal.returns-in-Some
+returns-in-Some c =
+    let g = plain_ground c.args.ground in
+    let facts = map fact_view c.args.facts.now in
+    let n = phases_node_of c.args.node.now in
+    let b = signed_of c.args.bound.now in
+    stops_behind (phases_checks g facts n b) (missing_checks g (first_table n) (is_never facts)) (phase_missing g facts n b) (reason_of c.in-Some.reason)
+    (well_shaped (phase_shapes g n) (phase_behind g facts n b)
+    (sym c.if-not-is_right.false ∙ c.have_phase_shapes-is_right.ensures))
+    (c.in-Some.ensures ∙ (ap (λ (t : PotentialTable). first_refused (missing_checks g t (is_never facts))) c.in_ok-tables.ensures.first))
+
+pub returns-in-Some-2 : goal.returns-in-Some-2
+returns-in-Some-2 c =
+    let g = plain_ground c.args.ground in
+    let facts = map fact_view c.args.facts.now in
+    let n = phases_node_of c.args.node.now in
+    let b = signed_of c.args.bound.now in
+    stops_behind (phases_checks g facts n b) (missing_checks g (second_table g n) (is_never facts)) (phase_moves g n b) (reason_of c.in-Some-2.reason)
+    (passes_behind (phases_checks g facts n b) (missing_checks g (first_table n) (is_never facts)) (phase_missing g facts n b)
+    (well_shaped (phase_shapes g n) (phase_behind g facts n b)
+    (sym c.if-not-is_right.false ∙ c.have_phase_shapes-is_right.ensures))
+    (c.in_default.ensures ∙ (ap (λ (t : PotentialTable). first_refused (missing_checks g t (is_never facts))) c.in_ok-tables.ensures.first)))
+    (c.in-Some-2.ensures ∙ (ap (λ (t : PotentialTable). first_refused (missing_checks g t (is_never facts))) c.in_ok-tables.ensures.second))
+
+pub returns : goal.returns
+returns c =
+    let g = plain_ground c.args.ground in
+    let facts = map fact_view c.args.facts.now in
+    let n = phases_node_of c.args.node.now in
+    let b = signed_of c.args.bound.now in
+    subst (λ (v : Option checks.Reason). IfOk c.moves_refusal.result (λ o. option_map reason_of o ≡ v))
+    (sym (passes_behind (phases_checks g facts n b) (missing_checks g (second_table g n) (is_never facts)) (phase_moves g n b)
+    (passes_behind (phases_checks g facts n b) (missing_checks g (first_table n) (is_never facts)) (phase_missing g facts n b)
+    (well_shaped (phase_shapes g n) (phase_behind g facts n b)
+    (sym c.if-not-is_right.false ∙ c.have_phase_shapes-is_right.ensures))
+    (c.in_default.ensures ∙ (ap (λ (t : PotentialTable). first_refused (missing_checks g t (is_never facts))) c.in_ok-tables.ensures.first)))
+    (c.in_default-2.ensures ∙ (ap (λ (t : PotentialTable). first_refused (missing_checks g t (is_never facts))) c.in_ok-tables.ensures.second))))
+    c.moves_refusal.ensures
