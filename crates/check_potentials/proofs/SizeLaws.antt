@@ -1,7 +1,7 @@
 -- The bounds of monomials, and the rules that can come before another one, found one after the other.
 use Rattle.std.proofs.Common.{◌≡◌, ℕ, suc, ◌+◌, ◌-◌, ◌<◌, ◌≤◌, Bool, true, false, List, [], ◌∷◌, ◌++◌, map, drop, get_or, length}
 use Rattle.std.proofs.Common.{Option, Some, None, refl, ap, sym, ◌∙◌, append_assoc, arith}
-use Rattle.std.specs.Prelude.{if◌then◌else◌, filter, option_map}
+use Rattle.std.specs.Prelude.{if◌then◌else◌, ◌&&◌, filter, option_map}
 use Rattle.std.specs.List.{range_with_len}
 use Rattle.std.proofs.iter.Rest.{range_with_len_first, range_with_len_none}
 use Rattle.std.proofs.lemmas.List.{drop_more, drop_all}
@@ -10,7 +10,14 @@ use Rattle.poly_terms.specs.declared.poly.Monomial.{Monomial}
 use Rattle.poly_terms.specs.Views.{monomial_of, monomials_of}
 use Rattle.signed_bounds.specs.Bounds.{Signed, SignedParts, NoParts, Part}
 use Rattle.signed_bounds.specs.Views.{parts_of}
-use Rattle.potential_nodes.specs.PlainPeaks.{monomial_size, polynomial_size, joined_part}
+use Rattle.signed_bounds.specs.Safe.{expands_to_squares}
+use Rattle.potential_nodes.specs.potentials.model.Programs.{Program}
+use Rattle.potential_nodes.specs.Facts.{SignedFact}
+use Rattle.potential_nodes.specs.PlainPeaks.{SizedNode, monomial_size, polynomial_size, joined_part, form_size}
+use Rattle.potential_nodes.specs.PlainPeaks.{is_within_parts, size_check}
+use Rattle.potential_ground.specs.RowTerms.{ground_of}
+use Rattle.check_potentials.specs.Refusals.{all_hold}
+use Rattle.check_potentials.specs.Stages.{is_form_within, size_bounded}
 use Rattle.check_potentials.specs.Parts.{in_front}
 use Rattle.check_potentials.proofs.PartLaws.{in_front_one, in_front_none}
 
@@ -80,3 +87,18 @@ range-done test found all i n low kept =
     append-nil : (xs : List ℕ) → xs ++ [] ≡ xs
     append-nil [] = refl
     append-nil (x ∷ xs) = ap (λ (ys : List ℕ). x ∷ ys) (append-nil xs)
+
+-- the checks of bounds behind rules hold where the bound is high enough behind each
+within-parts : (p : Program) (o : Option SignedParts) (b : Signed)
+    → is_within_parts (ground_of p expands_to_squares) o b ≡ is_form_within o b
+within-parts p None b = refl
+within-parts p (Some parts) b = refl
+
+pub sizes-checked : (p : Program) (facts : List SignedFact) (n : SizedNode) (b : Signed) (es : List ℕ)
+    → all_hold (map (size_check (ground_of p expands_to_squares) facts n b) es)
+    ≡ all_hold (map (size_bounded facts n b) es)
+sizes-checked p facts n b [] = refl
+sizes-checked p facts n b (e ∷ es) =
+    ap (λ (v : Bool). v && all_hold (map (size_check (ground_of p expands_to_squares) facts n b) es))
+    (within-parts p (form_size facts n e) b)
+    ∙ ap (λ (v : Bool). is_form_within (form_size facts n e) b && v) (sizes-checked p facts n b es)

@@ -96,7 +96,11 @@ fn monomial_expr(alloc: Global, unknowns: Unknowns, monomial: &Monomial) -> Resu
 }
 
 // A sum of monomials.
-fn polynomial_expr(alloc: Global, unknowns: Unknowns, monomials: &[Monomial]) -> Result<Expr, Memory>
+fn polynomial_expr(
+    alloc: Global,
+    unknowns: Unknowns,
+    monomials: &[Monomial],
+) -> Result<Expr, Memory>
     ensures { IfOk result (λ e. term_of e ≡ polynomial_term (put_of unknowns.entry) (monomials_of monomials.now)) }
 {
     match monomials.split_first() {

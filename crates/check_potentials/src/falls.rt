@@ -1,6 +1,6 @@
 //! Potentials that pay for charges.
 
-ghost use Rattle.std.specs.Prelude.{◌≡◌, map, option_map, IfOk};
+ghost use Rattle.std.specs.Prelude.{◌≡◌, ◌≤◌, map, option_map, IfOk};
 ghost use Rattle.signed_bounds.specs.Views.{signed_of};
 ghost use Rattle.potential_nodes.specs.Checks.{first_refused};
 ghost use Rattle.potential_nodes.specs.Falls.{fall_checks, floor_check, amount_check, fall_bound as bound_of_fall};
@@ -58,6 +58,7 @@ pub(crate) fn fall_refusal(
 }
 
 // Whether a node has its shape.
+#[tactic(auto, using(crate::proofs::RefusalLaws::hold_append))]
 fn has_fall_shape(ground: Ground, facts: &[SignedFact], node: &FallNode) -> bool
     requires { IsPrepared ground }
     ensures { result
@@ -77,7 +78,8 @@ fn payments_refusal(
     node: &FallNode,
     bound: &Signed,
 ) -> Result<Option<Reason>, Memory>
-    requires { IsPrepared ground }
+    requires ground { IsPrepared ground }
+    requires den { 1 ≤ node.now.potential.den }
     ensures { IfOk result (λ o. option_map reason_of o ≡ first_refused
         (fall_payments (plain_ground ground.entry) (map fact_view facts.now) (fall_of node.now) (signed_of bound.now))) }
 {
@@ -98,6 +100,7 @@ fn bounds_refusal(
     table: &PotentialTable,
     bound: &Signed,
 ) -> Result<Option<Reason>, Memory>
+    requires { 1 ≤ table.now.den }
     ensures { IfOk result (λ o. option_map reason_of o ≡ first_refused
         (fall_bounds (plain_ground ground.entry) (map fact_view facts.now) (table_of table.now) (signed_of bound.now))) }
 {
@@ -172,7 +175,12 @@ fn is_amount_shown(alloc: Global, ground: Ground, payment: &Payment) -> Result<b
     ensures { IfOk result (λ r. r ≡ (amount_check (plain_ground ground.entry) (payment_of payment.now)).holds) }
 {
     let goal = form_expr(alloc, &payment.amount.terms)?;
-    shows(alloc, rows_of(ground, payment.rule), &payment.positive, goal)
+    shows(
+        alloc,
+        rows_of(ground, payment.rule),
+        &payment.positive,
+        goal,
+    )
 }
 
 // The first payment whose certificate doesn't show that its amount isn't negative.

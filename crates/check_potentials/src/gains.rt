@@ -83,11 +83,7 @@ pub(crate) fn peak_cited<'f>(facts: &'f [SignedFact], step: &Move) -> Option<&'f
 }
 
 // Appends a copy of a bound, where there is one.
-fn push_bound(
-    alloc: Global,
-    parts: &mut Vec<Signed>,
-    bound: Option<&Signed>,
-) -> Result<(), Memory>
+fn push_bound(alloc: Global, parts: &mut Vec<Signed>, bound: Option<&Signed>) -> Result<(), Memory>
     ensures { OnOk result ((rest : SignedParts) → in_front (signeds_of parts.new.items) rest
         ≡ in_front (signeds_of parts.old.items) (with_bound (option_map (λ b. signed_of b.now) bound.entry) rest)) }
 {

@@ -98,12 +98,7 @@ pub fn fact_of(
 }
 
 // The peak of a polynomial at the steps of a rule.
-fn peak_fact(
-    alloc: Global,
-    rule: u32,
-    form: &Poly,
-    bound: Signed,
-) -> Result<SignedFact, Memory>
+fn peak_fact(alloc: Global, rule: u32, form: &Poly, bound: Signed) -> Result<SignedFact, Memory>
     ensures { IfOk result (λ f. fact_view f ≡ PeakFact rule (poly_of form.now) (signed_of bound.entry)) }
 {
     let form = copied_poly(alloc, form)?;
@@ -225,13 +220,15 @@ pub fn check_lemmas(
     signed_bounds::squares_are_safe();
     let mut known = facts;
     for i in 0..lemmas.len() {
-        if let Some(reason) = refusal(alloc, ground, &known, &lemmas[i])? {
+        let lemma = &lemmas[i];
+        let refused = refusal(alloc, ground, &known, lemma)?;
+        if let Some(reason) = refused {
             return Err(LemmaFault::Refused(Refusal {
                 number: i + 1,
                 reason,
             }));
         }
-        let fact = fact_of(alloc, &known, &lemmas[i])?;
+        let fact = fact_of(alloc, &known, lemma)?;
         known.push(fact)?;
     }
     Ok(known)

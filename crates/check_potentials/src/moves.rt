@@ -29,7 +29,8 @@ fn has_move(facts: &[SignedFact], table: &PotentialTable, rule: u32, target: u32
     ensures { (r : plain.Rule) → r.target ≡ target → result
         ≡ is_moved (table_of table.now) (is_said_never (map fact_view facts.now)) rule r }
 {
-    !has_function(table, Some(target)) || (has_own_move(&table.moves, rule) || is_never(facts, rule))
+    !has_function(table, Some(target))
+        || (has_own_move(&table.moves, rule) || is_never(facts, rule))
 }
 
 /// The first rule that leads to a symbol with a function, has no move and may occur.
@@ -46,11 +47,7 @@ pub(crate) fn missing_move(
 }
 
 // The first of the rules of a program that leads to a symbol with a function, has no move and may occur.
-fn missing_among(
-    facts: &[SignedFact],
-    table: &PotentialTable,
-    rules: &[Rule],
-) -> Option<Reason>
+fn missing_among(facts: &[SignedFact], table: &PotentialTable, rules: &[Rule]) -> Option<Reason>
     requires { length rules.now < 2 ^ 32 - 1 }
     ensures { option_map reason_of result ≡ first_refused (missing_from (table_of table.now)
         (is_said_never (map fact_view facts.now)) 1 (map rule_of rules.now)) }
@@ -77,12 +74,7 @@ pub(crate) fn source_form<'t>(
 }
 
 // The function behind a step by a rule, over its unknowns.
-fn behind(
-    alloc: Global,
-    ground: Ground,
-    table: &PotentialTable,
-    rule: u32,
-) -> Result<Expr, Memory>
+fn behind(alloc: Global, ground: Ground, table: &PotentialTable, rule: u32) -> Result<Expr, Memory>
     requires { IsPrepared ground }
     ensures { IfOk result (λ e. term_of e ≡ behind_step (plain_ground ground.entry) (table_of table.now) rule) }
 {

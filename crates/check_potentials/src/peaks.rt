@@ -1,6 +1,6 @@
 //! Potentials that cover a polynomial of a rule.
 
-ghost use Rattle.std.specs.Prelude.{◌≡◌, [], ◌∷◌, map, option_map, filter, IfOk};
+ghost use Rattle.std.specs.Prelude.{◌≡◌, ◌≤◌, [], ◌∷◌, map, option_map, filter, IfOk};
 ghost use Rattle.signed_bounds.specs.Views.{signed_of};
 ghost use Rattle.potential_nodes.specs.Checks.{first_refused};
 ghost use Rattle.potential_nodes.specs.Peaks.{peak_checks, covered_shape, peak_parts, sets_anew};
@@ -72,6 +72,7 @@ fn has_covered_shape(ground: Ground, node: &PeakNode) -> bool
 }
 
 // Whether a node has its shape.
+#[tactic(auto, using(crate::proofs::RefusalLaws::hold_append))]
 fn has_peak_shape(ground: Ground, facts: &[SignedFact], node: &PeakNode) -> bool
     requires { IsPrepared ground }
     ensures { result
@@ -98,7 +99,8 @@ fn floor_refusal(
     node: &PeakNode,
     bound: &Signed,
 ) -> Result<Option<Reason>, Memory>
-    requires { IsPrepared ground }
+    requires ground { IsPrepared ground }
+    requires den { 1 ≤ node.now.potential.den }
     ensures { IfOk result (λ o. option_map reason_of o ≡ first_refused
         (peak_levels (plain_ground ground.entry) (map fact_view facts.now) (peak_of node.now) (signed_of bound.now))) }
 {
@@ -117,6 +119,7 @@ fn levels_refusal(
     table: &PotentialTable,
     bound: &Signed,
 ) -> Result<Option<Reason>, Memory>
+    requires { 1 ≤ table.now.den }
     ensures { IfOk result (λ o. option_map reason_of o ≡ first_refused
         (peak_bounds (plain_ground ground.entry) (map fact_view facts.now) (table_of table.now) (signed_of bound.now))) }
 {
@@ -157,6 +160,7 @@ fn is_level_within(
     level: Signed,
     bound: &Signed,
 ) -> Result<bool, Memory>
+    requires { 1 ≤ table.now.den }
     ensures { IfOk result (λ r. r ≡ is_within_with_gains (map fact_view facts.now) (table_of table.now)
         (signed_of bound.now) (signed_of level.entry)) }
 {
@@ -172,6 +176,7 @@ fn is_reset_within(
     step: &Move,
     bound: &Signed,
 ) -> Result<bool, Memory>
+    requires { 1 ≤ table.now.den }
     ensures { IfOk result (λ r. r ≡ are_within_with_gains (map fact_view facts.now) (table_of table.now)
         (signed_of bound.now) (peak_parts (map fact_view facts.now) (filter sets_anew (move_of step.now ∷ [])))) }
 {
@@ -195,6 +200,7 @@ fn are_resets_within(
     moves: &[Move],
     bound: &Signed,
 ) -> Result<bool, Memory>
+    requires { 1 ≤ table.now.den }
     ensures { IfOk result (λ r. r ≡ are_within_with_gains (map fact_view facts.now) (table_of table.now)
         (signed_of bound.now) (peak_parts (map fact_view facts.now) (filter sets_anew (map move_of moves.now)))) }
 {

@@ -34,11 +34,7 @@ pub struct Phases {
 /// # Errors
 ///
 /// `Memory` where an allocation fails.
-pub(crate) fn phases_of(
-    alloc: Global,
-    ground: Ground,
-    node: &PhasesNode,
-) -> Result<Phases, Memory>
+pub(crate) fn phases_of(alloc: Global, ground: Ground, node: &PhasesNode) -> Result<Phases, Memory>
     ensures { IfOk result (λ tables. ArePhasesOf (plain_ground ground.entry) (phases_node_of node.now) tables) }
 {
     let payments = unit_payments(alloc, &node.counted)?;

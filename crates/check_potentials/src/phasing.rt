@@ -1,6 +1,6 @@
 //! Nodes of two phases.
 
-ghost use Rattle.std.specs.Prelude.{◌≡◌, map, option_map, IfOk};
+ghost use Rattle.std.specs.Prelude.{◌≡◌, ◌≤◌, map, option_map, IfOk};
 ghost use Rattle.poly_terms.specs.Views.{monomials_of};
 ghost use Rattle.signed_bounds.specs.Bounds.{Constant, ProductOf, NoParts, Part as plain_part};
 ghost use Rattle.signed_bounds.specs.Views.{signed_of};
@@ -80,6 +80,7 @@ fn same_symbols(firsts: &[SymbolFunction], seconds: &[SymbolFunction]) -> bool
 }
 
 // Whether a node has its shape.
+#[tactic(auto, using(crate::proofs::RefusalLaws::hold_append))]
 fn have_phase_shapes(ground: Ground, node: &PhasesNode, tables: &Phases) -> bool
     requires ground { IsPrepared ground }
     requires tables { ArePhasesOf (plain_ground ground) (phases_node_of node.now) tables.now }
@@ -144,6 +145,7 @@ fn moves_refusal(
 ) -> Result<Option<Reason>, Memory>
     requires ground { IsPrepared ground }
     requires tables { ArePhasesOf (plain_ground ground) (phases_node_of node.now) tables.now }
+    requires den { 1 ≤ node.now.den }
     ensures { IfOk result (λ o. option_map reason_of o ≡ first_refused
         (phase_moves (plain_ground ground.entry) (phases_node_of node.now) (signed_of bound.now))) }
 {
@@ -187,12 +189,7 @@ fn times(alloc: Global, number: u128, bound: Signed) -> Result<Signed, Memory>
 }
 
 // The root of twice the denominator times the second function at the start, less the denominator.
-fn phases_root(
-    alloc: Global,
-    ground: Ground,
-    tables: &Phases,
-    den: u64,
-) -> Result<Signed, Memory>
+fn phases_root(alloc: Global, ground: Ground, tables: &Phases, den: u64) -> Result<Signed, Memory>
     ensures { IfOk result (λ b. (n : plain.PhasesNode) → ArePhasesOf (plain_ground ground.entry) n tables.now
         → n.den ≡ den → signed_of b ≡ root_of_phases (plain_ground ground.entry) n) }
 {
@@ -203,12 +200,7 @@ fn phases_root(
 }
 
 // The bound of a node, as often as the denominator says.
-fn phases_bound(
-    alloc: Global,
-    ground: Ground,
-    tables: &Phases,
-    den: u64,
-) -> Result<Signed, Memory>
+fn phases_bound(alloc: Global, ground: Ground, tables: &Phases, den: u64) -> Result<Signed, Memory>
     ensures { IfOk result (λ b. (n : plain.PhasesNode) → ArePhasesOf (plain_ground ground.entry) n tables.now
         → n.den ≡ den → signed_of b ≡ phases_signed (plain_ground ground.entry) n) }
 {

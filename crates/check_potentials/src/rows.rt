@@ -31,16 +31,19 @@ pub(crate) fn row_refusal(
     ensures { IfOk result (λ o. option_map reason_of o
         ≡ first_refused (row_checks (plain_ground ground.entry) (row_node_of node.now) (signed_of bound.now))) }
 {
-    if !reads_below(variables_of(ground, node.rule), &node.form) {
+    let is_right = reads_below(variables_of(ground, node.rule), &node.form);
+    if !is_right {
         return Ok(Some(Reason::BadShape));
     }
     let form = form_expr(alloc, &node.form.terms)?;
     let goal = Expr::difference(alloc, Expr::Num(node.number as i128), form)?;
-    if !shows(alloc, rows_of(ground, node.rule), &node.certificate, goal)? {
+    let is_shown = shows(alloc, rows_of(ground, node.rule), &node.certificate, goal)?;
+    if !is_shown {
         return Ok(Some(Reason::BadFloor(node.rule)));
     }
     let number = Signed::Const(node.number as u128);
-    if !is_within(alloc, 1, &number, bound)? {
+    let is_high = is_within(alloc, 1, &number, bound)?;
+    if !is_high {
         return Ok(Some(Reason::LowBound));
     }
     Ok(None)

@@ -13,8 +13,7 @@ ghost use Rattle.check_potentials.specs.Refusals.{all_hold};
 use crate::functions::has_function;
 use crate::ground::{Ground, places_of, source_of, target_of, variables_of};
 use potential_types::{
-    Move, Payment, PotentialTable, SignedFact, SymbolFunction, peak_bound, reads_below,
-    sum_of_form,
+    Move, Payment, PotentialTable, SignedFact, SymbolFunction, peak_bound, reads_below, sum_of_form,
 };
 
 // Whether a key is above the last one, where there is one.
@@ -120,6 +119,7 @@ fn have_move_shapes(ground: Ground, table: &PotentialTable, moves: &[Move]) -> b
 
 /// Whether a table has its shape: the denominator is at least 1, symbols and rules ascend, and so have its functions and
 /// moves.
+#[tactic(auto, using(crate::proofs::RefusalLaws::hold_append))]
 pub(crate) fn has_table_shape(ground: Ground, table: &PotentialTable) -> bool
     requires { IsPrepared ground }
     ensures { result ≡ all_hold (table_shape (plain_ground ground.entry) (table_of table.now)) }

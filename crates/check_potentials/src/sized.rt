@@ -40,7 +40,8 @@ pub(crate) fn sized_refusal(
     ensures { IfOk result (λ o. option_map reason_of o ≡ first_refused
         (sized_checks (plain_ground ground.entry) (map fact_view facts.now) (sized_of node.now) (signed_of bound.now))) }
 {
-    if !reads_below(left_of(ground, node.rule), &node.form) {
+    let is_right = reads_below(left_of(ground, node.rule), &node.form);
+    if !is_right {
         return Ok(Some(Reason::BadShape));
     }
     let befores = predecessors(alloc, ground, node.rule)?;
@@ -200,11 +201,7 @@ fn positive_part(z: i128) -> u128
 }
 
 // A number times a size.
-fn scaled_size(
-    alloc: Global,
-    times: u128,
-    size: Option<&Signed>,
-) -> Result<Option<Signed>, Memory>
+fn scaled_size(alloc: Global, times: u128, size: Option<&Signed>) -> Result<Option<Signed>, Memory>
     ensures { IfOk result (λ o. option_map signed_of o
         ≡ size_scaled times (option_map (λ b. signed_of b.now) size.entry)) }
 {

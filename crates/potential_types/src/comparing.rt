@@ -94,9 +94,7 @@ pub(crate) fn is_once(rule: u32, charges: &[Charge]) -> bool
 {
     match charges.split_first() {
         None => false,
-        Some((only, others)) => {
-            rule == only.rule && is_one(&only.form) && others.is_empty()
-        }
+        Some((only, others)) => { rule == only.rule && is_one(&only.form) && others.is_empty() }
     }
 }
 

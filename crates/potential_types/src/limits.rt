@@ -22,7 +22,9 @@ use crate::tables::{Move, PotentialTable, SymbolFunction};
 use poly_terms::{Monomial, Poly};
 
 const SUMMAND_LIMIT: usize = 1024;
+
 const MONOMIAL_LIMIT: usize = 64;
+
 const DEGREE_LIMIT: usize = 8;
 
 /// Whether a lemma is within the limits: its polynomials have at most 64 monomials of at most 8 factors, its certificates

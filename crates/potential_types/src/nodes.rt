@@ -49,7 +49,12 @@ pub struct RowNode {
 #[derive(Drop)]
 pub enum Combination {
     /// The sum of a polynomial over a rule's steps: how often the rule occurs, times the peak of the polynomial.
-    Times { rule: u32, form: Poly, time: u32, peak: u32 },
+    Times {
+        rule: u32,
+        form: Poly,
+        time: u32,
+        peak: u32,
+    },
     /// The lesser of two bounds on one sum or one peak.
     Least(u32, u32),
     /// Two sums together.

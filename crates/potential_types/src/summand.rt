@@ -5,9 +5,16 @@
 #[derive(Clone, Copy)]
 pub enum Summand {
     /// A row, a number of times.
-    OneRow { times: u64, row: u32 },
+    OneRow {
+        times: u64,
+        row: u32,
+    },
     /// The product of two rows, a number of times.
-    TwoRows { times: u64, first: u32, second: u32 },
+    TwoRows {
+        times: u64,
+        first: u32,
+        second: u32,
+    },
     /// A variable times a row whose opposite is a row, too, a number of times that may be negative.
     ZeroRow {
         times: i64,

@@ -6,3 +6,4 @@ pub mod Takings
 pub mod Wholes
 pub mod Faulty
 pub mod TotalLoops
+pub mod QuotientLoops

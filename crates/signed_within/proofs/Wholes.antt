@@ -98,6 +98,12 @@ dominated-step ps qs missing left i p o h same e is =
     (counted-more ps missing i p h same e)
     ∙ ap (λ (r : Option (List products.Product)). elim r [ None ↦ false | Some found ↦ dominated expands_to_squares (counted (drop (i + 1) ps) (drop (i + 1) missing)) found ]) is
 
+-- no more product that has to be found
+pub dominated-none : (ps : List Product) (missing : List ℕ) (i : ℕ) (qs : List products.Product) → length ps ≤ i
+    → dominated expands_to_squares (counted (drop i ps) (drop i missing)) qs ≡ true
+dominated-none ps missing i qs h =
+    ap (λ (rs : List products.Product). dominated expands_to_squares rs qs) (counted-none ps missing i h)
+
 -- a product that is found is taken, and else one that is enough as a whole is used up
 pub without_product-found : (p : products.Product) (qs : List products.Product)
     → missing_times (factors_fit expands_to_squares) p.times p.factors qs ≡ 0

@@ -91,10 +91,11 @@ fn dominated(
 {
     let mut rest = left;
     for i in 0..ps.len() {
-        match without_product(alloc, &ps[i], missing[i], qs, rest)? {
-            None => return Ok(false),
-            Some(others) => rest = others,
-        }
+        let found = without_product(alloc, &ps[i], missing[i], qs, rest)?;
+        let Some(others) = found else {
+            return Ok(false);
+        };
+        rest = others;
     }
     Ok(true)
 }

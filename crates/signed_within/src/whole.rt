@@ -136,8 +136,14 @@ fn polynomial(bound: &Signed) -> Option<&Poly>
 {
     match bound {
         Signed::Part(p) => Some(p),
-        Signed::Const(_) | Signed::Sum(_) | Signed::Prod(_) | Signed::Max(_) | Signed::Min(_, _)
-        | Signed::Quotient(_, _) | Signed::Root(_) | Signed::Power(_, _) => None,
+        Signed::Const(_)
+        | Signed::Sum(_)
+        | Signed::Prod(_)
+        | Signed::Max(_)
+        | Signed::Min(_, _)
+        | Signed::Quotient(_, _)
+        | Signed::Root(_)
+        | Signed::Power(_, _) => None,
     }
 }
 
@@ -159,7 +165,13 @@ fn is_below_part(n: u128, m: u128, part: &Signed) -> bool
 {
     match part {
         Signed::Const(c) => n <= m.saturating_mul(*c),
-        Signed::Part(_) | Signed::Sum(_) | Signed::Prod(_) | Signed::Max(_) | Signed::Min(_, _)
-        | Signed::Quotient(_, _) | Signed::Root(_) | Signed::Power(_, _) => false,
+        Signed::Part(_)
+        | Signed::Sum(_)
+        | Signed::Prod(_)
+        | Signed::Max(_)
+        | Signed::Min(_, _)
+        | Signed::Quotient(_, _)
+        | Signed::Root(_)
+        | Signed::Power(_, _) => false,
     }
 }

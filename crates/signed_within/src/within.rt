@@ -24,12 +24,13 @@ use std::alloc::Global;
 /// those of `b`, `den` times, with `den` - 1 more for rounding, or among those of one of at most `QUOTIENT_LIMIT`
 /// quotients by `den` in `b`.
 ///
-/// A yes means that it is so where `den` is at least 1; a no doesn't mean that it isn't.
+/// A yes means that it is so; a no doesn't mean that it isn't.
 ///
 /// # Errors
 ///
 /// `Memory` where an allocation fails.
 pub fn is_within(alloc: Global, den: u128, a: &Signed, b: &Signed) -> Result<bool, Memory>
+    requires { 1 ≤ den }
     ensures { IfOk result (λ r. r ≡ within expands den (signed_of a.now) (signed_of b.now)) }
 {
     if !is_multipliable(1, a) || !is_multipliable(den, b) {
@@ -87,7 +88,8 @@ fn is_covered_by_quotient(
     ensures { IfOk result (λ r. r ≡ is_quotient expands den (products_at ps.now) [] (products_at qs.now)) }
 {
     for i in 0..qs.len() {
-        if is_covered_from(alloc, den, ps, qs, i)? {
+        let is_covered = is_covered_from(alloc, den, ps, qs, i)?;
+        if is_covered {
             return Ok(true);
         }
     }
@@ -107,15 +109,18 @@ fn is_covered_from(
     ensures { IfOk result (λ r. r ≡ is_covered_at den (products_at ps.now) (products_at (take position qs.now))
         (products_at (drop position qs.now))) }
 {
-    let Some(part) = numerator(den, &qs[position]) else {
+    let q = &qs[position];
+    let Some(part) = numerator(den, q) else {
         return Ok(false);
     };
-    if !is_multipliable(1, part) {
+    let is_small = is_multipliable(1, part);
+    if !is_small {
         return Ok(false);
     }
     let mut others = products_of(alloc, part)?;
     push_scaled(alloc, &mut others, den, &qs[..position])?;
-    others.push(scaled_once_less(alloc, den, &qs[position])?)?;
+    let less = scaled_once_less(alloc, den, q)?;
+    others.push(less)?;
     push_scaled(alloc, &mut others, den, &qs[position + 1..])?;
     covers(alloc, ps, &others)
 }

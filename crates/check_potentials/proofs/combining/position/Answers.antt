@@ -8,13 +8,12 @@ use Rattle.check_potentials.proofs.combining.position.Goals as goal
 pub returns-then-same_charge : goal.returns-then-same_charge
 returns-then-same_charge c =
     let charges = map charge_of c.args.charges.now in
-    let inside : c.loop-i.i < length charges = omega (arith, length-map c.args.charges.now charge_of) in
-    (
+    let inside : c.loop-i.i < length charges = omega (arith, length-map c.args.charges.now charge_of) in (
       inside,
       sym c.loop-i.invariant
-      ∙ first_passes (charge_of c.args.charge.now) charges c.loop-i.i (charge_of c.index-charges-i.result) inside
-      (charge_of-get c.args.charges.now c.loop-i.i c.index-charges-i.result (omega arith) c.index-charges-i.is)
-      (sym c.same_charge.ensures ∙ c.if-same_charge.true),
+          ∙ first_passes (charge_of c.args.charge.now) charges c.loop-i.i (charge_of c.index-charges-i.result) inside
+          (charge_of-get c.args.charges.now c.loop-i.i c.index-charges-i.result (omega arith) c.index-charges-i.is)
+          (sym c.same_charge.ensures ∙ c.if-same_charge.true),
     )
 
 pub loop-i-preserved : goal.loop-i-preserved

@@ -10,7 +10,7 @@ use Rattle.potential_types.specs.Views.{fact_view, fall_of, reason_of}
 use Rattle.check_potentials.specs.Grounds.{plain_ground}
 use Rattle.check_potentials.specs.Stages.{fall_shape, fall_missing, fall_moves, fall_payments}
 use Rattle.check_potentials.proofs.RefusalLaws.{misshapen, well_shaped, stops_behind, passes_behind}
-use Rattle.check_potentials.proofs.StageLaws.{fall-shapes}
+use Rattle.check_potentials.proofs.StageLaws.{fall-shapes, fall-den}
 use Rattle.check_potentials.proofs.falls.fall_refusal.Goals as goal
 
 pub returns-then-not-is_right : goal.returns-then-not-is_right
@@ -21,6 +21,11 @@ returns-then-not-is_right c =
     let b = signed_of c.args.bound.now in
     misshapen BadShape (fall_shape g facts n) (fall_missing g facts n b) (fall-shapes g facts n)
     (sym c.if-not-is_right.true ∙ c.has_fall_shape-is_right.ensures)
+
+pub payments_refusal-requires-clause-den : goal.payments_refusal-requires-clause-den
+payments_refusal-requires-clause-den c =
+    fall-den (plain_ground c.args.ground) (map fact_view c.args.facts.now) (fall_of c.args.node.now)
+    (sym c.if-not-is_right.false ∙ c.has_fall_shape-is_right.ensures)
 
 pub returns-in-Some : goal.returns-in-Some
 returns-in-Some c =

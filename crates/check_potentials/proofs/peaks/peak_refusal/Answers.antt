@@ -10,7 +10,7 @@ use Rattle.potential_types.specs.Views.{fact_view, peak_of, reason_of}
 use Rattle.check_potentials.specs.Grounds.{plain_ground}
 use Rattle.check_potentials.specs.Stages.{peak_shape, peak_missing, peak_moves, peak_levels}
 use Rattle.check_potentials.proofs.RefusalLaws.{misshapen, well_shaped, stops_behind, passes_behind}
-use Rattle.check_potentials.proofs.StageLaws.{peak-shapes}
+use Rattle.check_potentials.proofs.StageLaws.{peak-shapes, peak-den}
 use Rattle.check_potentials.proofs.peaks.peak_refusal.Goals as goal
 
 pub returns-then-not-is_right : goal.returns-then-not-is_right
@@ -21,6 +21,11 @@ returns-then-not-is_right c =
     let b = signed_of c.args.bound.now in
     misshapen BadShape (peak_shape g facts n) (peak_missing g facts n b) (peak-shapes g facts n)
     (sym c.if-not-is_right.true ∙ c.has_peak_shape-is_right.ensures)
+
+pub floor_refusal-requires-clause-den : goal.floor_refusal-requires-clause-den
+floor_refusal-requires-clause-den c =
+    peak-den (plain_ground c.args.ground) (map fact_view c.args.facts.now) (peak_of c.args.node.now)
+    (sym c.if-not-is_right.false ∙ c.has_peak_shape-is_right.ensures)
 
 pub returns-in-Some : goal.returns-in-Some
 returns-in-Some c =

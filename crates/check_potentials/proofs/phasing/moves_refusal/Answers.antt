@@ -25,8 +25,8 @@ returns-in-Some c =
     let floors = map (floor_check g (second_table g n)) (map unit_payment n.counted) in
     let k = check LowBound (within g.is_safe n.den (phases_signed g n) b) in
     let same : first_refused (map (floor_check g (table_of c.args.tables.now.second)) (map payment_of c.args.tables.now.payments.items)) ≡ first_refused floors =
-        ap (λ (t : PotentialTable). first_refused (map (floor_check g t) (map payment_of c.args.tables.now.payments.items))) are.second
-        ∙ ap (λ (ys : List Payment). first_refused (map (floor_check g (second_table g n)) ys)) are.payments in
+    ap (λ (t : PotentialTable). first_refused (map (floor_check g t) (map payment_of c.args.tables.now.payments.items))) are.second
+    ∙ ap (λ (ys : List Payment). first_refused (map (floor_check g (second_table g n)) ys)) are.payments in
     stops_behind (phase_moves g n b) moves (phase_bounds g n b) (reason_of c.in-Some.reason) refl
     (c.in_ok-unshown_phase.ensures n are)
 
@@ -40,8 +40,8 @@ returns-in-Some-2 c =
     let floors = map (floor_check g (second_table g n)) (map unit_payment n.counted) in
     let k = check LowBound (within g.is_safe n.den (phases_signed g n) b) in
     let same : first_refused (map (floor_check g (table_of c.args.tables.now.second)) (map payment_of c.args.tables.now.payments.items)) ≡ first_refused floors =
-        ap (λ (t : PotentialTable). first_refused (map (floor_check g t) (map payment_of c.args.tables.now.payments.items))) are.second
-        ∙ ap (λ (ys : List Payment). first_refused (map (floor_check g (second_table g n)) ys)) are.payments in
+    ap (λ (t : PotentialTable). first_refused (map (floor_check g t) (map payment_of c.args.tables.now.payments.items))) are.second
+    ∙ ap (λ (ys : List Payment). first_refused (map (floor_check g (second_table g n)) ys)) are.payments in
     stops_behind (phase_moves g n b) floors (k ∷ []) (reason_of c.in-Some-2.reason)
     (passes_behind (phase_moves g n b) moves (phase_bounds g n b) refl (c.in_default.ensures n are))
     (c.in-Some-2.ensures ∙ same)
@@ -56,8 +56,8 @@ returns-then-not-is_high c =
     let floors = map (floor_check g (second_table g n)) (map unit_payment n.counted) in
     let k = check LowBound (within g.is_safe n.den (phases_signed g n) b) in
     let same : first_refused (map (floor_check g (table_of c.args.tables.now.second)) (map payment_of c.args.tables.now.payments.items)) ≡ first_refused floors =
-        ap (λ (t : PotentialTable). first_refused (map (floor_check g t) (map payment_of c.args.tables.now.payments.items))) are.second
-        ∙ ap (λ (ys : List Payment). first_refused (map (floor_check g (second_table g n)) ys)) are.payments in
+    ap (λ (t : PotentialTable). first_refused (map (floor_check g t) (map payment_of c.args.tables.now.payments.items))) are.second
+    ∙ ap (λ (ys : List Payment). first_refused (map (floor_check g (second_table g n)) ys)) are.payments in
     sym (passes_behind (phase_moves g n b) floors (k ∷ [])
     (passes_behind (phase_moves g n b) moves (phase_bounds g n b) refl (c.in_default.ensures n are))
     (c.in_default-2.ensures ∙ same)
@@ -74,8 +74,8 @@ returns c =
     let floors = map (floor_check g (second_table g n)) (map unit_payment n.counted) in
     let k = check LowBound (within g.is_safe n.den (phases_signed g n) b) in
     let same : first_refused (map (floor_check g (table_of c.args.tables.now.second)) (map payment_of c.args.tables.now.payments.items)) ≡ first_refused floors =
-        ap (λ (t : PotentialTable). first_refused (map (floor_check g t) (map payment_of c.args.tables.now.payments.items))) are.second
-        ∙ ap (λ (ys : List Payment). first_refused (map (floor_check g (second_table g n)) ys)) are.payments in
+    ap (λ (t : PotentialTable). first_refused (map (floor_check g t) (map payment_of c.args.tables.now.payments.items))) are.second
+    ∙ ap (λ (ys : List Payment). first_refused (map (floor_check g (second_table g n)) ys)) are.payments in
     sym (passes_behind (phase_moves g n b) floors (k ∷ [])
     (passes_behind (phase_moves g n b) moves (phase_bounds g n b) refl (c.in_default.ensures n are))
     (c.in_default-2.ensures ∙ same)

@@ -10,7 +10,7 @@ use Rattle.potential_types.specs.Views.{fact_view, phases_node_of, reason_of}
 use Rattle.check_potentials.specs.Grounds.{plain_ground}
 use Rattle.check_potentials.specs.Stages.{phase_shapes, phase_behind, phase_missing, phase_moves}
 use Rattle.check_potentials.proofs.RefusalLaws.{misshapen, well_shaped, stops_behind, passes_behind}
-use Rattle.check_potentials.proofs.StageLaws.{phase-shapes}
+use Rattle.check_potentials.proofs.StageLaws.{phase-shapes, phase-den}
 use Rattle.check_potentials.proofs.phasing.phases_refusal.Goals as goal
 
 pub returns-then-not-is_right : goal.returns-then-not-is_right
@@ -21,6 +21,11 @@ returns-then-not-is_right c =
     let b = signed_of c.args.bound.now in
     misshapen BadShape (phase_shapes g n) (phase_behind g facts n b) (phase-shapes g n)
     (sym c.if-not-is_right.true ∙ c.have_phase_shapes-is_right.ensures)
+
+pub moves_refusal-requires-clause-den : goal.moves_refusal-requires-clause-den
+moves_refusal-requires-clause-den c =
+    phase-den (plain_ground c.args.ground) (phases_node_of c.args.node.now)
+    (sym c.if-not-is_right.false ∙ c.have_phase_shapes-is_right.ensures)
 
 pub returns-in-Some : goal.returns-in-Some
 returns-in-Some c =

@@ -8,6 +8,6 @@ use Rattle.signed_within.proofs.covering.dominated.Given as goal
 abbrev pub invariant-loop-i : goal.invariant-loop-i
 invariant-loop-i l = record {
   decided : covers.dominated expands_to_squares (counted (drop l.i l.ps) (drop l.i l.missing)) (counted l.qs l.rest.items)
-      ≡ covers.dominated expands_to_squares (counted l.ps l.missing) (counted l.qs l.initial.left.items);
+      ≡ covers.dominated expands_to_squares (counted l.ps l.missing) (counted l.qs l.initial.rest.items);
   size : length l.rest.items ≡ length l.qs;
 }

@@ -7,14 +7,13 @@ use Rattle.signed_within.proofs.Wholes.{behind, whole_fails, whole_passes, whole
 use Rattle.signed_within.proofs.covering.whole_position.Goals as goal
 
 pub returns-then-is_enough : goal.returns-then-is_enough
-returns-then-is_enough c =
-    (
-      omega arith,
-      sym c.loop-i.invariant
+returns-then-is_enough c = (
+  omega arith,
+  sym c.loop-i.invariant
       ∙ whole_passes (record { times = c.args.n; factors = signed_at c.args.p.now.factors.items }) c.args.qs.now
       c.args.left.now c.loop-i.i c.index-qs-i.result (omega arith) c.requires c.index-qs-i.is
       (sym c.in_ok-is_enough.ensures ∙ c.if-is_enough.true),
-    )
+)
 
 pub loop-i-preserved : goal.loop-i-preserved
 loop-i-preserved c =

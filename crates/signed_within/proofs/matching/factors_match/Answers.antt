@@ -20,9 +20,9 @@ returns c =
 pub loop-i-preserved : goal.loop-i-preserved
 loop-i-preserved c =
     sym (match_more c.args.test c.args.factors.now c.loop-i.i c.index-factors-i.result (signed_at c.loop-i.left.items)
-    (Some (signed_at c.take_one-is_taken.new.left.items)) (omega arith) c.index-factors-i.is
+    (Some (signed_at c.take_one.new.left.items)) (omega arith) c.index-factors-i.is
     (subst (λ (t : Bool). IsTakenOut (without c.args.test (signed_of c.index-factors-i.result.now) (signed_at c.loop-i.left.items))
-    t (signed_at c.take_one-is_taken.new.left.items)) c.if-not-is_taken.false c.in_ok-is_taken.ensures))
+    t (signed_at c.take_one.new.left.items)) c.if-not-is_taken.false c.in_ok-is_taken.ensures))
     ∙ c.loop-i.invariant
 
 pub returns-then-not-is_taken : goal.returns-then-not-is_taken
@@ -30,5 +30,5 @@ returns-then-not-is_taken c =
     sym (match_more c.args.test c.args.factors.now c.loop-i.i c.index-factors-i.result (signed_at c.loop-i.left.items)
     None (omega arith) c.index-factors-i.is
     (subst (λ (t : Bool). IsTakenOut (without c.args.test (signed_of c.index-factors-i.result.now) (signed_at c.loop-i.left.items))
-    t (signed_at c.take_one-is_taken.new.left.items)) c.if-not-is_taken.true c.in_ok-is_taken.ensures))
+    t (signed_at c.take_one.new.left.items)) c.if-not-is_taken.true c.in_ok-is_taken.ensures))
     ∙ c.loop-i.invariant

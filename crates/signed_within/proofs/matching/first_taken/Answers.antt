@@ -9,14 +9,13 @@ use Rattle.signed_within.proofs.matching.first_taken.Goals as goal
 pub returns-then-is_taken : goal.returns-then-is_taken
 returns-then-is_taken c =
     let others = c.args.others.now in
-    let inside : c.loop-i.i < length (signed_at others) = omega (arith, signed_at-length others) in
-    (
+    let inside : c.loop-i.i < length (signed_at others) = omega (arith, signed_at-length others) in (
       inside,
       sym c.loop-i.invariant
-      ∙ first_passes (tests.takes c.args.test (signed_of c.args.factor.now)) (signed_at others) c.loop-i.i
-      (signed_of c.index-others-i.result.now) inside
-      (signed_at-get others c.loop-i.i c.index-others-i.result (omega arith) c.index-others-i.is)
-      (sym c.in_ok-is_taken.ensures ∙ c.if-is_taken.true),
+          ∙ first_passes (tests.takes c.args.test (signed_of c.args.factor.now)) (signed_at others) c.loop-i.i
+          (signed_of c.index-others-i.result.now) inside
+          (signed_at-get others c.loop-i.i c.index-others-i.result (omega arith) c.index-others-i.is)
+          (sym c.in_ok-is_taken.ensures ∙ c.if-is_taken.true),
     )
 
 pub loop-i-preserved : goal.loop-i-preserved

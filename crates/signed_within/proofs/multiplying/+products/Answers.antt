@@ -28,8 +28,8 @@ products_of_product-products_of-requires t c = (
   ),
 )
 
-pub products_of_product-multiplied-longer-requires : goal.products_of_product-multiplied-longer-requires
-products_of_product-multiplied-longer-requires t c =
+pub products_of_product-multiplied-requires : goal.products_of_product-multiplied-requires
+products_of_product-multiplied-requires t c =
     rw (c.deref.ensures.value, c.deref-in-loop-part.ensures.value)
     (factors_limited c.args.parts.now c.loop-part.part-index c.part-item.result
     (times_sum (products_at c.loop-part.products.items)) constant_limit c.in_ok-factors.factors.items c.loop-part-test.true
@@ -50,7 +50,7 @@ products_of_product-loop-part-preserved t c =
         arith,
         grown,
         factor_limited c.args.parts.now c.loop-part.part-index c.part-item.result
-        (times_sum (products_at c.loop-part.products.items)) constant_limit c.loop-part-test.true c.part-item.is
-        c.loop-part.invariant.limited,
+            (times_sum (products_at c.loop-part.products.items)) constant_limit c.loop-part-test.true c.part-item.is
+            c.loop-part.invariant.limited,
       );
     }
