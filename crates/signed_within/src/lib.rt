@@ -1,5 +1,9 @@
 //! Whether a number that is at most one signed bound, a number of times, is at most another: the comparison `within` of
-//! signed bounds, decided exactly.
+//! signed bounds.
+//!
+//! Builds on `signed_bounds` (bounds and the comparison's definition) and `poly_terms` (expanding). Main guarantee:
+//! `is_within` answers exactly what the definition says, its limits first, and `expands_to_squares` whether an expression
+//! expands to a sum of squares.
 #![tactic(auto)]
 
 mod constants;
