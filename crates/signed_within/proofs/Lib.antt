@@ -1,1 +1,9 @@
 pub mod SizeLoops
+pub mod ProductLoops
+pub mod Positions
+pub mod Matchings
+pub mod Takings
+pub mod Wholes
+pub mod Faulty
+pub mod TotalLoops
+pub mod QuotientLoops

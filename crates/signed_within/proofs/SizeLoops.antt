@@ -8,7 +8,7 @@ use Rattle.signed_bounds.specs.Bounds as plain
 use Rattle.signed_bounds.specs.Bounds.{SignedParts, NoParts, Part}
 use Rattle.signed_bounds.specs.declared.signed.Signed.{Signed}
 use Rattle.signed_bounds.specs.Views.{signed_of, with_part}
-use Rattle.signed_bounds.specs.Limits.{constant_limit, product_limit}
+use Rattle.signed_bounds.specs.Limits.{constant_limit, product_limit, comparison_limit}
 use Rattle.signed_bounds.specs.Products.{product_count, product_count_of_sum, product_count_of_product}
 use Rattle.signed_bounds.specs.Products.{number_sum, number_sum_of_sum, number_sum_of_product}
 use Rattle.signed_bounds.proofs.PartLoops.{before, parts_of-take_more}
@@ -121,6 +121,21 @@ tests_agree a b c d to back = go (nat_le a b) refl (nat_le c d) refl
 pub count_test : (count capped : ℕ) → capped ≡ min count (2 ^ 64 - 1)
     → nat_le capped product_limit ≡ nat_le count product_limit
 count_test count capped e = tests_agree capped product_limit count product_limit (λ h. omega arith) (λ h. omega arith)
+
+-- so is a product of two capped numbers
+pub pair_test : (a b capped other product : ℕ) → capped ≡ min a (2 ^ 64 - 1) → other ≡ min b (2 ^ 64 - 1)
+    → product ≡ min (capped * other) (2 ^ 64 - 1) → nat_le product comparison_limit ≡ nat_le (a * b) comparison_limit
+pair_test a b capped other product e f h =
+    tests_agree product comparison_limit (a * b) comparison_limit
+    (λ k. omega (arith, whole))
+    (λ k. omega (arith, whole))
+  where
+    whole : product ≡ min (a * b) (2 ^ 64 - 1)
+    whole =
+        h
+        ∙ ap (λ (v : ℕ). min (v * other) (2 ^ 64 - 1)) e
+        ∙ ap (λ (v : ℕ). min (min a (2 ^ 64 - 1) * v) (2 ^ 64 - 1)) f
+        ∙ min-mul a b (2 ^ 64 - 1)
 
 -- so is one that is multiplied up to the cap
 pub sum_test : (sum times capped product : ℕ) → capped ≡ min sum (2 ^ 128 - 1)

@@ -1,15 +1,24 @@
-//! Tests for expressions that are never negative, the order of polynomials and of bounds by them, and what bounds are
-//! multiplied out into, decided exactly as the definitions of signed bounds say.
+//! Whether a number that is at most one signed bound, a number of times, is at most another: the comparison `within` of
+//! signed bounds.
+//!
+//! Builds on `signed_bounds` (bounds and the comparison's definition) and `poly_terms` (expanding). Main guarantee:
+//! `is_within` answers exactly what the definition says, its limits first, and `expands_to_squares` whether an expression
+//! expands to a sum of squares.
 #![tactic(auto)]
 
 mod constants;
+mod covering;
 mod fitting;
+mod matching;
+mod multiplying;
 mod parts;
+mod product;
 mod sizes;
 mod squares;
 mod terms;
+mod test;
+mod whole;
+mod within;
 
-pub use fitting::{factor_fits, fits, is_equal};
-pub use sizes::is_multipliable;
 pub use squares::expands_to_squares;
-pub use terms::{is_below, is_weighted_below};
+pub use within::is_within;

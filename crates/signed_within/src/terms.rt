@@ -9,6 +9,7 @@ ghost use Rattle.signed_within.specs.Terms.{monomial_term, weighted_term};
 
 use crate::squares::expands_to_squares;
 use poly_terms::{Expr, Memory, Monomial, Poly};
+use signed_bounds::CONSTANT_LIMIT;
 use std::alloc::Global;
 
 // The product of variables as an expression.
@@ -81,10 +82,14 @@ pub fn is_weighted_below(
     m: u128,
     h: &Poly,
 ) -> Result<bool, Memory>
-    requires lower { n ≤ constant_limit }
-    requires upper { m ≤ constant_limit }
     ensures { IfOk result (λ r. r ≡ expands (weighted_difference n (poly_of f.now) m (poly_of h.now))) }
 {
+    if n > CONSTANT_LIMIT {
+        return Ok(false);
+    }
+    if m > CONSTANT_LIMIT {
+        return Ok(false);
+    }
     let upper = weighted_expr(alloc, m, h)?;
     let lower = weighted_expr(alloc, n, f)?;
     let difference = Expr::difference(alloc, upper, lower)?;
