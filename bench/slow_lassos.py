@@ -11,7 +11,7 @@ import slow_runs
 from slow_runs import PAST, BadStep, Refused, Text
 
 # The forms of lasso files that are read.
-FORMS = (1,)
+FORMS = (1, 2)
 BAD_STEPS = {"wrong rule": "WrongRule at {}", "value passes 128 bits": "PassedRange at {}"}
 
 

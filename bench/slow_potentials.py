@@ -303,7 +303,7 @@ def is_multipliable(n, b):
 
 
 def factor_total(ps):
-    return sum(1 + len(fs) for _, fs in ps)
+    return sum(1 + sum(node_count(f) for f in fs) for _, fs in ps)
 
 
 def whole_polynomial(fs):

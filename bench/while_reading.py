@@ -1,13 +1,14 @@
-#!/usr/bin/env python3
-"""A plain slow reading of while programs, written from docs/while.md: it lists every fault, and answers the first one.
+"""A plain slow reading of texts of the while language, by docs/while.md alone: nothing of the crates is used.
 
-usage: while_reading.py lines < LINES    answers lines, each with a call and a text in a short notation: the calls are `read`, `count` and
-                                          `rules`
-       while_reading.py random COUNT SEED    so many lines with random programs, three in four of them damaged
+`read(text)` is the names, the statements and their positions, and none; or none and the first refusal, such as
+`UnknownName at 9`. Every fault up to where the text breaks off is listed, and then the one at the least position is
+taken, and there the one that comes first among the kinds. A statement is `("assign", x, e)`, `("any", x)`, `("skip",)`,
+`("while", test, block)` or `("if", test, block, other)`, where x is the number of an input; an expression
+`("num", n)`, `("var", x)`, `("neg", e)`, `("^", e, n)` or an operator with two expressions; an atom `("true",)` or a
+relation with two expressions. Expressions are read by recursion: a caller may have to raise Python's limit.
 """
-import random
+
 import re
-import sys
 
 LIMITS = ["Name", "Tokens", "Terms", "Degree", "Atoms", "Variables", "Depth", "Rules"]
 NUMBER = {"NotAscii": 1, "Syntax": 2, "NumberTooLarge": 3, "UnknownName": 4, "RepeatedName": 5}
@@ -359,178 +360,6 @@ def read(text):
     return (reading.names, body, reading.positions), None
 
 
-# translation
-
-def size(body):
-    return sum(1 + sum(size(block) for block in s[2:]) if s[0] in ("while", "if") else 1 for s in body)
-
-
-def first(at, after, body):
-    return at if body else after
-
-
-def moves(at, after, body):
-    made = []
-    for k, s in enumerate(body):
-        behind = at + size([s])
-        following = behind if k + 1 < len(body) else after
-        if s[0] == "while":
-            made += branches(at, s[1], first(at + 1, at, s[2]), following) + moves(at + 1, at, s[2])
-        elif s[0] == "if":
-            other = at + 1 + size(s[2])
-            made += branches(at, s[1], first(at + 1, following, s[2]), first(other, following, s[3]))
-            made += moves(at + 1, following, s[2]) + moves(other, following, s[3])
-        else:
-            made.append((at, following, [], s))
-        at = behind
-    return made
-
-
-def branches(at, test, one, other):
-    made = [(at, one, test, ("skip",))]
-    for atom in test:
-        if atom[0] != "true":
-            made += [(at, other, [(rel, atom[1], atom[2])], ("skip",)) for rel in NEGATED[atom[0]]]
-    return made
-
-
-def spelled(e, names):
-    if e[0] == "num":
-        return str(e[1])
-    if e[0] == "var":
-        return names[e[1]]
-
-    def operand(d):
-        return spelled(d, names) if d[0] in ("num", "var") else "(" + spelled(d, names) + ")"
-    if e[0] == "neg":
-        return "-" + operand(e[1])
-    if e[0] == "^":
-        return f"{operand(e[1])}^{e[2]}"
-    return operand(e[1]) + e[0] + operand(e[2])
-
-
-def rules_of(names, body):
-    names = [name.decode() for name in names]
-    free = "h"
-    while free in names:
-        free += "_"
-    lines, used = [], []
-    for at, to, guard, action in moves(0, size(body), body):
-        values = list(names)
-        if action[0] == "assign":
-            values[action[1]] = spelled(action[2], names)
-        if action[0] == "any":
-            values[action[1]] = free
-        atoms = " && ".join("TRUE" if a[0] == "true" else f"{spelled(a[1], names)} {a[0]} {spelled(a[2], names)}"
-                            for a in guard)
-        for name in names + ([free] if action[0] == "any" else []):
-            if name not in used:
-                used.append(name)
-        lines.append(f"  p{at}({','.join(names)}) -> Com_1(p{to}({','.join(values)}))"
-                     + (f" :|: {atoms}" if guard else ""))
-    head = ["(GOAL COMPLEXITY)", "(STARTTERM (FUNCTIONSYMBOLS p0))", "(VAR" + "".join(" " + n for n in used) + ")", "(RULES"]
-    return "\n".join(head + lines + [")", ""])
-
-
-def unfolded(written):
-    """The bytes of a text in a short notation: `%3:A#,%` is `A0,A1,A2,`, and two hexadecimal digits follow a backquote."""
-    text = b""
-    for k, part in enumerate(written.encode().split(b"%")):
-        if k % 2 == 0:
-            text += re.sub(rb"`([0-9a-f]{2})", lambda m: bytes([int(m.group(1), 16)]), part)
-        else:
-            count, _, body = part.partition(b":")
-            text += b"".join(body.replace(b"#", str(i).encode()) for i in range(int(count)))
-    return text
-
-
-# random texts
-
-class Making:
-    def __init__(self, rng):
-        self.rng, self.names = rng, rng.sample(["A", "B", "C", "h", "x'", "whileA", "p0"], rng.randint(1, 4))
-
-    def name(self):
-        return "Z" if self.rng.random() < 0.01 else self.rng.choice(self.names)
-
-    def sum(self, depth):
-        kind = self.rng.random()
-        if depth == 0 or kind < 0.45:
-            return self.name() if self.rng.random() < 0.6 else str(self.rng.choice([0, 1, 2, 7, 2 ** 62, LARGEST, LARGEST + 1]
-                                                                                  if self.rng.random() < 0.1 else [0, 1, 2, 7]))
-        if kind < 0.55:
-            return f"({self.sum(depth - 1)})"
-        if kind < 0.65:
-            return f"-{self.sum(depth - 1)}"
-        if kind < 0.75:
-            return f"{self.name()}^{self.rng.choice([0, 1, 2, 3, 8, 9])}"
-        return f"{self.sum(depth - 1)} {self.rng.choice('+-*')} {self.sum(depth - 1)}"
-
-    def atom(self):
-        if self.rng.random() < 0.1:
-            return self.rng.choice(["TRUE", "true"])
-        return f"{self.sum(2)} {self.rng.choice([b.decode() for b in RELATIONS])} {self.sum(2)}"
-
-    def test(self):
-        joint = self.rng.choice([" && ", " /\\ ", "&&"])
-        return joint.join(self.atom() for _ in range(self.rng.randint(1, 3)))
-
-    def block(self, depth):
-        return " ".join(self.statement(depth) for _ in range(self.rng.choice([0, 1, 1, 2, 3])))
-
-    def statement(self, depth):
-        kind = self.rng.random()
-        if depth == 0 or kind < 0.5:
-            return self.rng.choice([f"{self.name()} := {self.sum(3)};", f"{self.name()} := ?;", "skip;"])
-        if kind < 0.75:
-            return f"while ({self.test()}) {{ {self.block(depth - 1)} }}"
-        other = f" else {{ {self.block(depth - 1)} }}" if self.rng.random() < 0.5 else ""
-        return f"if ({self.test()}) {{ {self.block(depth - 1)} }}{other}"
-
-    def text(self):
-        body = " ".join(self.statement(3) for _ in range(self.rng.randint(1, 4)))
-        return f"input {', '.join(self.names)}; {body}"
-
-    def damaged(self, text):
-        for _ in range(self.rng.randint(1, 2)):
-            at = self.rng.randrange(len(text) + 1)
-            piece = self.rng.choice(list(" ;,(){}?<>=+-*^&/|!:.'$_09azA") + ["`ff", ":=", "&&", "else", "skip", "TRUE", "input"])
-            upto = at + self.rng.choice([0, 0, 1, 1, 2, 5])
-            if "`" in text[max(0, at - 3):upto + 3]:
-                continue
-            text = text[:at] + (piece if self.rng.random() < 0.6 else "") + text[upto:]
-        return text
-
-
-def random_lines(count, seed):
-    rng = random.Random(seed)
-    for _ in range(count):
-        making = Making(rng)
-        text = making.text()
-        if rng.random() < 0.75:
-            text = making.damaged(text)
-        print(rng.choice(["read", "rules"]), text)
-
-
-def main():
-    sys.setrecursionlimit(100000)
-    if sys.argv[1:2] == ["random"]:
-        random_lines(int(sys.argv[2]), int(sys.argv[3]))
-        return
-    for line in sys.stdin.read().splitlines():
-        call, blank, rest = line.partition(" ")
-        if call not in ("read", "count", "rules") or not blank:
-            print(line)
-            continue
-        made, refused = read(unfolded(rest))
-        if refused:
-            print(refused)
-        elif call == "read":
-            print("at" + "".join(f" {at}" for at in made[2]))
-        elif call == "count":
-            print(f"{len(made[2])} statements")
-        else:
-            print(rules_of(made[0], made[1]).replace("\n", "/"))
-
-
-main()
+def point_lines(text):
+    """The lines that `koat while` writes of the statements of a text that it takes, in front of the report."""
+    return "".join(f"point {number} at {at}\n" for number, at in enumerate(read(text)[0][2]))

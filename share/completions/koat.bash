@@ -4,15 +4,16 @@ _koat() {
     local ending='!*.@(koat|its)'
     COMPREPLY=()
     if [ "$COMP_CWORD" = 1 ]; then
-        COMPREPLY=($(compgen -W 'facts analyse prove check replay lasso lp generate selfrun --help --version' -- "$word"))
+        COMPREPLY=($(compgen -W 'facts analyse prove check replay lasso lp while translate generate selfrun --help --version' -- "$word"))
         return
     fi
     case $before:$command:$word in
         --pivots:*) COMPREPLY=($(compgen -W '10000 100000 1000000' -- "$word")) && return ;;
-        *:analyse:-* | *:prove:-* | *:facts:-*) COMPREPLY=($(compgen -W '--pivots' -- "$word")) && return ;;
+        *:analyse:-* | *:prove:-* | *:facts:-* | *:while:-*) COMPREPLY=($(compgen -W '--pivots' -- "$word")) && return ;;
         *:generate:* | *:selfrun:*) return ;;
     esac
     [ "$command" != lp ] || ending='!*.lp'
+    case $command in while | translate) ending='!*.while' ;; esac
     [ "$COMP_CWORD" = 2 ] || [ "$command" != check ] || ending='!*.proof'
     [ "$COMP_CWORD" = 2 ] || [ "$command" != replay ] || ending='!*.run'
     [ "$COMP_CWORD" = 2 ] || [ "$command" != lasso ] || ending='!*.lasso'

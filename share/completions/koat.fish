@@ -1,5 +1,5 @@
 # Completions of `koat` for fish.
-set -l commands facts analyse prove check replay lasso lp generate selfrun
+set -l commands facts analyse prove check replay lasso lp while translate generate selfrun
 complete -c koat -f
 complete -c koat -n "not __fish_seen_subcommand_from $commands" -l help -d 'Commands and statuses'
 complete -c koat -n "not __fish_seen_subcommand_from $commands" -l version -d 'Version, sources, proved or not'
@@ -10,7 +10,9 @@ complete -c koat -n "not __fish_seen_subcommand_from $commands" -a check -d 'Whe
 complete -c koat -n "not __fish_seen_subcommand_from $commands" -a replay -d 'The steps of a run, counted beside the bounds'
 complete -c koat -n "not __fish_seen_subcommand_from $commands" -a lasso -d 'Whether a run can be repeated without end'
 complete -c koat -n "not __fish_seen_subcommand_from $commands" -a lp -d 'The exact end of a linear program'
+complete -c koat -n "not __fish_seen_subcommand_from $commands" -a while -d 'Bounds of a program with loops and branches'
+complete -c koat -n "not __fish_seen_subcommand_from $commands" -a translate -d 'Such a program as a transition system'
 complete -c koat -n "not __fish_seen_subcommand_from $commands" -a generate -d 'A program of 2*N + 1 rules'
 complete -c koat -n "not __fish_seen_subcommand_from $commands" -a selfrun -d 'The number of bounds of that program'
-complete -c koat -n "__fish_seen_subcommand_from facts analyse prove" -l pivots -x -d 'Pivots of each linear program'
-complete -c koat -n "__fish_seen_subcommand_from facts analyse prove check replay lasso lp" -F
+complete -c koat -n "__fish_seen_subcommand_from facts analyse prove while" -l pivots -x -d 'Pivots of each linear program'
+complete -c koat -n "__fish_seen_subcommand_from facts analyse prove check replay lasso lp while translate" -F

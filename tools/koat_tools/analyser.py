@@ -9,7 +9,7 @@ import threading
 from dataclasses import dataclass
 from typing import Optional
 
-from . import programs, reports, runs
+from . import programs, reports, runs, while_programs
 
 TOP = os.path.dirname(os.path.dirname(os.path.dirname(os.path.abspath(__file__))))
 
@@ -44,13 +44,20 @@ class Refusal:
 
 @dataclass
 class Answer:
-    """What koat said of a text: a report or a refusal."""
+    """What koat said of a text: a report or a refusal. Of a program of the while language that koat took the text is
+    the translation, and `source` has the statements."""
 
     data: bytes
     name: str
     report: Optional[reports.Report] = None
     program: Optional[programs.Program] = None
     refusal: Optional[Refusal] = None
+    source: Optional[while_programs.Source] = None
+
+    @property
+    def text(self):
+        """The text that was given."""
+        return self.source.data if self.source else self.data
 
 
 def program_path():
@@ -72,10 +79,36 @@ def analyse(name, pivots=None, seconds=None, with_facts=False):
 
 
 def analysed(data, name, pivots=None, seconds=None, with_facts=False):
-    """What koat says of a text of this name."""
-    command = "facts" if with_facts else "analyse"
-    ran = _ran([command, *([] if pivots is None else ["--pivots", str(pivots)]), "-"], data, seconds)
+    """What koat says of a text of this name: of rules, or of a program of the while language."""
+    says = _said_of_while if while_programs.is_named(name) else said_of_rules
+    return says(data, name, pivots, seconds, with_facts)
+
+
+def said_of_rules(data, name, pivots=None, seconds=None, with_facts=False):
+    """What koat says of a text with rules."""
+    ran = _ran(["facts" if with_facts else "analyse", *_options(pivots), "-"], data, seconds)
     return answer_of(ran.returncode, ran.stdout, data, name)
+
+
+def _said_of_while(data, name, pivots, seconds, with_facts):
+    """What koat says of a text of the while language. Facts are those of its translation."""
+    ran = _ran(["while", *_options(0 if with_facts else pivots), "-"], data, seconds)
+    if ran.returncode not in (0, 1):
+        return answer_of(ran.returncode, ran.stdout, data, name)
+    positions, output = while_programs.split(ran.stdout)
+    translated = _ran(["translate", "-"], data, seconds)
+    if translated.returncode != 0:
+        raise Stop(KOAT_FAILED, f"koat ended with status {translated.returncode}")
+    if with_facts:
+        ran = _ran(["facts", *_options(pivots), "-"], translated.stdout, seconds)
+        output = ran.stdout
+    answer = answer_of(ran.returncode, output, translated.stdout, name)
+    answer.source = while_programs.source(data, positions, answer.program)
+    return answer
+
+
+def _options(pivots):
+    return [] if pivots is None else ["--pivots", str(pivots)]
 
 
 def ready():
@@ -112,7 +145,7 @@ def replay(answer, run, seconds=None):
 
 def prove(answer, pivots=None, seconds=None):
     """The text of the proof file that koat writes of a program that it took."""
-    ran = _ran(["prove", *([] if pivots is None else ["--pivots", str(pivots)]), "-"], answer.data, seconds)
+    ran = _ran(["prove", *_options(pivots), "-"], answer.data, seconds)
     if ran.returncode not in (0, 1):
         raise Stop(KOAT_FAILED, f"koat ended with status {ran.returncode}")
     return ran.stdout
@@ -136,6 +169,15 @@ def judged(answer, data, seconds=None):
     if ran.returncode not in (0, PROOF_REFUSED, NOT_ACCEPTED) or not said:
         raise Stop(KOAT_FAILED, f"koat ended with status {ran.returncode}" + (f": {said[0]}" if said else ""))
     return said
+
+
+def takes_lasso(answer, data, seconds=None):
+    """Whether koat says of a lasso file's text that its turn can be repeated in the program of an answer."""
+    with tempfile.NamedTemporaryFile() as file:
+        file.write(data)
+        file.flush()
+        ran = _ran(["lasso", "--", "-", file.name], answer.data, seconds)
+    return ran.returncode == 0
 
 
 # Whether koat's line on which program answers was let through: once is enough.

@@ -2,7 +2,7 @@
 
 import re
 
-from . import growth, hints, programs, reports
+from . import growth, hints, programs, reports, while_programs
 
 FORMAT = "koat report 2"
 NO_BOUND = "MAYBE"
@@ -21,9 +21,18 @@ def as_json(answer, version):
     if answer.refusal:
         return {**told, "verdict": "refused", "competition": NO_BOUND, "refusal": _refusal(answer)}
     program = answer.program
-    rules = zip(program.rules, programs.columns(answer.data, [it.at for it in program.rules]))
-    return {**told, "competition": competition(answer), "inputs": program.inputs,
-            "rules": [_rule(rule, *where) for rule, where in rules], **reports.as_json(answer.report)}
+    statements = {"statements": while_programs.as_json(answer)} if answer.source else {}
+    return {**told, "competition": competition(answer), "inputs": program.inputs, **statements,
+            "rules": [_rule(rule, *where) for rule, where in zip(program.rules, _places(answer))],
+            **reports.as_json(answer.report)}
+
+
+def _places(answer):
+    """Line and column of each rule, or of the statement that it is of."""
+    if not answer.source:
+        return programs.columns(answer.data, [it.at for it in answer.program.rules])
+    found = [answer.source.of_rule(it.number) for it in answer.program.rules]
+    return [(it.line, it.column) for it in found]
 
 
 def _rule(rule, line, column):
@@ -42,7 +51,7 @@ def _refusal(answer):
         return {**told, "hint": "a text has at most 4,194,304 bytes"}
     where = programs.place(answer.data, refusal.at)
     return {**told, "byte": refusal.at, "line": where.line, "column": where.column,
-            "hint": hints.hint(answer.data, refusal.at, refusal.kind)}
+            "hint": hints.hint_of(answer)}
 
 
 def run_json(replay):

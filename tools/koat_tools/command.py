@@ -10,13 +10,14 @@ import re
 import sys
 
 from . import analyser, answers, bounds, endless, explain, gallery, growth, lint, making, many, page, picture, programs
-from . import proofs, refusals, runs, sentences, serve
+from . import proofs, refusals, runs, sentences, serve, while_programs
 from .analyser import Stop
 
 HELP = """Shows what koat says of a program in other forms. It runs koat and changes nothing of what it says; what
 stands beside it (hints, O-classes, values, pictures) is worked out here and isn't proved.
 
-  explain FILE        a refusal with line, column and a hint; else each missing bound with its reason in plain words
+  explain FILE        a refusal with line, column and a hint; else each missing bound with its reason in plain words, and
+                      that none exists where a lasso is soon found
   lint FILE           likely slips that koat takes silently: names, dead ends, rules that never occur, costs that are
                       never over 0, large constants
   json FILE           the whole answer as JSON, also a refusal, as docs/report.schema.json describes it; with --run RUN
@@ -24,8 +25,8 @@ stands beside it (hints, O-classes, values, pictures) is worked out here and isn
   class FILE          a first line as the termination competition has it, and the O-class of each bound
   at FILE A=30 B=12   the value of each bound at these inputs
   run FILE A=30 B=12  a run made at random from these inputs, as a run file for `koat replay`
-  endless FILE        a lasso, which shows that some run never ends, as a file for `koat lasso`; status 1 where none is
-                      found
+  endless FILE        a lasso, which shows that some run never ends, as a file for `koat lasso`: a turn that leads back, or
+                      one that moves on by the same differences each time; status 1 where none is found
   proof FILE          the proof of the bounds in sentences, lemma by lemma; with --proof PROOF that of this file
   many PATH..         files and folders at once: a line of JSON for each, and a table at the end
   serve               an editor in the browser with koat's answers beside it, for this machine alone
@@ -37,12 +38,13 @@ STATUSES = """status: 0 done; 1 lint found a likely slip, or endless no lasso; 2
 can't be read; 4 the output can't be written; 6 koat refused the program; 10 koat can't be run; 11 koat gave no answer,
 or none that can be read; 12 dot is missing, failed or took too long; 13 inputs of `at` or `run` are wrong; 14 koat
 refused the run; 15 koat refused the proof's text, or doesn't accept it; 130 interrupted. FILE may be - for standard
-input. The variable KOAT names another program than ./koat."""
+input. The variable KOAT names another program than ./koat. A FILE that ends in .while has a program of the while
+language: explain, json, class, at and page take it, and say of each statement how often it is executed."""
 
 
 INTERRUPTED = 130
-# How long `endless` looks where no time is given.
-ENDLESS_SECONDS = 10
+# How long `endless` looks where no time is given, and `explain` before it says nothing of a lasso.
+ENDLESS_SECONDS, EXPLAIN_SECONDS = 10, 2
 
 
 def seconds(text):
@@ -191,6 +193,9 @@ def _write(text, out):
 
 
 def _analysed(asked):
+    if while_programs.is_named(asked.file) and asked.command not in OF_WHILE:
+        raise Stop(analyser.WORDS_FAULT,
+                   f"{asked.command} takes rules: `koat translate {asked.file} >NAME.koat` writes them")
     return analyser.analyse(asked.file, asked.pivots, asked.seconds, asked.facts)
 
 
@@ -213,8 +218,17 @@ def _explain(asked, out):
     if answer.refusal:
         _print(explain.refusal_lines(answer), out)
         return analyser.REFUSED
-    _print(explain.report_lines(answer, asked.facts), out)
+    _print(explain.report_lines(answer, asked.facts, _lasso_of(answer, asked.seconds)), out)
     return 0
+
+
+def _lasso_of(answer, most):
+    """A lasso that koat takes for the program of an answer that misses a time, if one is found soon."""
+    if all(it.why is None for it in answer.report.times):
+        return None
+    lasso = endless.found(answer.program, EXPLAIN_SECONDS)
+    is_taken = lasso and analyser.takes_lasso(answer, endless.text(lasso).encode(), most)
+    return lasso if is_taken else None
 
 
 def _lint(asked, out):
@@ -250,6 +264,8 @@ def _class(asked, out):
         return analyser.REFUSED
     for label, _, bound in answer.report.labelled():
         print(f"{label}: {'unknown' if bound is None else growth.text(growth.growth(bound))}", file=out)
+    if answer.source:
+        _print(while_programs.lines(answer, lambda _, tree: growth.text(growth.growth(tree))), out)
     print("These classes are derived from koat's bounds, and not proved themselves.", file=out)
     return 0
 
@@ -259,18 +275,22 @@ def _at(asked, out):
     answer = _reported(asked)
     given = {name: abs(it) for name, it in _inputs(asked.inputs, answer.program.inputs).items()}
     _print([_valued(label, text, bound, given) for label, text, bound in answer.report.labelled()], out)
+    if answer.source:
+        _print(while_programs.lines(answer, lambda text, tree: "at most " + _with_value("it", text, tree, given)), out)
     return 0
 
 
 def _valued(label, text, bound, given):
     """The line of a bound, with its value where that isn't its text."""
-    if bound is None:
-        return f"{label}: unknown"
+    return f"{label}: " + ("unknown" if bound is None else _with_value(label, text, bound, given))
+
+
+def _with_value(label, text, bound, given):
     lacking = [name for name in bounds.names(bound) if name not in given]
     if lacking:
         raise Stop(analyser.BAD_INPUT, f"{label} needs " + " ".join(f"{it}=NUMBER" for it in lacking))
     value = bounds.value_text(bounds.value(bound, given))
-    return f"{label}: {text}" + ("" if text == value else f" = {value}")
+    return text + ("" if text == value else f" = {value}")
 
 
 def _inputs(words, names):
@@ -303,7 +323,8 @@ def _run(asked, out):
 
 
 def _endless(asked, out):
-    """Looks for a run that comes to a configuration again, and writes it as a lasso file."""
+    """Looks for a run that comes to a configuration again, or that moves on by the same differences each time, and writes
+    it as a lasso file."""
     lasso = endless.found(_reported(asked).program, asked.seconds or ENDLESS_SECONDS)
     if lasso is None:
         return 1
@@ -369,6 +390,8 @@ def _gallery(asked, out):
 
 
 WITH_INPUTS = ("at", "run")
+# The commands that take a program of the while language.
+OF_WHILE = ("explain", "json", "class", "at", "page")
 WORDS_OF = {"many": _many_words, "serve": _serve_words, "gallery": _gallery_words}
 AT_ONCE = ("many", "serve")
 

@@ -1,4 +1,5 @@
-"""Lassos, looked for by walking: a run that comes to a configuration where it was before, so that it goes on for ever.
+"""Lassos, looked for by walking and then along paths (`paths`): a run that comes to a configuration where it was before,
+so that it goes on for ever; or to one at the same symbol from which it goes on by the same differences each time.
 
 `koat lasso` alone says that what is found here is a lasso of the program: it checks the file that is written.
 """
@@ -8,7 +9,7 @@ import time
 from dataclasses import dataclass
 from typing import List, Tuple
 
-from . import runs
+from . import moving, paths, runs
 
 # Start values are tried up to this absolute value, the small ones first.
 START = 6
@@ -18,20 +19,24 @@ DEPTHS = (60, 5000)
 DRAWS, CONFIGURATIONS = 60, 400000
 # Where the search for one walk of a depth stops, so that those from other starts have their turn.
 FEW = 20000
+# Turns of so many steps at most are tried as such that move on, where a walk has so many steps at most.
+TURN, EARLY = 6, 20
 
 
 @dataclass
 class Lasso:
-    """The start values, the steps of the stem and those of the turn: the number of a rule and its free values."""
+    """The start values, the steps of the stem and those of the turn: the number of a rule and its free values; and whether
+    the turn moves on, or else leads back."""
 
     start: List[int]
     stem: List[Tuple[int, List[int]]]
     turn: List[Tuple[int, List[int]]]
+    is_moving: bool = False
 
 
 def text(lasso):
     """The lasso file of a lasso."""
-    lines = ["koat-lasso 1", " ".join(["start", *map(str, lasso.start)])]
+    lines = [f"koat-lasso {2 if lasso.is_moving else 1}", " ".join(["start", *map(str, lasso.start)])]
     lines += [*map(_line, lasso.stem), "loop", *map(_line, lasso.turn), "end"]
     return "".join(f"{line}\n" for line in lines)
 
@@ -41,14 +46,23 @@ def lasso_of(data):
     lines = [it.split() for it in data.decode("latin-1").splitlines()]
     loop = lines.index(["loop"])
     steps = [(int(it[1]), [int(one) for one in it[2:]]) for it in lines[2:loop] + lines[loop + 1:-1]]
-    return Lasso([int(it) for it in lines[1][1:]], steps[:loop - 2], steps[loop - 2:])
+    return Lasso([int(it) for it in lines[1][1:]], steps[:loop - 2], steps[loop - 2:], lines[0][1] == "2")
 
 
 def found(program, seconds):
-    """A lasso of the program, or none where none was found within so many seconds."""
-    search = _Search(program, time.monotonic() + seconds)
+    """A lasso of the program, or none where none was found within so many seconds; walks have half of them."""
+    now = time.monotonic()
+    lasso = _walked(_Search(program, now + seconds / 2), len(program.inputs))
+    if lasso:
+        return lasso
+    along = paths.found(program, now + seconds)
+    return Lasso(*along) if along else None
+
+
+def _walked(search, places):
+    """A lasso that walks find, or none."""
     for depth in DEPTHS:
-        for start in _starts(len(program.inputs)):
+        for start in _starts(places):
             lasso = search.walk(start, depth)
             if lasso or search.is_over():
                 return lasso
@@ -79,7 +93,8 @@ class _Search:
     def __init__(self, program, until):
         self.symbol, self.until, self.left = program.start, until, CONFIGURATIONS
         self.leaving, self.done = {}, {}
-        for rule in map(runs.UsableRule, program.rules):
+        self.rules = [runs.UsableRule(rule) for rule in program.rules]
+        for rule in self.rules:
             self.leaving.setdefault(rule.source, []).append(rule)
 
     def is_over(self):
@@ -104,6 +119,9 @@ class _Search:
             if there in at:
                 steps.append(taken)
                 return Lasso(list(start), steps[:at[there]], steps[at[there]:])
+            turn = self._moving_turn(order, [*steps, taken], there)
+            if turn:
+                return Lasso(list(start), steps[:len(steps) + 1 - turn], [*steps, taken][-turn:], True)
             if self.done.get(there, 0) >= depth - len(steps) - 1 or self.is_over():
                 continue
             if few == 0:
@@ -115,6 +133,17 @@ class _Search:
             order.append(there)
             path.append(self._steps(there))
         return None
+
+    def _moving_turn(self, order, steps, there):
+        """How many of the last steps, through these configurations to the last one, are a turn that moves on; or 0."""
+        if len(steps) > EARLY:
+            return 0
+        for turn in range(1, min(TURN, len(steps)) + 1):
+            symbol, values = order[-turn]
+            taken = [(self.rules[number - 1], free) for number, free in steps[-turn:]]
+            if symbol == there[0] and moving.moves_on(taken, values, there[1]):
+                return turn
+        return 0
 
     def _steps(self, here):
         """The steps from a configuration, each with the configuration behind it."""

@@ -1,6 +1,6 @@
 """A refusal with its line, column and a hint, or the missing bounds of a report in plain words."""
 
-from . import hints, programs, reasons
+from . import hints, programs, reasons, while_programs
 
 
 def refusal_lines(answer):
@@ -9,7 +9,7 @@ def refusal_lines(answer):
         return [refusal.line, "hint: a text has at most 4,194,304 bytes"]
     where = programs.place(answer.data, refusal.at)
     lines = [refusal.line, f"{answer.name}, line {where.line}, column {where.column}:"]
-    return lines + shown(where) + [f"hint: {hints.hint(answer.data, refusal.at, refusal.kind)}"]
+    return lines + shown(where) + [f"hint: {hints.hint_of(answer)}"]
 
 
 def shown(where, width=100):
@@ -19,14 +19,30 @@ def shown(where, width=100):
     return [f"  {text}", "  " + " " * (where.column - 1 - start) + "^"]
 
 
-def report_lines(answer, with_facts=False):
-    """For each bound that is missing the line of the report, and why in words; and what to try where facts may help."""
-    lines = [f"fact {it}" for it in answer.report.facts]
+def report_lines(answer, with_facts=False, lasso=None):
+    """For each bound that is missing the line of the report, and why in words; that none exists where the rule is one of a
+    lasso's turn; and what to try where facts may help. Of a program of the while language first how often each statement
+    is executed."""
+    lines = while_programs.lines(answer) if answer.source else []
+    lines += [f"fact {it}" for it in answer.report.facts]
     for entry in answer.report.entries():
         if entry.why:
             lines.append(f"why {entry.label}: {entry.why.line}")
+            lines += [f"  Rule {entry.rule} is {while_programs.step(answer, entry.rule)}."] if answer.source else []
             lines += [f"  {it}" for it in reasons.words(answer.report, entry, answer.program)]
+            if lasso and entry.kind == "time" and entry.rule in {rule for rule, _ in lasso.turn}:
+                lines.append(f"  {lasso_line(answer, lasso)}")
     missing = any(it.why for it in answer.report.entries())
     if not missing:
         return lines + ["no bound is missing"]
-    return lines if with_facts else lines + [f"try `koat facts {answer.name}`: facts at locations may give what is missing"]
+    if with_facts:
+        return lines
+    call = f"koat translate {answer.name} | koat facts -" if answer.source else f"koat facts {answer.name}"
+    return lines + [f"try `{call}`: facts at locations may give what is missing"]
+
+
+def lasso_line(answer, lasso):
+    """That no bound exists, since a run never ends, and how that is checked."""
+    goes = "moves on" if lasso.is_moving else "repeats"
+    return (f"no bound exists: this run {goes} for ever (`tools/show endless {answer.name} | koat lasso {answer.name} -` "
+            "checks it)")

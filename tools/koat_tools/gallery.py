@@ -32,12 +32,12 @@ def _shown(path, asked, version):
     try:
         answer = analyser.analyse(path, asked.pivots, asked.seconds)
         if answer.refusal:
-            return _card(path, answer.data, [_line("refused", answer.refusal.line, None)])
+            return _card(path, answer.text, [_line("refused", answer.refusal.line, None)])
         rows = [_row("analyse", answer, False, asked, version)]
-        other = analyser.analysed(answer.data, path, asked.pivots, asked.seconds, True)
+        other = analyser.analysed(answer.text, path, asked.pivots, asked.seconds, True)
         if other.report.total_text != answer.report.total_text:
             rows.append(_row("facts", other, True, asked, version))
-        return _card(path, answer.data, rows)
+        return _card(path, answer.text, rows)
     except Stop as stop:
         return _card(path, b"", [_line("no answer", stop.line, None)])
 

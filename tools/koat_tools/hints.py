@@ -2,7 +2,7 @@
 
 import re
 
-from . import notations, programs
+from . import notations, programs, while_hints, while_programs
 
 TWO_RULES = "a guard has no `!=`: write the rule twice, once with `<` and once with `>`"
 NO_OR = "a guard has no `||`: write the rule twice, once with each side"
@@ -85,6 +85,12 @@ SAID = {
                       "out, or made a start argument",
     "RepeatedSection": "a section stands once (COMMENT alone may come again): put both into one",
 }
+
+
+def hint_of(answer):
+    """The hint on the refusal of an answer, of rules or of a program of the while language."""
+    hints = while_hints.hint if while_programs.is_named(answer.name) else hint
+    return hints(answer.data, answer.refusal.at, answer.refusal.kind)
 
 
 def hint(data, at, kind):

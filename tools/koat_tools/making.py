@@ -13,7 +13,7 @@ from .analyser import Stop
 def with_facts(answer, pivots=None, seconds=None):
     """The answer for the program with the facts of an answer in its guards: proofs are of such a program."""
     data = facts.with_facts(answer.program, answer.report.facts)
-    told = analyser.analysed(data, answer.name, pivots, seconds)
+    told = analyser.said_of_rules(data, answer.name, pivots, seconds)
     if told.refusal or told.report.total_text != answer.report.total_text:
         raise Stop(analyser.KOAT_FAILED, "the program with the facts in its guards has another report than `koat "
                    "facts`")

@@ -9,7 +9,7 @@ import sys
 import threading
 import time
 
-from . import analyser, answers, calls, making, tally
+from . import analyser, answers, calls, making, tally, while_programs
 from .analyser import Stop
 
 ENDINGS = (".koat", ".its")
@@ -40,6 +40,8 @@ def answered(calling, words, name, version, asked):
     told = {"format": answers.FORMAT, "koat": version, "file": name}
     problem, answer = None, None
     try:
+        if while_programs.is_named(name):
+            raise Stop(analyser.WORDS_FAULT, "many takes rules: `koat translate FILE >NAME.koat` writes them")
         data = analyser.read_file(name)
         told["checksum"] = hashlib.sha256(data).hexdigest()
         status, output, problem = calling.call([*words, "-"], data)

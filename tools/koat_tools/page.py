@@ -7,7 +7,7 @@ import re
 from dataclasses import dataclass, field
 from typing import Dict, List, Optional
 
-from . import bounds, curve, facts, growth, programs, reasons, runs, sentences
+from . import bounds, curve, facts, growth, programs, reasons, runs, sentences, source_lines
 
 FOLDER = os.path.dirname(os.path.abspath(__file__))
 # From so many sizes on those of a rule are folded.
@@ -42,6 +42,7 @@ def page(answer, beside=None):
         "rules": "\n".join(_rule(rule, answer, beside) for rule in program.rules), "facts": _facts(program, report),
         "missing": _missing(report, program), "report": html.escape(report.text), "run": _run(program, report, run),
         "version": version_text(beside.version), "curve": curve.section(program, report),
+        "source": source_lines.section(answer),
     }
     return re.sub(r"\{\{(\w+)\}\}", lambda match: parts[match.group(1)], _file("page.html"))
 
@@ -178,7 +179,7 @@ def _rule(rule, answer, beside):
     labels += [(f"{name} after rule {rule.number}", it.label) for name, it in zip(names, sizes)]
     shown = "".join(_why_known(what, beside.whys.get(label)) for what, label in labels)
     return (f'<article class="rule {kind}" id="rule-{rule.number}" tabindex="-1"><h3>Rule {rule.number}</h3>'
-            f"<pre>{html.escape(text)}</pre>"
+            f"<pre>{html.escape(text)}</pre>{source_lines.of_rule(answer, rule.number)}"
             + _table(replay, f"how often rule {rule.number} is used",
                      [_bound_row(replay, what, it.label, it.text, it.bound, _anchor(it)) for what, it in own])
             + (folded if rows else "")

@@ -128,6 +128,14 @@ class UsableRule:
             return None
         return after if all(abs(it) <= WIDEST for it in after) else None
 
+    def moved(self, places, free, whole):
+        """What is behind the rule where names stand for other numbers than integers, which `whole` makes of integers; none
+        where the guard isn't true of them."""
+        given = dict(zip(self.names + self.free, places + free))
+        if not _value(self.guard, given, whole):
+            return None
+        return [_value(update, given, whole) for update in self.updates]
+
 
 class _Whole(int):
     """A whole number of which no sum, product or power passes 128 bits."""
@@ -179,8 +187,8 @@ def _is_truth(found, at):
     return all(it in ("&&", "/\\") for it in beside)
 
 
-def _value(code, given):
-    return eval(code, {"__builtins__": {}}, {"given": given, "whole": _within})  # pylint: disable=eval-used
+def _value(code, given, whole=None):
+    return eval(code, {"__builtins__": {}}, {"given": given, "whole": whole or _within})  # pylint: disable=eval-used
 
 
 class ReplayError(ValueError):

@@ -11,7 +11,7 @@ from unittest import mock
 
 import examples
 import schema
-from koat_tools import answers, command, reports, runs
+from koat_tools import answers, command, endless, reports, runs
 
 STAND_IN = os.path.join(examples.HERE, "stand_in")
 
@@ -128,6 +128,19 @@ class Commands(unittest.TestCase):
     def test_explain(self):
         self.assertEqual(shown("explain", examples.path("gcd"))[:2], (0, "no bound is missing\n"))
         self.assertEqual(shown("explain", os.path.join(examples.HERE, "examples.py"))[0], 6)
+
+    def test_explain_says_where_no_bound_exists(self):
+        for name, goes in (("stay", "repeats"), ("unequal", "moves on")):
+            path = examples.path(name)
+            lines = shown("explain", path)[1].splitlines()
+            wanted = (f"  no bound exists: this run {goes} for ever (`tools/show endless {path} | koat lasso {path} -` "
+                      "checks it)")
+            self.assertEqual(lines.count(wanted), 1)
+            self.assertTrue(lines[lines.index(wanted) - 1].startswith("  "))
+
+    def test_explain_says_nothing_of_a_lasso_that_koat_refuses(self):
+        with mock.patch.object(endless, "text", return_value="koat-lasso 1\nend\n"):
+            self.assertNotIn("no bound exists", shown("explain", examples.path("stay"))[1])
 
     def test_lint(self):
         status, out, _ = shown("lint", examples.path("gcd"))

@@ -91,9 +91,9 @@ class Reasons(unittest.TestCase):
 
 class Long(unittest.TestCase):
     def test_hints_of_long_texts_come_soon(self):
-        begun = time.monotonic()
+        begun = time.process_time()
         for text in (b"(" * 20000, b"[" * 20000, b"(RULES " + b"f(A) -> f(A) " * 2000 + b"f", b"(COMMENT " + b"(" * 20000,
                      b"(RULES f(A) -> f(" + b"(A+" * 5000):
             for at in (0, len(text) - 1, len(text)):
                 self.assertTrue(hints.hint(text, at, "Syntax"))
-        self.assertLess(time.monotonic() - begun, 60)
+        self.assertLess(time.process_time() - begun, 60)

@@ -169,7 +169,8 @@ class Completions(unittest.TestCase):
         self.assertEqual(self.completed("koat", "an"), ["analyse"])
         self.assertEqual(self.completed("koat", "--"), ["--help", "--version"])
         self.assertEqual(self.completed("koat", "facts", "--"), ["--pivots"])
-        self.assertEqual(self.completed("koat", "analyse", "examples/gc"), ["examples/gcd.koat"])
+        self.assertEqual(self.completed("koat", "analyse", "examples/euc"), ["examples/euclid.koat"])
+        self.assertEqual(self.completed("koat", "while", "examples/gc"), ["examples/gcd.while"])
         self.assertEqual(self.completed("koat", "replay", "examples/gcd.koat", "examples/gc"), ["examples/gcd.run"])
         self.assertEqual(self.completed("koat", "lasso", "examples/stay.koat", "examples/st"), ["examples/stay.lasso"])
         self.assertEqual(self.completed("koat", "lp", "examples/pri"), ["examples/prices.lp"])
@@ -189,7 +190,8 @@ class Completions(unittest.TestCase):
         for name in ("koat.bash", "_koat", "koat.fish"):
             with open(os.path.join(COMPLETIONS, name), encoding="utf-8") as file:
                 said = file.read()
-            for command in ("facts", "analyse", "prove", "check", "replay", "generate", "selfrun", "lasso", "lp"):
+            for command in ("facts", "analyse", "prove", "check", "replay", "generate", "selfrun", "lasso", "lp", "while",
+                            "translate"):
                 self.assertIn(command, said)
 
 

@@ -13,14 +13,16 @@ RUN = examples.path("gcd", ".run")
 # Words, and the line that stands behind `koat: ` where the program ends with status 2.
 WORDS = [
     ([], "a command is missing: begin with `koat facts FILE`; `koat --help` names the others"),
-    ([""], "`` is no command: they are analyse, prove, check, replay, generate, selfrun, facts, lasso, lp"),
+    ([""],
+     "`` is no command: they are analyse, prove, check, replay, generate, selfrun, facts, lasso, lp, while, translate"),
     (["analyze", GCD], "`analyze` is no command; is `analyse` meant?"),
     (["Analyse", GCD], "`Analyse` is no command; is `analyse` meant?"),
     (["anaylse", GCD], "`anaylse` is no command; is `analyse` meant?"),
     (["fact", GCD], "`fact` is no command; is `facts` meant?"),
     (["gen", "3"], "`gen` is no command; is `generate` meant?"),
     (["verify", GCD],
-     "`verify` is no command: they are analyse, prove, check, replay, generate, selfrun, facts, lasso, lp"),
+     "`verify` is no command: they are analyse, prove, check, replay, generate, selfrun, facts, lasso, lp, while, "
+     "translate"),
     (["explain", GCD], "`explain` is no command of koat, but one of its tools: `tools/show explain ..`"),
     (["exlpain", GCD], "`exlpain` is no command; is `tools/show explain` meant?"),
     (["help"], "`help` is no command; is `--help` meant?"),
@@ -46,6 +48,10 @@ WORDS = [
     (["lp"], "`lp` takes one FILE: FILE is missing"),
     (["lp", "a", "b"], "`b` is one word too many: `lp` takes one FILE"),
     (["lp", "--pivots=5", "a"], "`lp` has no option `--pivots`"),
+    (["while"], "`while` takes one FILE: FILE is missing"),
+    (["while", "a", "b"], "`b` is one word too many: `while` takes one FILE"),
+    (["translate", "--pivots=5", "a"], "`translate` has no option `--pivots`"),
+    (["translat", "a"], "`translat` is no command; is `translate` meant?"),
     (["--versoin"], "`--versoin` is no command; is `--version` meant?"),
     (["--hlep"], "`--hlep` is no command; is `--help` meant?"),
     (["--help", "facts"], "`--help` stands alone"),
@@ -107,8 +113,8 @@ class Words(unittest.TestCase):
     def test_words_that_are_a_command_line_get_none(self):
         taken = (["analyse", GCD], ["facts", GCD, "--pivots", "0"], ["prove", "--pivots=1000000", "--", GCD],
                  ["check", GCD, RUN], ["replay", "--", GCD, RUN], ["lasso", GCD, "-"], ["lasso", "--", GCD, RUN],
-                 ["generate", "0"], ["selfrun", "100"], ["lp", "-"], ["analyse", "-"],
-                 ["analyse", "gr\u00fc\u00dfe.koat"])
+                 ["generate", "0"], ["selfrun", "100"], ["lp", "-"], ["while", "--pivots=5", "-"],
+                 ["translate", "-"], ["analyse", "-"], ["analyse", "gr\u00fc\u00dfe.koat"])
         self.assertEqual([answered(it, 2)[2] for it in taken], [""] * len(taken))
 
 
@@ -164,7 +170,8 @@ class Launcher(unittest.TestCase):
 
     def test_help_names_the_usage_and_every_status(self):
         said = examples.text("../launch/help", "")
-        for word in ("analyse", "prove", "check", "replay", "generate", "selfrun", "facts", "lasso", "lp", "--pivots"):
+        for word in ("analyse", "prove", "check", "replay", "generate", "selfrun", "facts", "lasso", "lp", "while",
+                     "translate", "--pivots"):
             self.assertIn(word, said)
         for status in [*range(11), 70, 127]:
             self.assertRegex(said, rf"\b{status} ")

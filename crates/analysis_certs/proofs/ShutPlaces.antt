@@ -21,8 +21,8 @@ use Rattle.cert_text.specs.Spelled.{IsPlaceOf}
 use Rattle.bound_fixpoint.specs.Answers.{Target, TimeOf, SizesOf, Answer, Lacks, Tells, TellsTime, TellsRanking}
 use Rattle.bound_fixpoint.specs.Derivations.{Derivation, bounds_of}
 use Rattle.bound_fixpoint.specs.Rounds.{IsAskedFor, IsNoBound}
-use Rattle.bound_fixpoint.specs.Searches.{Searches, Ranking, Ranked, Unranked, RankTripped, OfTime}
-use Rattle.outcome.specs.Reports.{NoFunction, TimeTripped, TimeLarge}
+use Rattle.bound_fixpoint.specs.Searches.{Searches, Ranking, Ranked, Unranked, RankHitLimit, OfTime}
+use Rattle.outcome.specs.Reports.{NoFunction, TimeHitLimit, TimeLarge}
 use Rattle.bound_fixpoint.specs.Sets.{IsShut}
 use Rattle.bound_fixpoint.specs.Right.{AreRight, IsGapOf}
 use Rattle.bound_fixpoint.proofs.AcceptedRanks.{is_question}
@@ -74,7 +74,7 @@ module _ (p : Program) (pivots : ℕ) (valid : IsValid p) where
           → (r : Ranking) → (searches_of_program p pivots).Ranks a.asked.set u a.asked.shut r
           → TellsRanking (setting_of p) (bounds_of p fs) r (Lacks (OfTime (NoFunction g))) → HasItsPlaces p g
       by-answer u rule a (Ranked node) answered tells = absurd (not-large g _ tells.1)
-      by-answer u rule a (RankTripped x) answered tells = absurd (let e : ◌≡◌ {A = Answer} (Lacks (OfTime (NoFunction g))) (Lacks (OfTime (TimeTripped x))) = tells in let no_way : ⊥ = cc in no_way)
+      by-answer u rule a (RankHitLimit x) answered tells = absurd (let e : ◌≡◌ {A = Answer} (Lacks (OfTime (NoFunction g))) (Lacks (OfTime (TimeHitLimit x))) = tells in let no_way : ⊥ = cc in no_way)
       by-answer u rule a (Unranked k) answered tells =
           let right = (program_searches_right.each p pivots valid).rank a.asked.set u a.asked.shut (Unranked k)
           (is_question (setting_of p) (bounds_of p fs) (Constant 1, refl) u a.asked.set rule a.asked.is_set) answered in

@@ -11,8 +11,8 @@ use Rattle.bland_end.proofs.Binomials.{some-limit}
 
 -- where as many pivots are allowed as there are bases, no answer is that they don't suffice
 pub never-budget : (p : LinearProgram) (allowed k : ℕ) → bases_of p ≤ allowed → ¬ IsAnswer p allowed (Err (Budget k))
-never-budget p allowed k l (fits, (same, trips)) =
-    let few = pivots-few p allowed trips.last trips.reached.is in absurd (omega (arith, l, few))
+never-budget p allowed k l (fits, (same, hits_limit)) =
+    let few = pivots-few p allowed hits_limit.last hits_limit.reached.is in absurd (omega (arith, l, few))
 
 -- if the number of bases itself is allowed, no answer is that the pivots don't suffice
 pub no-stop : (p : LinearProgram) (k j : ℕ) → below_limit (bases_of p) ≡ Some k → ¬ IsStop p k (Budget j)

@@ -3,7 +3,7 @@ use Rattle.std.specs.Prelude.{◌≡◌, ◌^◌, ◌<◌, ◌≤◌, Result, Ok
 use Rattle.linear_forms.specs.LinearProgram.{LinearProgram}
 use Rattle.simplex_core.specs.declared.problem.Solved.{Solved}
 use Rattle.simplex_core.specs.Problem.{table_size, widest}
-use Rattle.simplex_core.specs.Outcome.{IsEnd, TripsRange}
+use Rattle.simplex_core.specs.Outcome.{IsEnd, ExceedsNumberRange}
 use Rattle.simplex_core.specs.Agreement.{IsSameEnd}
 use Rattle.bland_end.specs.declared.whole.WholeError.{WholeError}
 use Rattle.bland_end.specs.declared.whole.WholeError.TheVariants.{Range, Wide, TooMany, Memory}
@@ -12,7 +12,7 @@ use Rattle.bland_end.specs.Counting.{bases_of}
 -- why the end isn't reached: there are too many bases; or there aren't, and the table would be too wide, or a number is
 -- out of range after k pivots; want of memory may come at any time
 abbrev pub IsWholeStop : LinearProgram → WholeError → Type 0
-IsWholeStop p (Range k) = (bases_of p < 2 ^ 32) × (table_size p ≤ widest) × TripsRange p (bases_of p) k
+IsWholeStop p (Range k) = (bases_of p < 2 ^ 32) × (table_size p ≤ widest) × ExceedsNumberRange p (bases_of p) k
 IsWholeStop p (Wide n) = (bases_of p < 2 ^ 32) × (widest < table_size p) × (n ≡ table_size p)
 IsWholeStop p TooMany = 2 ^ 32 ≤ bases_of p
 IsWholeStop p Memory = Unit {0}

@@ -83,7 +83,7 @@ free_key p tab t (suc i) h k e = go k.place
 pub no_entry : (p : Program) (i : ℕ) → IsKey p 0 i → ⊥
 no_entry p i k = let e = k.rule.numbered in let f : ⊥ = cc in f
 
--- a key that is found by the last find alone has its number
+-- a key that is found by the last derivation alone has its number
 pub number-new : (n : ℕ) (fs : List plain.Derivation) (g : plain.Derivation) (t i : ℕ) → plain.bound_found fs t i ≡ None
     → has_key g.keys t i ≡ true → plain.number_from n (fs ++ g ∷ []) t i ≡ suc (n + length fs)
 number-new n [] g t i e m = rw m (let h : suc n ≡ suc (n + 0) = omega arith in h)
@@ -101,7 +101,7 @@ number-new n (f ∷ fs) g t i e m =
         ap (λ (v : Bool). cond v (suc n) (plain.number_from (suc n) (fs ++ g ∷ []) t i)) k
         ∙ (ih ∙ (let h : suc (suc n + length fs) ≡ suc (n + suc (length fs)) = omega arith in h))
 
--- a key that the last find doesn't have keeps its number
+-- a key that the last derivation doesn't have keeps its number
 pub number-other : (n : ℕ) (fs : List plain.Derivation) (g : plain.Derivation) (t i : ℕ) → has_key g.keys t i ≡ false
     → plain.number_from n (fs ++ g ∷ []) t i ≡ plain.number_from n fs t i
 number-other n [] g t i m = rw m refl

@@ -20,9 +20,9 @@ pub enum Node {
     Cycle(Vec<Member>),
 }
 
-/// A find: for these keys, which all get one bound, a node; the keys of its premises (the bounds that it needs), in the
-/// order in which it needs them; and the bound. A key is a rule and a place: the time is at place 0, sizes are at
-/// places from 1, and rule 0 is the virtual entry.
+/// A derivation: for these keys, which all get one bound, a node; the keys of its premises (the bounds that it needs),
+/// in the order in which it needs them; and the bound. A key is a rule and a place: the time is at place 0, sizes are
+/// at places from 1, and rule 0 is the virtual entry.
 #[derive(Debug, PartialEq, Eq, Drop)]
 pub struct Derivation {
     pub keys: Vec<ResultVariable>,

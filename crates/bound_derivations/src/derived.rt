@@ -50,7 +50,7 @@ impl DerivedBounds {
         Ok(())
     }
 
-    // The number of the lemma of the next find.
+    // The number of the lemma of the next derivation.
     fn next_number(&self) -> u32
         requires few { length self.now.derivations.items + 1 < 2 ^ 32 - 1 }
         ensures { result ≡ length self.now.derivations.items + 1 }

@@ -17,9 +17,9 @@ use Rattle.bound_fixpoint.specs.Keys.{Bounds, over, rule_numbers}
 use Rattle.bound_fixpoint.specs.Derivations.{Node, RankBy, Derivation, bounds_of}
 use Rattle.bound_fixpoint.specs.Needs.{needs_of}
 use Rattle.bound_fixpoint.specs.Standing.{composed_bound}
-use Rattle.bound_fixpoint.specs.Searches.{Answers, searches_of, Emptiness, NoPoint, HasPoint, EmptyTripped, Ranking}
-use Rattle.bound_fixpoint.specs.Searches.{Ranked, Unranked, RankTripped, SizeOutcome, SizedBy, Unsized, OfTime, OfSize}
-use Rattle.outcome.specs.Reports.{NoFunction, TimeTripped, TimeLarge}
+use Rattle.bound_fixpoint.specs.Searches.{Answers, searches_of, Emptiness, NoPoint, HasPoint, EmptyHitLimit, Ranking}
+use Rattle.bound_fixpoint.specs.Searches.{Ranked, Unranked, RankHitLimit, SizeOutcome, SizedBy, Unsized, OfTime, OfSize}
+use Rattle.outcome.specs.Reports.{NoFunction, TimeHitLimit, TimeLarge}
 use Rattle.bound_fixpoint.specs.Answers.{Target, TimeOf, SizesOf, is_open, Answer, Found, Lacks, derivations_by, Composes}
 use Rattle.bound_fixpoint.specs.Answers.{TellsRanking, TellsSizing, TellsTime, Tells}
 use Rattle.bound_fixpoint.specs.Components.{IsEmpty, AreComponentsOf}
@@ -52,7 +52,7 @@ composes s bs node whole = by_cases (is_large whole) (λ e. none (λ h. no_is_no
 ranking_tells : (s : Setting) (bs : Bounds) (answer : Ranking) → (a : Answer) × TellsRanking s bs answer a
 ranking_tells s bs (Ranked node) = composes s bs (RankBy node) (rank_time s node (over bs))
 ranking_tells s bs (Unranked g) = (Lacks (OfTime (NoFunction g)), refl)
-ranking_tells s bs (RankTripped t) = (Lacks (OfTime (TimeTripped t)), refl)
+ranking_tells s bs (RankHitLimit t) = (Lacks (OfTime (TimeHitLimit t)), refl)
 
 -- there is an answer to each outcome for a component
 sizing_tells : (s : Setting) (bs : Bounds) (answer : SizeOutcome) → (a : Answer) × TellsSizing s bs answer a
@@ -63,7 +63,7 @@ sizing_tells s bs (Unsized why) = (Lacks (OfSize why), refl)
 abbrev says_empty : Emptiness → Bool
 says_empty (NoPoint m) = true
 says_empty (HasPoint z) = false
-says_empty (EmptyTripped x) = false
+says_empty (EmptyHitLimit x) = false
 
 module _ (a : Answers) (s : Setting) where
   -- there is a result on the time of a rule
@@ -152,7 +152,7 @@ module _ (a : Answers) (s : Setting) where
       go : (e : Emptiness) → a.empty t ≡ e → says_empty e ≡ true → IsEmpty (searches_of a) t
       go (NoPoint m) e h = record { multipliers = m; shown = e }
       go (HasPoint z) e h = absurd (false_true h)
-      go (EmptyTripped x) e h = absurd (false_true h)
+      go (EmptyHitLimit x) e h = absurd (false_true h)
 
   -- whether no path of rules that aren't empty leads to the source of a rule
   abbrev is_reached : Option ℕ → Bool

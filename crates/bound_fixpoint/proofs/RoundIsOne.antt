@@ -8,7 +8,7 @@ use Rattle.rule_questions.specs.cert_rules.AcceptsRank.{rank_time}
 use Rattle.bound_fixpoint.specs.Keys.{Bounds, over, rule_numbers}
 use Rattle.bound_fixpoint.specs.Derivations.{Node, RankBy, Derivation, bounds_of}
 use Rattle.bound_fixpoint.specs.Sets.{AreShutOf}
-use Rattle.bound_fixpoint.specs.Searches.{Searches, Ranking, Ranked, Unranked, RankTripped, SizeOutcome, SizedBy, Unsized}
+use Rattle.bound_fixpoint.specs.Searches.{Searches, Ranking, Ranked, Unranked, RankHitLimit, SizeOutcome, SizedBy, Unsized}
 use Rattle.bound_fixpoint.specs.Searches.{NoBound}
 use Rattle.bound_fixpoint.specs.Answers.{Target, TimeOf, SizesOf, is_open, Answer, Found, Lacks, derivations_by, Composes}
 use Rattle.bound_fixpoint.specs.Answers.{TellsRanking, TellsSizing, TellsTime, TellsSize, Tells}
@@ -32,7 +32,7 @@ ranking_one : (s : Setting) (bs : Bounds) (answer : Ranking) (x y : Answer) → 
     → TellsRanking s bs answer y → x ≡ y
 ranking_one s bs (Ranked node) x y h k = composes_one s bs (RankBy node) (rank_time s node (over bs)) x y h k
 ranking_one s bs (Unranked g) x y h k = h ∙ sym k
-ranking_one s bs (RankTripped t) x y h k = h ∙ sym k
+ranking_one s bs (RankHitLimit t) x y h k = h ∙ sym k
 
 -- the answer to an outcome for a component is unique
 sizing_one : (s : Setting) (bs : Bounds) (answer : SizeOutcome) (x y : Answer) → TellsSizing s bs answer x

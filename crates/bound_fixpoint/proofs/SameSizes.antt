@@ -62,7 +62,7 @@ rest-same form den left_out f g h =
     ap (λ (bs : Parts). SumOf (Part (Constant (rounded_up (height form.constant) den)) bs))
     (place_parts-same form.coefs den left_out f g h)
 
--- an arm with the same bounds where it reads
+-- a side bound with the same bounds where it reads
 pub side_bound-same : (o : Option Polynomial) (side_bound : SideBound) (f g : ℕ → Bound) → ((j : ℕ) → reads o side_bound j ≡ true → f j ≡ g j)
     → composed_side_bound o side_bound f ≡ composed_side_bound o side_bound g
 side_bound-same o (Linear den form ms) f g h =

@@ -157,7 +157,7 @@ module _ (s : Setting) where
     abbrev new_bounds : Bounds
     new_bounds = bounds_of s.program (earlier ++ f ∷ [])
 
-    -- the keys of the further find are those of rules
+    -- the keys of the further derivation are those of rules
     own_keys : (g : Derivation) → Contains (f ∷ []) g → (t i : ℕ) → has_key g.keys t i ≡ true → IsKeyOf s.program g.keys t i
     own_keys g m =
         either (contains-cases g f [] m)

@@ -15,8 +15,8 @@ use Rattle.bound_fixpoint.specs.Keys.{Bounds, time_key, at_key, lacks, over, rul
 use Rattle.bound_fixpoint.specs.Derivations.{Node, RankBy, Derivation, bounds_of}
 use Rattle.bound_fixpoint.specs.Needs.{needs_of}
 use Rattle.bound_fixpoint.specs.Standing.{composed_bound, Stands, StandAfter}
-use Rattle.bound_fixpoint.specs.Searches.{Searches, Ranking, Ranked, Unranked, RankTripped, NoBound, OfTime}
-use Rattle.outcome.specs.Reports.{NoFunction, TimeTripped}
+use Rattle.bound_fixpoint.specs.Searches.{Searches, Ranking, Ranked, Unranked, RankHitLimit, NoBound, OfTime}
+use Rattle.outcome.specs.Reports.{NoFunction, TimeHitLimit}
 use Rattle.bound_fixpoint.specs.Answers.{Target, TimeOf, is_open, Answer, Found, Lacks, derivations_by, TellsRanking, TellsTime}
 use Rattle.bound_fixpoint.specs.Answers.{Tells}
 use Rattle.bound_fixpoint.specs.Rounds.{Tries, TriesAll, Together}
@@ -97,7 +97,7 @@ module _ (q : Searches) (s : Setting) (right : AreRight q s) (fs : List Derivati
           h.asked.are_shut tells.0)
           tells.1 tells.2 tells.3
       by (Unranked g) answered tells = absurd (not_both (OfTime (NoFunction g)) tells)
-      by (RankTripped x) answered tells = absurd (not_both (OfTime (TimeTripped x)) tells)
+      by (RankHitLimit x) answered tells = absurd (not_both (OfTime (TimeHitLimit x)) tells)
 
   -- the derivations for a list of rules are justified
   times_stand : (ts : List ℕ) → ((t : ℕ) → is_in t ts ≡ true → IsRule s.program t) → (times : List Derivation)

@@ -1,4 +1,4 @@
--- Each find has all members of a component among its keys, or none: so they have one bound, or none has one.
+-- Each derivation has all members of a component among its keys, or none: so they have one bound, or none has one.
 use Rattle.std.proofs.Common.{◌≡◌, ◌⊎◌, inl, inr, ℕ, ◌≤◌, true, false, List, [], ◌∷◌, ◌++◌, map}
 use Rattle.std.proofs.Common.{None, refl, sym, ◌∙◌, subst, arith, All}
 use Rattle.std.proofs.lemmas.Bool.{or_cases, false_from_ne_true}

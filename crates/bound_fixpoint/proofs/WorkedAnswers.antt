@@ -13,7 +13,7 @@ use Rattle.rule_questions.specs.cert_rules.Reasons as reasons
 use Rattle.rule_questions.specs.cert_rules.AcceptsSizes.{AcceptsUp, AcceptsLow, HasSizesBefore}
 use Rattle.rule_questions.specs.cert_rules.WorkedSettings.{counting}
 use Rattle.rule_questions.specs.cert_rules.Worked.{once_time, entered_member, entered_size, looped_member}
-use Rattle.outcome.specs.Reports.{NoSize, TimeLarge, SizeUnbounded, SizeTripped, SizeMissing, SizeNonlinear, SizeUntimed}
+use Rattle.outcome.specs.Reports.{NoSize, TimeLarge, SizeUnbounded, SizeHitLimit, SizeMissing, SizeNonlinear, SizeUntimed}
 use Rattle.outcome.specs.Reports.{SizeLarge}
 use Rattle.bound_fixpoint.specs.Keys.{Bounds, key, time_key, has_key, over}
 use Rattle.bound_fixpoint.specs.Derivations.{Node, EmptyBy, UnreachedBy, NeverBy, RankBy, SpreadBy, CycleBy, bounds_of}
@@ -81,7 +81,7 @@ no_sizing b (CycleBy (m ∷ ms)) h = none h.same
 
 -- the checks of a loop node without members fail at its shape, which is no reason
 no_shape : (why : NoSize) → IsReasonFor why Shape → ⊥
-no_shape (SizeTripped t) h = h
+no_shape (SizeHitLimit t) h = h
 no_shape (SizeUnbounded side ray kept) h = h
 no_shape (SizeMissing m) h = other h
   where
@@ -114,7 +114,7 @@ no_cause b why (r, is, inr f) = go f.all f.result_variables f.first
 
 no_answer : (b : Bounds) (answer : SizeOutcome) → IsRightSizing counting b [] answer → ⊥
 no_answer b (SizedBy node) h = no_sizing b node h
-no_answer b (Unsized (SizeTripped t)) h = has_key-none h.0.rule h.0.place h.1
+no_answer b (Unsized (SizeHitLimit t)) h = has_key-none h.0.rule h.0.place h.1
 no_answer b (Unsized (SizeUnbounded side ray kept)) h = has_key-none h.0.rule h.0.place h.1
 no_answer b (Unsized (SizeMissing m)) h = no_cause b (SizeMissing m) h
 no_answer b (Unsized (SizeNonlinear m)) h = no_cause b (SizeNonlinear m) h

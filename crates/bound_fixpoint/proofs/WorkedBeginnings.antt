@@ -150,8 +150,8 @@ empty_alone = record {
     out (suc (suc zero)) rule e = absurd (true_false e)
     out (suc (suc (suc t))) rule e = absurd (no_rule_3 t rule)
 
-tripped : AreFirst (searches_of no_answers) counting.program []
-tripped = record {
+hit_limit : AreFirst (searches_of no_answers) counting.program []
+hit_limit = record {
   is_empty = λ t. false;
   empty = λ t rule. (λ e. absurd (false_true e), λ h. absurd (not_empty t h.multipliers h.shown));
   is_unreached = λ t. false;
@@ -199,7 +199,7 @@ no_place = record {
     out (suc zero) rule e = absurd (true_false e)
     out (suc (suc t)) rule e = absurd (no_rule_after t rule)
 
--- how many needs the third find has
+-- how many needs the third derivation has
 abbrev third_premises : List Derivation → ℕ
 third_premises [] = 0
 third_premises (f ∷ []) = 0
@@ -216,7 +216,7 @@ beginnings_worked = record {
   not_both = λ h. both (first_one (searches_of (empty_answers second_empty)) (answers_one (empty_answers second_empty))
       apart.program (empty_derivation 2 [] ∷ unreached_derivation (time_key 2 ∷ []) 2 ∷ never_derivation apart.program 2 ∷ [])
       (empty_derivation 2 [] ∷ never_derivation apart.program 2 ∷ []) h empty_alone);
-  tripped = tripped;
+  hit_limit = hit_limit;
   no_place = no_place;
   not_without_place = λ h. without (first_one (searches_of cut_off) (answers_one cut_off) leaving
       (empty_derivation 1 [] ∷ never_derivation leaving 1 ∷ []) (empty_derivation 1 [] ∷ []) h no_place);

@@ -12,13 +12,13 @@ use Rattle.rule_questions.specs.cert_rules.WorkedSettings.{apart, counting, coun
 use Rattle.rule_questions.specs.cert_types.declared.answer.Question.TheVariants as asked
 use Rattle.bound_fixpoint.specs.Keys.{Bounds, IsPlace, key, time_key, has_key}
 use Rattle.bound_fixpoint.specs.Derivations.{Derivation, bounds_of}
-use Rattle.bound_fixpoint.specs.Searches.{Searches, searches_of, NoPoint, HasPoint, RankTripped, Unsized, OfTime, OfSize}
-use Rattle.outcome.specs.Reports.{TimeTripped, SizeTripped}
+use Rattle.bound_fixpoint.specs.Searches.{Searches, searches_of, NoPoint, HasPoint, RankHitLimit, Unsized, OfTime, OfSize}
+use Rattle.outcome.specs.Reports.{TimeHitLimit, SizeHitLimit}
 use Rattle.bound_fixpoint.specs.Answers.{TimeOf, SizesOf, Lacks, TellsTime, TellsSize}
 use Rattle.bound_fixpoint.specs.Components.{IsEmpty, IsDead, AreResultVariablesAscending, IsCovered, AreComponentsOf}
 use Rattle.bound_fixpoint.specs.Beginning.{empty_derivation, unreached_derivation, never_derivation, AreFirst}
 use Rattle.bound_fixpoint.specs.Rounds.{IsClosed, Begun}
-use Rattle.bound_fixpoint.specs.WorkedFirst.{limit_hit, trips_as, all_trips, two_derivations, cut_off, four_derivations}
+use Rattle.bound_fixpoint.specs.WorkedFirst.{limit_hit, hits_limit_as, all_hits_limit, two_derivations, cut_off, four_derivations}
 use Rattle.bound_fixpoint.specs.WorkedFirst.{FirstDerivationsAreWorkedOut}
 use Rattle.bound_fixpoint.proofs.Cases.{false_true, true_false}
 use Rattle.bound_fixpoint.proofs.FirstIsOne.{first_one}
@@ -29,8 +29,8 @@ use Rattle.bound_fixpoint.proofs.WorkedComponents as counted
 use Rattle.bound_fixpoint.proofs.WorkedRounds.{tells_tries, known_tries}
 use Rattle.bound_fixpoint.proofs.WorkedUnreached.{rule_1, no_rule_0, no_rule_3, no_way, reached}
 
-abbrev by_trips : Searches
-by_trips = searches_of all_trips
+abbrev by_hits_limit : Searches
+by_hits_limit = searches_of all_hits_limit
 
 abbrev is_second : ℕ → Bool
 is_second zero = false
@@ -45,11 +45,11 @@ unreached (suc zero) rule = (λ e. absurd (false_true e), λ out. absurd (reache
 unreached (suc (suc zero)) rule = (λ e. no_way (λ e. true), λ out. refl)
 unreached (suc (suc (suc t))) rule = absurd (no_rule_3 t rule)
 
-not_empty : (other : ℕ → ℕ) (t : ℕ) (m : List ℕ) → (trips_as other).empty t ≡ NoPoint m → ⊥
+not_empty : (other : ℕ → ℕ) (t : ℕ) (m : List ℕ) → (hits_limit_as other).empty t ≡ NoPoint m → ⊥
 not_empty other t m e = cc
 
 -- the time of the unreached rule is derived, and the size after it
-first : AreFirst by_trips apart.program two_derivations
+first : AreFirst by_hits_limit apart.program two_derivations
 first = record {
   is_empty = λ t. false;
   empty = λ t rule. (λ e. absurd (false_true e), λ h. absurd (not_empty (λ n. n) t h.multipliers h.shown));
@@ -60,8 +60,8 @@ first = record {
   in_order = refl;
 }
 
-other_first : (fs : List Derivation) → AreFirst by_trips apart.program fs → fs ≡ two_derivations
-other_first fs h = first_one by_trips (answers_one all_trips) apart.program fs two_derivations h first
+other_first : (fs : List Derivation) → AreFirst by_hits_limit apart.program fs → fs ≡ two_derivations
+other_first fs h = first_one by_hits_limit (answers_one all_hits_limit) apart.program fs two_derivations h first
 
 -- after rule 1 the place of l is place 1, and that is the only place of a live rule
 place_of_l : (i : ℕ) → IsPlace apart.program 1 i → i ≡ 1
@@ -96,7 +96,7 @@ is_covered (suc zero) i rule live place = inl (subst (λ (n : ℕ). has_key (key
 is_covered (suc (suc zero)) i rule live place = absurd (live (inr (no_way (λ e. true))))
 is_covered (suc (suc (suc t))) i rule live place = absurd (no_rule_3 t rule)
 
-pub components : (other : ℕ → ℕ) → AreComponentsOf (searches_of (trips_as other)) apart.program ((key 1 1 ∷ []) ∷ [])
+pub components : (other : ℕ → ℕ) → AreComponentsOf (searches_of (hits_limit_as other)) apart.program ((key 1 1 ∷ []) ∷ [])
 components other = record {
   is_empty = λ t. false;
   empty = λ t rule. (λ e. absurd (false_true e), λ h. absurd (not_empty other t h.multipliers h.shown));
@@ -109,7 +109,7 @@ abbrev two_known : Bounds
 two_known = bounds_of apart.program two_derivations
 
 -- the ranking question of rule 1 hits a limit, whatever its set, and so does the size after it
-time_tells : TellsTime by_trips apart two_known 1 (Lacks (OfTime (TimeTripped (limit_hit (asked.Rank 1)))))
+time_tells : TellsTime by_hits_limit apart two_known 1 (Lacks (OfTime (TimeHitLimit (limit_hit (asked.Rank 1)))))
 time_tells =
     let set = set_there apart.program two_known (Constant 1, refl) 1 rule_1 in
     let shut = shut_there apart.program two_known set.0 in
@@ -117,7 +117,7 @@ time_tells =
       asked = record {
         set = set.0;
         shut = shut.0;
-        answer = RankTripped (limit_hit (asked.Rank 1));
+        answer = RankHitLimit (limit_hit (asked.Rank 1));
         is_set = set.1;
         are_shut = shut.1;
         answered = refl;
@@ -125,16 +125,16 @@ time_tells =
       tells = refl;
     }
 
-size_tells : TellsSize by_trips apart two_known (key 1 1 ∷ []) (Lacks (OfSize (SizeTripped (limit_hit (asked.Local 1 1)))))
-size_tells = record { answer = Unsized (SizeTripped (limit_hit (asked.Local 1 1))); answered = refl; tells = refl }
+size_tells : TellsSize by_hits_limit apart two_known (key 1 1 ∷ []) (Lacks (OfSize (SizeHitLimit (limit_hit (asked.Local 1 1)))))
+size_tells = record { answer = Unsized (SizeHitLimit (limit_hit (asked.Local 1 1))); answered = refl; tells = refl }
 
-closed : IsClosed by_trips apart two_derivations
+closed : IsClosed by_hits_limit apart two_derivations
 closed = record {
   times = [];
   timed = (
     [],
-    tells_tries by_trips apart two_derivations (TimeOf 1) (Lacks (OfTime (TimeTripped (limit_hit (asked.Rank 1))))) refl time_tells,
-    ([], refl, ([], known_tries by_trips apart two_derivations (TimeOf 2) refl, ([], refl, refl))),
+    tells_tries by_hits_limit apart two_derivations (TimeOf 1) (Lacks (OfTime (TimeHitLimit (limit_hit (asked.Rank 1))))) refl time_tells,
+    ([], refl, ([], known_tries by_hits_limit apart two_derivations (TimeOf 2) refl, ([], refl, refl))),
   );
   components = (key 1 1 ∷ []) ∷ [];
   are_components = refl;
@@ -142,7 +142,7 @@ closed = record {
   sizes = [];
   sized = (
     [],
-    tells_tries by_trips apart two_derivations (SizesOf (key 1 1 ∷ [])) (Lacks (OfSize (SizeTripped (limit_hit (asked.Local 1 1))))) refl
+    tells_tries by_hits_limit apart two_derivations (SizesOf (key 1 1 ∷ [])) (Lacks (OfSize (SizeHitLimit (limit_hit (asked.Local 1 1))))) refl
         size_tells,
     ([], refl, refl),
   );

@@ -13,8 +13,8 @@ use Rattle.bound_fixpoint.specs.Keys.{key, time_key, has_key}
 use Rattle.bound_fixpoint.specs.Derivations.{RankBy, SpreadBy, CycleBy, Derivation, bounds_of}
 use Rattle.bound_fixpoint.specs.Needs.{needs_of}
 use Rattle.bound_fixpoint.specs.Standing.{composed_bound}
-use Rattle.bound_fixpoint.specs.Searches.{Searches, searches_of, NoPoint, Ranked, RankTripped, SizedBy, Unsized, OfTime, OfSize}
-use Rattle.outcome.specs.Reports.{TimeTripped, TimeLarge, SizeMissing}
+use Rattle.bound_fixpoint.specs.Searches.{Searches, searches_of, NoPoint, Ranked, RankHitLimit, SizedBy, Unsized, OfTime, OfSize}
+use Rattle.outcome.specs.Reports.{TimeHitLimit, TimeLarge, SizeMissing}
 use Rattle.bound_fixpoint.specs.Answers.{TimeOf, SizesOf, Found, Lacks, TellsTime}
 use Rattle.bound_fixpoint.specs.Components.{AreResultVariablesAscending, IsCovered, AreComponentsOf}
 use Rattle.bound_fixpoint.specs.Rounds.{IsRound, IsClosed, Begun, Made}
@@ -198,16 +198,16 @@ both_live = record {
     not_empty t m e = cc
 
 -- ranking questions hit a limit, whatever their sets
-trips : (t : ℕ) → IsRule counting.program t
-    → TellsTime by_both counting nothing_known t (Lacks (OfTime (TimeTripped (limit_hit (asked.Rank t)))))
-trips t rule =
+hits_limit : (t : ℕ) → IsRule counting.program t
+    → TellsTime by_both counting nothing_known t (Lacks (OfTime (TimeHitLimit (limit_hit (asked.Rank t)))))
+hits_limit t rule =
     let set = set_there counting.program nothing_known (Constant 1, refl) t rule in
     let shut = shut_there counting.program nothing_known set.0 in
     record {
       asked = record {
         set = set.0;
         shut = shut.0;
-        answer = RankTripped (limit_hit (asked.Rank t));
+        answer = RankHitLimit (limit_hit (asked.Rank t));
         is_set = set.1;
         are_shut = shut.1;
         answered = refl;
@@ -220,14 +220,14 @@ both = record {
   times = [];
   timed = (
     [],
-    tells_tries by_both counting [] (TimeOf 1) (Lacks (OfTime (TimeTripped (limit_hit (asked.Rank 1))))) refl (trips 1 parts.rule_1),
+    tells_tries by_both counting [] (TimeOf 1) (Lacks (OfTime (TimeHitLimit (limit_hit (asked.Rank 1))))) refl (hits_limit 1 parts.rule_1),
     (
       [],
       refl,
       (
         [],
-        tells_tries by_both counting [] (TimeOf 2) (Lacks (OfTime (TimeTripped (limit_hit (asked.Rank 2))))) refl
-            (trips 2 parts.rule_2),
+        tells_tries by_both counting [] (TimeOf 2) (Lacks (OfTime (TimeHitLimit (limit_hit (asked.Rank 2))))) refl
+            (hits_limit 2 parts.rule_2),
         ([], refl, refl),
       ),
     ),
@@ -250,7 +250,7 @@ both = record {
 other : (xs : List Derivation) → IsRound by_both counting [] xs → xs ≡ sized_derivation together ∷ []
 other xs h = round_one by_both (answers_one sized_together) counting [] xs (sized_derivation together ∷ []) h both
 
--- how many keys the first find has
+-- how many keys the first derivation has
 abbrev first_keys : List Derivation → ℕ
 first_keys [] = 0
 first_keys (f ∷ fs) = length f.keys

@@ -17,13 +17,13 @@ use Rattle.rule_questions.specs.cert_types.declared.answer.Question.{Question}
 use Rattle.rule_questions.specs.cert_types.declared.answer.Question.TheVariants as asked
 use Rattle.rule_questions.proofs.cert_rules.WorkedAccepted.{alone_accepted}
 use Rattle.bound_fixpoint.specs.Keys.{Bounds}
-use Rattle.bound_fixpoint.specs.Searches.{searches_of, Emptiness, NoPoint, HasPoint, EmptyTripped, Ranking, RankTripped}
+use Rattle.bound_fixpoint.specs.Searches.{searches_of, Emptiness, NoPoint, HasPoint, EmptyHitLimit, Ranking, RankHitLimit}
 use Rattle.bound_fixpoint.specs.Searches.{SizeOutcome}
 use Rattle.bound_fixpoint.specs.Components.{AreComponentsOf}
-use Rattle.bound_fixpoint.specs.Right.{ReadsNoShut, EmptyTrips, IsFirstLimitHit}
+use Rattle.bound_fixpoint.specs.Right.{ReadsNoShut, EmptyHitsLimit, IsFirstLimitHit}
 use Rattle.bound_fixpoint.specs.Right.{AreRight, IsRightEmptiness, IsRightRanking, IsRightSizing, IsQuestion}
 use Rattle.bound_fixpoint.specs.WorkedFirst.{no_answers, RightRankingsAreWorkedOut}
-use Rattle.bound_fixpoint.specs.WorkedFirst.{limit_hit, trips_as, all_trips, cut_off, RightAnswersAreWorkedOut}
+use Rattle.bound_fixpoint.specs.WorkedFirst.{limit_hit, hits_limit_as, all_hits_limit, cut_off, RightAnswersAreWorkedOut}
 use Rattle.bound_fixpoint.proofs.Cases.{false_true}
 use Rattle.bound_fixpoint.proofs.Keys.{has_key-first}
 use Rattle.bound_fixpoint.proofs.WorkedComponents as counted
@@ -31,10 +31,10 @@ use Rattle.bound_fixpoint.proofs.WorkedFirst.{components}
 use Rattle.bound_fixpoint.proofs.WorkedUnreached.{rule_1}
 
 -- each rule has a point, and a limit hit is reported for the rule itself
-right : AreRight (searches_of all_trips) apart
+right : AreRight (searches_of all_hits_limit) apart
 right = record { empty = empty; rank = rank; components = parts; sizes = sizes }
   where
-    empty : (t : ℕ) (e : Emptiness) → IsRule apart.program t → all_trips.empty t ≡ e → IsRightEmptiness apart t e
+    empty : (t : ℕ) (e : Emptiness) → IsRule apart.program t → all_hits_limit.empty t ≡ e → IsRightEmptiness apart t e
     empty t e rule same =
         subst (λ (x : Emptiness). IsRightEmptiness apart t x) same
         (record {
@@ -43,26 +43,26 @@ right = record { empty = empty; rank = rank; components = parts; sizes = sizes }
         })
 
     rank : (set : List ℕ) (t : ℕ) (shut : List SymbolPlace) (r : Ranking) → IsQuestion apart.program set t
-        → all_trips.rank set t shut ≡ r → IsRightRanking (searches_of all_trips) apart set t shut r
+        → all_hits_limit.rank set t shut ≡ r → IsRightRanking (searches_of all_hits_limit) apart set t shut r
     rank set t shut r question same =
-        subst (λ (x : Ranking). IsRightRanking (searches_of all_trips) apart set t shut x) same (inl refl)
+        subst (λ (x : Ranking). IsRightRanking (searches_of all_hits_limit) apart set t shut x) same (inl refl)
 
-    parts : (cs : List (List ResultVariable)) → all_trips.components ≡ cs
-        → AreComponentsOf (searches_of all_trips) apart.program cs
+    parts : (cs : List (List ResultVariable)) → all_hits_limit.components ≡ cs
+        → AreComponentsOf (searches_of all_hits_limit) apart.program cs
     parts cs same =
-        subst (λ (ds : List (List ResultVariable)). AreComponentsOf (searches_of all_trips) apart.program ds) same
+        subst (λ (ds : List (List ResultVariable)). AreComponentsOf (searches_of all_hits_limit) apart.program ds) same
         (components (λ t. t))
 
-    sizes : (b : Bounds) (keys : List ResultVariable) (answer : SizeOutcome) → 1 ≤ length keys → all_trips.size b keys ≡ answer
+    sizes : (b : Bounds) (keys : List ResultVariable) (answer : SizeOutcome) → 1 ≤ length keys → all_hits_limit.size b keys ≡ answer
         → IsRightSizing apart b keys answer
     sizes b [] answer some same = absurd (omega (arith, some))
     sizes b (m ∷ keys) answer some same =
         subst (λ (x : SizeOutcome). IsRightSizing apart b (m ∷ keys) x) same (m, has_key-first m keys, inl refl)
 
 -- a limit hit that is reported for another rule isn't right
-not_another : AreRight (searches_of (trips_as suc)) apart → ⊥
+not_another : AreRight (searches_of (hits_limit_as suc)) apart → ⊥
 not_another h =
-    by (h.rank (1 ∷ []) 1 [] (RankTripped (limit_hit (asked.Rank 2)))
+    by (h.rank (1 ∷ []) 1 [] (RankHitLimit (limit_hit (asked.Rank 2)))
     (record { ascending = tt; rules = rules; inside = refl }) refl)
   where
     rules : (u : ℕ) → is_in u (1 ∷ []) ≡ true → IsRule apart.program u
@@ -75,12 +75,12 @@ not_another h =
     not_own : ◌≡◌ {A = Question} (asked.Rank 2) (asked.Rank 1) → ⊥
     not_own e = let numbers : ◌≡◌ {A = ℕ} 2 1 = cc in omega (arith, numbers)
 
-    not_tripped : (x : LimitHit) → HasPoint (record { parts = []; den = 1 }) ≡ EmptyTripped x → ⊥
-    not_tripped x e = cc
+    not_hit_limit : (x : LimitHit) → HasPoint (record { parts = []; den = 1 }) ≡ EmptyHitLimit x → ⊥
+    not_hit_limit x e = cc
 
-    by : IsRightRanking (searches_of (trips_as suc)) apart (1 ∷ []) 1 [] (RankTripped (limit_hit (asked.Rank 2))) → ⊥
+    by : IsRightRanking (searches_of (hits_limit_as suc)) apart (1 ∷ []) 1 [] (RankHitLimit (limit_hit (asked.Rank 2))) → ⊥
     by (inl e) = not_own e
-    by (inr (inl e)) = not_tripped (limit_hit (asked.Rank 2)) e
+    by (inr (inl e)) = not_hit_limit (limit_hit (asked.Rank 2)) e
     by (inr (inr x)) = x.1
 
 -- rule 1 of the program that counts down has no rows, which no multipliers show to be empty
@@ -96,22 +96,22 @@ right_worked = record { right = right; not_another = not_another; not_empty = no
 reads_place : ReadsNoShut alone_node (record { symbol = 1; place = 1 } ∷ []) → ⊥
 reads_place h = let e : pos 1 ≡ pos 0 = h 1 0 refl in omega (arith, ints, e)
 
-limit_hit_of_none : (t : ℕ) → EmptyTrips (searches_of all_trips) t → ⊥
+limit_hit_of_none : (t : ℕ) → EmptyHitsLimit (searches_of all_hits_limit) t → ⊥
 limit_hit_of_none t h = none h.1
   where
-    none : {x : LimitHit} → HasPoint (record { parts = []; den = 1 }) ≡ EmptyTripped x → ⊥
+    none : {x : LimitHit} → HasPoint (record { parts = []; den = 1 }) ≡ EmptyHitLimit x → ⊥
     none e = cc
 
-trips_one : (x y : LimitHit) → EmptyTripped x ≡ EmptyTripped y → x ≡ y
-trips_one x y e = cc
+hits_limit_one : (x y : LimitHit) → EmptyHitLimit x ≡ EmptyHitLimit y → x ≡ y
+hits_limit_one x y e = cc
 
 second_limit_hit : IsFirstLimitHit (searches_of no_answers) (1 ∷ 2 ∷ []) (limit_hit (asked.Empty 2)) → ⊥
 second_limit_hit (inl e) = other e
   where
-    other : EmptyTripped (limit_hit (asked.Empty 1)) ≡ EmptyTripped (limit_hit (asked.Empty 2)) → ⊥
+    other : EmptyHitLimit (limit_hit (asked.Empty 1)) ≡ EmptyHitLimit (limit_hit (asked.Empty 2)) → ⊥
     other same =
         let questions : ◌≡◌ {A = Question} (asked.Empty 1) (asked.Empty 2) =
-        ap (λ (x : LimitHit). x.question) (trips_one (limit_hit (asked.Empty 1)) (limit_hit (asked.Empty 2)) same) in
+        ap (λ (x : LimitHit). x.question) (hits_limit_one (limit_hit (asked.Empty 1)) (limit_hit (asked.Empty 2)) same) in
         let numbers : ◌≡◌ {A = ℕ} 1 2 = cc in omega (arith, numbers)
 second_limit_hit (inr h) = h.0 (limit_hit (asked.Empty 1), refl)
 
@@ -130,6 +130,6 @@ rankings_worked = record {
   not_shut = λ h. reads_place h.reads;
   first_limit_hit = inl refl;
   not_second_limit_hit = second_limit_hit;
-  none_trips = λ u m. limit_hit_of_none u;
+  none_hits_limit = λ u m. limit_hit_of_none u;
   some_limit_hit = λ h. h 1 refl (limit_hit (asked.Empty 1), refl);
 }

@@ -137,7 +137,7 @@ begins_nothing (f ∷ fs) h = absurd (some h.same)
     some : {x : Derivation} {xs : List Derivation} → x ∷ xs ≡ [] → ⊥
     some e = cc
 
--- the first find is justified over no bounds
+-- the first derivation is justified over no bounds
 pub first_over : (s : Setting) (f : Derivation) (fs : List Derivation) → AllStand s (f ∷ fs) → Stands s (bounds_of s.program []) f
 first_over s f fs h =
     subst (λ (before : List Derivation). Stands s (bounds_of s.program before) f)

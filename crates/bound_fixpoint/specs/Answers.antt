@@ -12,9 +12,9 @@ use Rattle.bound_fixpoint.specs.Derivations.{Node, RankBy, Derivation}
 use Rattle.bound_fixpoint.specs.Needs.{needs_of}
 use Rattle.bound_fixpoint.specs.Standing.{composed_bound}
 use Rattle.bound_fixpoint.specs.Sets.{IsSetOfRule, AreShutOf}
-use Rattle.bound_fixpoint.specs.Searches.{Searches, Ranking, Ranked, Unranked, RankTripped, SizeOutcome, SizedBy, Unsized}
+use Rattle.bound_fixpoint.specs.Searches.{Searches, Ranking, Ranked, Unranked, RankHitLimit, SizeOutcome, SizedBy, Unsized}
 use Rattle.bound_fixpoint.specs.Searches.{NoBound, OfTime, OfSize}
-use Rattle.outcome.specs.Reports.{NoFunction, TimeTripped, TimeLarge}
+use Rattle.outcome.specs.Reports.{NoFunction, TimeHitLimit, TimeLarge}
 
 -- the target of a query: the time of a rule, or one size for all these places
 pub data Target : Type 0 where
@@ -57,7 +57,7 @@ Composes s b node whole (Lacks why) = (¬ (IsSmallComposed s.rewrite whole))
 abbrev pub TellsRanking : Setting → Bounds → Ranking → Answer → Type 0
 TellsRanking s b (Ranked node) a = Composes s b (RankBy node) (rank_time s node (over b)) a
 TellsRanking s b (Unranked g) a = a ≡ Lacks (OfTime (NoFunction g))
-TellsRanking s b (RankTripped t) a = a ≡ Lacks (OfTime (TimeTripped t))
+TellsRanking s b (RankHitLimit t) a = a ≡ Lacks (OfTime (TimeHitLimit t))
 
 -- the answer to the outcome for a component
 abbrev pub TellsSizing : Setting → Bounds → SizeOutcome → Answer → Type 0

@@ -21,12 +21,12 @@ use Rattle.rule_questions.specs.cert_types.declared.answer.Question.TheVariants 
 use Rattle.rule_questions.specs.cert_rules.Gaps.{ScaledPoint, SymbolPlace, Gap, is_shut}
 use Rattle.rule_questions.specs.cert_rules.GapChecks.{GapHolds}
 use Rattle.rule_questions.specs.ProgramQuestions.{forms_at, ranked_set}
-use Rattle.outcome.specs.Reports.{NoSize, SizeUnbounded, SizeTripped, SizeMissing, SizeNonlinear, SizeUntimed, SizeLarge}
+use Rattle.outcome.specs.Reports.{NoSize, SizeUnbounded, SizeHitLimit, SizeMissing, SizeNonlinear, SizeUntimed, SizeLarge}
 use Rattle.bound_fixpoint.specs.Keys.{Bounds, has_key, over}
 use Rattle.bound_fixpoint.specs.Derivations.{Node, EmptyBy, UnreachedBy, NeverBy, RankBy, SpreadBy, CycleBy, keys_of}
 use Rattle.bound_fixpoint.specs.Searches.{Searches}
-use Rattle.bound_fixpoint.specs.Searches.{Emptiness, NoPoint, HasPoint, EmptyTripped, Ranking, Ranked, Unranked}
-use Rattle.bound_fixpoint.specs.Searches.{RankTripped, SizeOutcome, SizedBy, Unsized}
+use Rattle.bound_fixpoint.specs.Searches.{Emptiness, NoPoint, HasPoint, EmptyHitLimit, Ranking, Ranked, Unranked}
+use Rattle.bound_fixpoint.specs.Searches.{RankHitLimit, SizeOutcome, SizedBy, Unsized}
 use Rattle.bound_fixpoint.specs.Components.{AreComponentsOf}
 use Rattle.bound_fixpoint.specs.Loops.{do_loop}
 
@@ -55,24 +55,24 @@ pub record IsGapOf (s : Setting) (set : List ℕ) (t : ℕ) (shut : List SymbolP
   pub none : NoRank (ranked_set s.program set t shut)
 
 -- the feasibility question of a rule hits a limit
-abbrev pub EmptyTrips : Searches → ℕ → Type 0
-EmptyTrips q t = (x : LimitHit) × q.Empties t (EmptyTripped x)
+abbrev pub EmptyHitsLimit : Searches → ℕ → Type 0
+EmptyHitsLimit q t = (x : LimitHit) × q.Empties t (EmptyHitLimit x)
 
 -- the feasibility question of no rule of the set hits a limit
-abbrev pub NoneTrips : Searches → List ℕ → Type 0
-NoneTrips q set = (u : ℕ) → is_in u set ≡ true → ¬ (EmptyTrips q u)
+abbrev pub NoneHitsLimit : Searches → List ℕ → Type 0
+NoneHitsLimit q set = (u : ℕ) → is_in u set ≡ true → ¬ (EmptyHitsLimit q u)
 
 -- the limit hit is that of the first rule of the set whose feasibility question hits a limit
 abbrev pub IsFirstLimitHit : Searches → List ℕ → LimitHit → Type 0
 IsFirstLimitHit q [] x = ⊥
-IsFirstLimitHit q (t ∷ ts) x = q.Empties t (EmptyTripped x) ⊎ ((¬ (EmptyTrips q t)) × IsFirstLimitHit q ts x)
+IsFirstLimitHit q (t ∷ ts) x = q.Empties t (EmptyHitLimit x) ⊎ ((¬ (EmptyHitsLimit q t)) × IsFirstLimitHit q ts x)
 
 -- an answer about a rule's feasibility is right: multipliers are accepted, a point is one of the rule's rows, and a
 -- limit hit is that of this question
 abbrev pub IsRightEmptiness : Setting → ℕ → Emptiness → Type 0
 IsRightEmptiness s t (NoPoint m) = AcceptsEmpty s t m
 IsRightEmptiness s t (HasPoint z) = IsPoint (s.rows t) (at z.parts) (pos z.den)
-IsRightEmptiness s t (EmptyTripped x) = x.question ≡ asked.Empty t
+IsRightEmptiness s t (EmptyHitLimit x) = x.question ≡ asked.Empty t
 
 -- an answer to a ranking question is right: a function ranks the rule over exactly this set with coefficient 0 at
 -- every shut place; a gap is that of exactly this question, which no function answers, and no feasibility question of
@@ -80,8 +80,8 @@ IsRightEmptiness s t (EmptyTripped x) = x.question ≡ asked.Empty t
 -- question hits one
 abbrev pub IsRightRanking : Searches → Setting → List ℕ → ℕ → List SymbolPlace → Ranking → Type 0
 IsRightRanking q s set t shut (Ranked node) = IsRanking s set t shut node
-IsRightRanking q s set t shut (Unranked g) = IsGapOf s set t shut g × NoneTrips q set
-IsRightRanking q s set t shut (RankTripped x) = (x.question ≡ asked.Rank t) ⊎ IsFirstLimitHit q set x
+IsRightRanking q s set t shut (Unranked g) = IsGapOf s set t shut g × NoneHitsLimit q set
+IsRightRanking q s set t shut (RankHitLimit x) = (x.question ≡ asked.Rank t) ⊎ IsFirstLimitHit q set x
 
 -- a set that is valid for a rank question: it ascends, has only numbers of rules, and contains the rule
 pub record IsQuestion (p : Program) (set : List ℕ) (t : ℕ) : Type 0 where
@@ -120,7 +120,7 @@ pub record IsUnboundedAt (s : Setting) (m : ResultVariable) (side : Side) (ray :
 
 -- the reason of a node's check that means the same as this reason for a missing size
 abbrev pub IsReasonFor : NoSize → Reason → Type 0
-IsReasonFor (SizeTripped t) r = ⊥
+IsReasonFor (SizeHitLimit t) r = ⊥
 IsReasonFor (SizeUnbounded side ray kept) r = ⊥
 IsReasonFor (SizeMissing m) r = r ≡ MissingSize m.rule m.place
 IsReasonFor (SizeNonlinear m) r = r ≡ reasons.Nonlinear m.rule m.place
@@ -150,7 +150,7 @@ IsFirstCause s b keys why =
 -- that of its rule's feasibility, hit a limit; or the first failed check; the searches determine which of these is
 -- reported
 abbrev pub IsCause : Setting → Bounds → List ResultVariable → NoSize → Type 0
-IsCause s b keys (SizeTripped t) = (m : ResultVariable) × (has_key keys m.rule m.place ≡ true)
+IsCause s b keys (SizeHitLimit t) = (m : ResultVariable) × (has_key keys m.rule m.place ≡ true)
     × ((t.question ≡ asked.Local m.rule m.place) ⊎ (t.question ≡ asked.Empty m.rule))
 IsCause s b keys (SizeUnbounded side ray kept) =
     (m : ResultVariable) × (has_key keys m.rule m.place ≡ true) × IsUnboundedAt s m side ray kept

@@ -17,13 +17,13 @@ pub data NoBound : Type 0 where
 pub data Emptiness : Type 0 where
   NoPoint : List ℕ → Emptiness
   HasPoint : ScaledPoint → Emptiness
-  EmptyTripped : LimitHit → Emptiness
+  EmptyHitLimit : LimitHit → Emptiness
 
 -- the outcome of a ranking question: a function, a gap if there is none, or a limit that a linear program hit
 pub data Ranking : Type 0 where
   Ranked : RankNode → Ranking
   Unranked : Gap → Ranking
-  RankTripped : LimitHit → Ranking
+  RankHitLimit : LimitHit → Ranking
 
 -- the outcome for a component: the node that gives its members their size, or why they have none
 pub data SizeOutcome : Type 0 where

@@ -18,7 +18,7 @@ use Rattle.bound_fixpoint.specs.Searches.{Answers, Emptiness, NoPoint, HasPoint,
 use Rattle.bound_fixpoint.specs.Beginning.{empty_derivation, unreached_derivation, never_derivation, AreFirst}
 use Rattle.bound_fixpoint.specs.Standing.{AllStand}
 use Rattle.bound_fixpoint.specs.WorkedDerivations.{once_derivation}
-use Rattle.bound_fixpoint.specs.WorkedFirst.{all_trips, cut_off, no_answers}
+use Rattle.bound_fixpoint.specs.WorkedFirst.{all_hits_limit, cut_off, no_answers}
 
 -- rules 1 and 2 are found empty, or only rule 2, and no others are
 abbrev pub first_two_empty : ℕ → Emptiness
@@ -36,9 +36,9 @@ second_empty (suc (suc (suc t))) = HasPoint (record { parts = []; den = 1 })
 abbrev pub empty_answers : (ℕ → Emptiness) → Answers
 empty_answers empty = record {
   empty = empty;
-  rank = all_trips.rank;
+  rank = all_hits_limit.rank;
   components = [];
-  size = all_trips.size;
+  size = all_hits_limit.size;
 }
 
 -- the times of the two entries, and of the loop, which no other rule reaches; and then the sizes after all three
@@ -110,7 +110,7 @@ pub record BeginningsAreWorkedOut : Type 0 where
       (empty_derivation 2 [] ∷ never_derivation apart.program 2 ∷ [])
   pub not_both : ¬ (AreFirst (searches_of (empty_answers second_empty)) apart.program
       (empty_derivation 2 [] ∷ unreached_derivation (time_key 2 ∷ []) 2 ∷ never_derivation apart.program 2 ∷ []))
-  pub tripped : AreFirst (searches_of no_answers) counting.program []
+  pub hit_limit : AreFirst (searches_of no_answers) counting.program []
   pub no_place : AreFirst (searches_of cut_off) leaving (empty_derivation 1 [] ∷ [])
   pub not_without_place : ¬ (AreFirst (searches_of cut_off) leaving (empty_derivation 1 [] ∷ never_derivation leaving 1 ∷ []))
 

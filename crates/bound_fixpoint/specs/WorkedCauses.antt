@@ -12,7 +12,7 @@ use Rattle.outcome.specs.Reports.{SizeUnbounded, SizeMissing, SizeNonlinear, Siz
 use Rattle.bound_fixpoint.specs.Right.{IsRightSizing, IsRightRanking}
 use Rattle.bound_fixpoint.specs.WorkedSets.{nothing_known, entered_known}
 use Rattle.bound_fixpoint.specs.WorkedRounds.{gap_over}
-use Rattle.bound_fixpoint.specs.WorkedFirst.{all_trips}
+use Rattle.bound_fixpoint.specs.WorkedFirst.{all_hits_limit}
 
 -- each place has the start argument as its size, and no rule has a time
 abbrev pub sizes_alone : Bounds
@@ -44,6 +44,6 @@ pub record RightCausesAreWorkedOut : Type 0 where
 -- a gap of another set than that of the question isn't right, and neither is one without points
 pub record WrongGapsAreWorkedOut : Type 0 where
   pub other_set :
-      ¬ (IsRightRanking (searches_of all_trips) counting (1 ∷ 2 ∷ []) 2 [] (Unranked (gap_over (2 ∷ []) 2 [])))
+      ¬ (IsRightRanking (searches_of all_hits_limit) counting (1 ∷ 2 ∷ []) 2 [] (Unranked (gap_over (2 ∷ []) 2 [])))
   pub without_points :
-      ¬ (IsRightRanking (searches_of all_trips) counting (2 ∷ []) 2 [] (Unranked (gap_over (2 ∷ []) 2 [])))
+      ¬ (IsRightRanking (searches_of all_hits_limit) counting (2 ∷ []) 2 [] (Unranked (gap_over (2 ∷ []) 2 [])))

@@ -14,7 +14,7 @@ use Rattle.bound_fixpoint.specs.Searches.{Answers, HasPoint, Ranking, Ranked, Si
 use Rattle.outcome.specs.Reports.{TimeLarge}
 use Rattle.bound_fixpoint.specs.Rounds.{IsRound, IsLast, IsNoBound}
 use Rattle.bound_fixpoint.specs.WorkedDerivations.{entered_derivation, looped_derivation}
-use Rattle.bound_fixpoint.specs.WorkedFirst.{all_trips}
+use Rattle.bound_fixpoint.specs.WorkedFirst.{all_hits_limit}
 use Rattle.bound_fixpoint.specs.WorkedSets.{nothing_known}
 use Rattle.bound_fixpoint.specs.WorkedRounds.{answers_with, alone, value_turned, first_time, second_time}
 
@@ -32,7 +32,7 @@ loop_of_both = CycleBy (entered_member ∷ looped_member ∷ [])
 abbrev pub sized_together : Answers
 sized_together = record {
   empty = λ t. HasPoint (record { parts = []; den = 1 });
-  rank = all_trips.rank;
+  rank = all_hits_limit.rank;
   components = together ∷ [];
   size = λ b keys. SizedBy loop_of_both;
 }

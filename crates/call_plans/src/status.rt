@@ -3,15 +3,16 @@
 /// The status with which the program ends. Its number is its place in this list, from 0.
 #[derive(Clone, Copy, Debug, PartialEq, Eq)]
 pub enum Status {
-    /// With `analyse`, the report was written, with `facts`, the facts and the report, with `prove`, the proof file, and
-    /// with `selfrun`, the figures of the generated program; every rule has a time, and every rule with a cost a bound on
-    /// it. With `check`, the proof is accepted, and its facts were written. With `replay`, the tally along the run was
-    /// written, with `lasso`, the rules of a turn that leads back, with `generate`, the program's text, and with `lp`, the
-    /// end of the simplex method.
+    /// With `analyse`, the report was written, with `facts`, the facts and the report, with `prove`, the proof file,
+    /// and with `selfrun`, the figures of the generated program; every rule has a time, and every rule with a cost a
+    /// bound on it. With `check`, the proof is accepted, and its facts were written. With `replay`, the tally along the
+    /// run was written, with `lasso`, the rules of a turn that leads back, with `generate`, the program's text, and
+    /// with `lp`, the end of the simplex method. With `while`, the report of the translation was written behind the
+    /// positions of the statements, and with `translate`, the translation.
     Done,
     /// With `analyse`, the report was written, with `facts`, the facts and the report, with `prove`, the proof file,
-    /// and with `selfrun`, its figures; some rule has no time, or some rule with a cost no bound on it. With `lp`, the end
-    /// isn't reached, and why was written.
+    /// with `selfrun`, its figures, and with `while`, the report of the translation; some rule has no time, or some
+    /// rule with a cost no bound on it. With `lp`, the end isn't reached, and why was written.
     Unknown,
     /// The words are no command line.
     Usage,
@@ -21,7 +22,8 @@ pub enum Status {
     WriteFault,
     /// Memory ran out. Nothing was written.
     Memory,
-    /// The program text is refused, or with `lp` that of the linear program.
+    /// The program text is refused, or with `lp` that of the linear program, and with `while` and `translate` that of
+    /// the while program.
     ProgramRefused,
     /// With `check`, the program was read, and the proof text is refused.
     ProofRefused,

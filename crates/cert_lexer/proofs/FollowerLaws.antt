@@ -1,4 +1,4 @@
--- Outline and levels of the code follow what is carried.
+-- The code's outline and levels represent the carried parser state.
 use Rattle.std.proofs.Common.{◌≡◌, ℕ, suc, Bool, true, List, length, Option, Some, None, refl, ap, sym, subst, ◌∙◌}
 use Rattle.std.specs.Option.{option_map}
 use Rattle.bound_text.specs.Pieces.{Piece}
@@ -27,7 +27,7 @@ use Rattle.cert_lexer.specs.Shadows.{Led, Shadows, ShowsLevels, frames_in}
 use Rattle.cert_lexer.proofs.LeadLaws.{outlines_lead}
 use Rattle.cert_lexer.proofs.LevelsLaws.{begun_length}
 
--- where the outline is led on, what is carried is
+-- if the outline accepts a piece, so does the carried parser state; and if it rejects it, so does that
 front_led : (f : Front) (piece : Piece) (reached : Option Front) (l : Option Lead) (k : Lead) → Some k ≡ l → FollowsWhere f piece reached l
     → (g : Front) × (reached ≡ Some g) × Follows f piece g k
 front_led f piece None (Some l) k e h = absurd h
@@ -40,14 +40,14 @@ front_left f piece None l e h = refl
 front_left f piece (Some g) None e h = absurd h
 front_left f piece (Some g) (Some l) e h = cc
 
--- the code's lead is that of the outline
+-- the step of the code's outline is that of the state's outline
 same_lead : (f : Front) (piece : Piece) (s : Follower) → Shadows f s
     → lead (innermost_frame (frames_in s.outline)) s.outline.innermost piece ≡ lead (innermost_frame (frames_of f.outer)) (innermost_of f) piece
 same_lead f piece s h =
     ap (λ (fs : List Frame). lead (innermost_frame fs) s.outline.innermost piece) h.frames
     ∙ ap (λ (i : Innermost). lead (innermost_frame (frames_of f.outer)) i piece) h.innermost
 
--- a piece that leads on
+-- after an accepted piece, outline and levels represent the new state
 pub shadows_on : (f : Front) (piece : Piece) (s : Follower) (outline : Outline) (levels : Levels) (round : Option Frame) (k : Lead) → Shadows f s
     → round ≡ innermost_frame (frames_in s.outline) → Some k ≡ lead round s.outline.innermost piece
     → frames_in outline ≡ frames_behind k.change (frames_in s.outline) → outline.innermost ≡ k.innermost
@@ -92,7 +92,7 @@ shadows_off f piece s round h r e =
     (e ∙ ap (λ (o : Option Frame). lead o s.outline.innermost piece) r ∙ same_lead f piece s h)
     (outlines_lead.each f piece h.standing)
 
--- a tree that is what has been read is settled
+-- the tree of what has been read is settled
 pub tree_settled : (f : Front) (o : Option Reader) → IsTree f o → IsSettledTree o
 tree_settled f None h = tt
 tree_settled f (Some r) h = h.1

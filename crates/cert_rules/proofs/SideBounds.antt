@@ -23,7 +23,7 @@ use Rattle.cert_rules.proofs.RankSoundness.{values_at, value_at, value_before}
 use Rattle.cert_rules.proofs.AbsoluteValues.{abs-up, abs-down, polynomial-covered, reads_left}
 use Rattle.rule_forms.proofs.int_laws.ZeroLaws.{not_zero-complete as not_zero_told}
 
--- a new value as its side looks at it
+-- the new value (upper side) or its negation (lower side)
 abbrev pub on_side : Side → ℤ → ℤ
 on_side Up v = v
 on_side Low v = neg_ℤ v
@@ -76,7 +76,7 @@ goal_says Low den form value z v e h =
         → (pos den *ℤ neg_ℤ v) ≤ℤ form_value form z (pos 1)
     from g n y a b c d l = omega (arith, ints, a, b ∙ ap (λ (w : ℤ). pos den *ℤ w) c, d, l)
 
--- a denominator is cancelled
+-- cancels a denominator: if den * x is at most den * n, x is at most n
 cancelled : (den : ℕ) (x : ℤ) (n : ℕ) → 1 ≤ den → (pos den *ℤ x) ≤ℤ pos (den * n) → x ≤ℤ pos n
 cancelled den (pos x) n h l = let k : x * den ≤ n * den = omega (arith, ints, l) in let m : x ≤ n =
     le_of_mul-le-mul_right k h in omega (arith, ints, m)

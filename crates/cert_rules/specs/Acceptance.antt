@@ -12,14 +12,14 @@ use Rattle.cert_rules.specs.AcceptsSizes.{AcceptsSpread, AcceptsCycle, spread_si
 use Rattle.cert_rules.specs.AcceptsCosts.{AcceptsCost, node_cost}
 use Rattle.cert_rules.specs.Setting.{Setting}
 
--- the facts of the lemma with a number, counted from 1; where there is none, no fact
+-- the facts of lemma number n, counted from 1; no fact if there is no such lemma
 abbrev pub facts_of_lemma : List (List Fact) → ℕ → List Fact
 facts_of_lemma past zero = []
 facts_of_lemma [] (suc n) = []
 facts_of_lemma (facts ∷ past) (suc zero) = facts
 facts_of_lemma (facts ∷ past) (suc (suc n)) = facts_of_lemma past (suc n)
 
--- the facts that a node states, after lemmas with these facts; and those of a node's uses, joined in order
+-- the facts that a node states, after lemmas with these facts; and the facts of its premises, joined in order
 abbrev mutual
   pub facts_of : Setting → List (List Fact) → Proof → List Fact
   facts_of s past (Cite n) = facts_of_lemma past n
@@ -40,7 +40,7 @@ abbrev mutual
   joined_facts s past NoProof = []
   joined_facts s past (AndProof proof uses) = facts_of s past proof ++ joined_facts s past uses
 
--- a node itself is accepted after lemmas with these facts, where all of its premises are
+-- the checks of the node itself pass, after lemmas with these facts, supposing that its premises are accepted
 abbrev pub AcceptsNode : Setting → List (List Fact) → Proof → Type 0
 AcceptsNode s past (Cite n) = AcceptsCite past n
 AcceptsNode s past Start = ⊤

@@ -1,8 +1,8 @@
--- So many numbers, and one more.
+-- Ranges of numbers, longer by one.
 use Rattle.std.proofs.Common.{◌≡◌, ℕ, zero, suc, ◌+◌, List, [], ◌∷◌, ◌++◌, ap, ◌∙◌, arith}
 use Rattle.std.specs.List.{range_with_len}
 
--- the numbers from one on, and one more
+-- a range of n + 1 numbers is that of n numbers and the next one
 pub numbers-more : (a n : ℕ) → range_with_len a (n + 1) ≡ range_with_len a n ++ (a + n) ∷ []
 numbers-more a zero = ap (λ (m : ℕ). m ∷ []) (let e : a ≡ a + 0 = omega arith in e)
 numbers-more a (suc n) =

@@ -10,8 +10,8 @@ use Rattle.command_line.specs.declared.command.Command.TheVariants as commands
 use Rattle.command_line.specs.Lines.{Word, Words, Item, Apart, Joined, Positional, AreItems, words_of_items, values_of}
 use Rattle.command_line.specs.Lines.{positionals_of, Gives}
 use Rattle.command_line.specs.Requests.{Request, OfProgram, OfPair, OfNumber, Analyse, Prove, Facts, Check, Replay}
-use Rattle.command_line.specs.Requests.{OfFile, Lasso, Generate, Selfrun, Lp, word_of, all_commands, command_of}
-use Rattle.command_line.specs.Requests.{default_pivots, AllowsPivots, AsksWith, Asks}
+use Rattle.command_line.specs.Requests.{OfFile, While, Lasso, Generate, Selfrun, Lp, Translate, word_of, all_commands}
+use Rattle.command_line.specs.Requests.{command_of, default_pivots, AllowsPivots, AsksWith, Asks}
 use Rattle.command_line.specs.Laws.{WordsAreReadInOneWay}
 use Rattle.command_line.proofs.Firsts.{end_first, apart_first, joined_first, plain_first, none_first, gives_along}
 
@@ -57,6 +57,8 @@ named_first (commands.OfPair Lasso) = refl
 named_first (commands.OfNumber Generate) = refl
 named_first (commands.OfNumber Selfrun) = refl
 named_first (commands.OfFile Lp) = refl
+named_first (commands.OfFile Translate) = refl
+named_first commands.While = refl
 
 -- a command that is found in a list is in it
 found_listed : (word : Word) (cs : List Command) (c : Command) → first_named word cs ≡ Some c → Contains cs c
@@ -103,6 +105,7 @@ request_by (commands.OfProgram task) values positionals = OfProgram task (pivots
 request_by (commands.OfPair task) values positionals = OfPair task (first_of positionals) (second_of positionals)
 request_by (commands.OfNumber task) values positionals = OfNumber task (digits_value 10 (first_of positionals))
 request_by (commands.OfFile task) values positionals = OfFile task (first_of positionals)
+request_by commands.While values positionals = While (pivots_by values) (first_of positionals)
 
 -- values allow no other number of pivots
 one_number : (values : Words) (n : ℕ) → AllowsPivots values n → n ≡ pivots_by values
@@ -120,6 +123,9 @@ one_by (OfPair task f q) values positionals h = ap (λ (ws : Words). OfPair task
 one_by (OfNumber task n) values positionals h =
     ap (OfNumber task) (sym h.number.value) ∙ ap (λ (ws : Words). OfNumber task (digits_value 10 (first_of ws))) (sym h.one)
 one_by (OfFile task f) values positionals h = ap (λ (ws : Words). OfFile task (first_of ws)) (sym h.one)
+one_by (While n f) values positionals h =
+    ap (λ (k : ℕ). While k f) (one_number values n h.allowed)
+    ∙ ap (λ (ws : Words). While (pivots_by values) (first_of ws)) (sym h.one)
 
 -- words ask for one thing at most
 one_request : (words : Words) (r q : Request) → Asks words r → Asks words q → r ≡ q

@@ -8,7 +8,7 @@ use Rattle.command_line.specs.declared.task.FileTask.{FileTask}
 use Rattle.command_line.specs.Lines.{Word, Words, Apart, Joined, Positional, Gives}
 use Rattle.command_line.specs.Numerals.{IsNumber}
 use Rattle.command_line.specs.Requests.{OfProgram, OfPair, OfNumber, Analyse, Prove, Facts, Check, Replay, Lasso, Generate}
-use Rattle.command_line.specs.Requests.{OfFile, Selfrun, Lp, word_of, AllowsPivots, Asks}
+use Rattle.command_line.specs.Requests.{OfFile, While, Selfrun, Lp, Translate, word_of, AllowsPivots, Asks}
 use Rattle.command_line.specs.Worked.{CommandLines}
 use Rattle.command_line.proofs.Firsts.{gives_of as line}
 
@@ -46,6 +46,18 @@ of_file task others file g = record {
   command = refl;
   gives = g;
   parts = record { no_option = refl; one = refl };
+}
+
+-- behind the command of a while program, with it
+of_while : (others values : Words) (n : ℕ) (file : Word) → Gives others values (file ∷ []) → AllowsPivots values n
+    → Asks (word_of commands.While ∷ others) (While n file)
+of_while others values n file g a = record {
+  others = others;
+  values = values;
+  positionals = file ∷ [];
+  command = refl;
+  gives = g;
+  parts = record { allowed = a; one = refl };
 }
 
 -- and behind one with a number, without it
@@ -103,4 +115,7 @@ command_lines = record {
   facts_within = of_program Facts _ (codes "0" ∷ []) 0 (codes "-") (line (Apart (codes "0") ∷ Positional (codes "-") ∷ []) None (refl, (refl, tt))) zero;
   linear_program = of_file Lp _ (codes "p") (line (Positional (codes "p") ∷ []) None (refl, tt));
   dash_first = of_file Lp _ (codes "-p") (line [] (Some (codes "-p" ∷ [])) tt);
+  while_program = of_while _ [] 10000 (codes "p") (line (Positional (codes "p") ∷ []) None (refl, tt)) refl;
+  while_within = of_while _ (codes "5" ∷ []) 5 (codes "-p") (line (Joined (codes "5") ∷ []) (Some (codes "-p" ∷ [])) (refl, tt)) five;
+  translation = of_file Translate _ (codes "p") (line (Positional (codes "p") ∷ []) None (refl, tt));
 }

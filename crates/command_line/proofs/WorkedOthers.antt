@@ -8,7 +8,7 @@ use Rattle.command_line.specs.declared.task.NumberTask.{NumberTask}
 use Rattle.command_line.specs.declared.task.FileTask.{FileTask}
 use Rattle.command_line.specs.Lines.{Word, Words, is_plain, Gives}
 use Rattle.command_line.specs.Numerals.{IsNumber}
-use Rattle.command_line.specs.Requests.{Analyse, Facts, Check, Replay, Lasso, Generate, Selfrun, Lp}
+use Rattle.command_line.specs.Requests.{Analyse, Facts, Check, Replay, Lasso, Generate, Selfrun, Lp, Translate}
 use Rattle.command_line.specs.Requests.{word_of, command_of}
 use Rattle.command_line.specs.Requests.{AllowsPivots, AsksWith}
 use Rattle.command_line.specs.Steps.{IsOther}
@@ -33,6 +33,13 @@ no_program : (task : ProgramTask) (others : Words)
     → AsksNothing (word_of (commands.OfProgram task) ∷ others)
 no_program task others none =
     nothing (commands.OfProgram task) others (λ values positionals g h. none values _ _ (gives_along _ _ _ _ _ _ refl refl (sym h.one) g) h.allowed)
+
+-- behind that of a while program in the same way
+no_while : (others : Words)
+    → ((values : Words) (n : ℕ) (file : Word) → Gives others values (file ∷ []) → AllowsPivots values n → ⊥)
+    → AsksNothing (word_of commands.While ∷ others)
+no_while others none =
+    nothing commands.While others (λ values positionals g h. none values _ _ (gives_along _ _ _ _ _ _ refl refl (sym h.one) g) h.allowed)
 
 -- behind one with two files where there are no two files without the option
 no_pair : (task : PairTask) (others : Words) → ((first second : Word) → Gives others [] (first ∷ second ∷ []) → ⊥)
@@ -59,7 +66,7 @@ no_word = none_of_none
 other_command : AsksNothing (codes "Analyse" ∷ codes "p" ∷ [])
 other_command = none_without_command _ (codes "Analyse") (codes "p" ∷ []) refl (no_command (codes "Analyse") refl)
 
--- nor are `gen`, `analys` and `fact`, which lack letters, nor an option
+-- nor are `gen`, `analys` and `fact`, which lack letters, `whiles`, which has one more, and an option
 shorter_command : AsksNothing (codes "gen" ∷ codes "1" ∷ [])
 shorter_command = none_without_command _ (codes "gen") (codes "1" ∷ []) refl (no_command (codes "gen") refl)
 
@@ -68,6 +75,9 @@ letter_missing = none_without_command _ (codes "analys") (codes "p" ∷ []) refl
 
 one_fact : AsksNothing (codes "fact" ∷ codes "p" ∷ [])
 one_fact = none_without_command _ (codes "fact") (codes "p" ∷ []) refl (no_command (codes "fact") refl)
+
+letter_behind : AsksNothing (codes "whiles" ∷ codes "p" ∷ [])
+letter_behind = none_without_command _ (codes "whiles") (codes "p" ∷ []) refl (no_command (codes "whiles") refl)
 
 option_alone : AsksNothing (codes "--version" ∷ [])
 option_alone = none_without_command _ (codes "--version") [] refl (no_command (codes "--version") refl)
@@ -261,4 +271,10 @@ other_words = record {
   lp_of_none = no_file_of Lp [] lp_of_none;
   lp_of_two = no_file_of Lp (codes "p" ∷ codes "q" ∷ []) lp_of_two;
   option_of_lp = no_file_of Lp ((codes "--pivots=" ++ codes "5") ∷ codes "p" ∷ []) option_of_lp;
+  while_of_none = no_while [] no_file;
+  while_of_two = no_while (codes "p" ∷ codes "p" ∷ []) two_files;
+  while_too_many = no_while ((codes "--pivots=" ++ codes "1000001") ∷ codes "p" ∷ []) too_many;
+  letter_behind = letter_behind;
+  translate_of_two = no_file_of Translate (codes "p" ∷ codes "q" ∷ []) lp_of_two;
+  option_of_translate = no_file_of Translate ((codes "--pivots=" ++ codes "5") ∷ codes "p" ∷ []) option_of_lp;
 }

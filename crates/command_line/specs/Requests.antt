@@ -9,18 +9,19 @@ use Rattle.command_line.specs.declared.task.FileTask.{FileTask}
 pub use Rattle.command_line.specs.declared.task.ProgramTask.TheVariants.{Analyse, Prove, Facts}
 pub use Rattle.command_line.specs.declared.task.PairTask.TheVariants.{Check, Replay, Lasso}
 pub use Rattle.command_line.specs.declared.task.NumberTask.TheVariants.{Generate, Selfrun}
-pub use Rattle.command_line.specs.declared.task.FileTask.TheVariants.{Lp}
+pub use Rattle.command_line.specs.declared.task.FileTask.TheVariants.{Lp, Translate}
 use Rattle.command_line.specs.Lines.{Word, Words, Gives}
 use Rattle.command_line.specs.Numerals.{IsNumber}
 
 -- the requests, by form: a task for the program in a file, with this many pivots for each linear program; a task for
--- the program in a file and what a second file has about it; a task for a number; or a task for a file that
--- isn't a program's
+-- the program in a file and what a second file has about it; a task for a number; a task for a file of another kind;
+-- or the analysis of the while program in a file, with this many pivots for each linear program
 pub data Request : Type 0 where
   OfProgram : ProgramTask → ℕ → Word → Request
   OfPair : PairTask → Word → Word → Request
   OfNumber : NumberTask → ℕ → Request
   OfFile : FileTask → Word → Request
+  While : ℕ → Word → Request
 
 -- the word of a command
 abbrev pub word_of : Command → Word
@@ -33,6 +34,8 @@ word_of (commands.OfPair Lasso) = codes "lasso"
 word_of (commands.OfNumber Generate) = codes "generate"
 word_of (commands.OfNumber Selfrun) = codes "selfrun"
 word_of (commands.OfFile Lp) = codes "lp"
+word_of (commands.OfFile Translate) = codes "translate"
+word_of commands.While = codes "while"
 
 -- the commands, in the order in which the usage text lists them
 abbrev pub all_commands : List Command
@@ -44,6 +47,8 @@ all_commands =
     ∷ commands.OfNumber Generate
     ∷ commands.OfNumber Selfrun
     ∷ commands.OfProgram Facts
+    ∷ commands.While
+    ∷ commands.OfFile Translate
     ∷ commands.OfPair Lasso
     ∷ commands.OfFile Lp
     ∷ []
@@ -54,6 +59,7 @@ command_of (OfProgram task pivots file) = commands.OfProgram task
 command_of (OfPair task file second) = commands.OfPair task
 command_of (OfNumber task n) = commands.OfNumber task
 command_of (OfFile task file) = commands.OfFile task
+command_of (While pivots file) = commands.While
 
 -- this many pivots are allowed if the option isn't given
 abbrev pub default_pivots : ℕ
@@ -101,6 +107,7 @@ AsksWith (OfProgram task pivots file) values positionals = AsksProgram values po
 AsksWith (OfPair task file second) values positionals = AsksTwo values positionals file second
 AsksWith (OfNumber task n) values positionals = AsksNumber values positionals n
 AsksWith (OfFile task file) values positionals = AsksFile values positionals file
+AsksWith (While pivots file) values positionals = AsksProgram values positionals pivots file
 
 -- the words after the program's name ask for this: they are the word of its command, and behind it the values of the
 -- option and the positionals of the request, options before or after positionals

@@ -12,6 +12,7 @@ operands_of (commands.OfPair Replay) = codes "FILE RUN"
 operands_of (commands.OfPair Lasso) = codes "FILE RUN"
 operands_of (commands.OfNumber task) = codes "N"
 operands_of (commands.OfFile task) = codes "FILE"
+operands_of commands.While = codes "[--pivots N] FILE"
 
 -- a line for each of these commands: the first behind this margin, the others behind blanks
 abbrev pub usage_lines : List ℕ → List Command → List ℕ

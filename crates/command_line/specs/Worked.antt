@@ -2,7 +2,7 @@
 use Rattle.std.specs.Prelude.{[], ◌∷◌, codes}
 use Rattle.command_line.specs.Lines.{Words}
 use Rattle.command_line.specs.Requests.{Request, OfProgram, OfPair, OfNumber, Analyse, Prove, Facts, Check, Replay}
-use Rattle.command_line.specs.Requests.{OfFile, Lasso, Generate, Selfrun, Lp, Asks}
+use Rattle.command_line.specs.Requests.{OfFile, While, Lasso, Generate, Selfrun, Lp, Translate, Asks}
 
 -- the words ask for nothing
 abbrev pub AsksNothing : Words → Type 0
@@ -30,6 +30,9 @@ pub record CommandLines : Type 0 where
   pub facts_within : Asks (codes "facts" ∷ codes "--pivots" ∷ codes "0" ∷ codes "-" ∷ []) (OfProgram Facts 0 (codes "-"))
   pub linear_program : Asks (codes "lp" ∷ codes "p" ∷ []) (OfFile Lp (codes "p"))
   pub dash_first : Asks (codes "lp" ∷ codes "--" ∷ codes "-p" ∷ []) (OfFile Lp (codes "-p"))
+  pub while_program : Asks (codes "while" ∷ codes "p" ∷ []) (While 10000 (codes "p"))
+  pub while_within : Asks (codes "while" ∷ codes "--pivots=5" ∷ codes "--" ∷ codes "-p" ∷ []) (While 5 (codes "-p"))
+  pub translation : Asks (codes "translate" ∷ codes "p" ∷ []) (OfFile Translate (codes "p"))
 
 -- words that ask for nothing
 pub record OtherWords : Type 0 where
@@ -65,3 +68,9 @@ pub record OtherWords : Type 0 where
   pub lp_of_none : AsksNothing (codes "lp" ∷ [])
   pub lp_of_two : AsksNothing (codes "lp" ∷ codes "p" ∷ codes "q" ∷ [])
   pub option_of_lp : AsksNothing (codes "lp" ∷ codes "--pivots=5" ∷ codes "p" ∷ [])
+  pub while_of_none : AsksNothing (codes "while" ∷ [])
+  pub while_of_two : AsksNothing (codes "while" ∷ codes "p" ∷ codes "p" ∷ [])
+  pub while_too_many : AsksNothing (codes "while" ∷ codes "--pivots=1000001" ∷ codes "p" ∷ [])
+  pub letter_behind : AsksNothing (codes "whiles" ∷ codes "p" ∷ [])
+  pub translate_of_two : AsksNothing (codes "translate" ∷ codes "p" ∷ codes "q" ∷ [])
+  pub option_of_translate : AsksNothing (codes "translate" ∷ codes "--pivots=5" ∷ codes "p" ∷ [])

@@ -15,8 +15,10 @@ pub(crate) enum Command {
     OfPair(PairTask),
     /// A number.
     OfNumber(NumberTask),
-    /// A file that isn't a program's.
+    /// A file of another kind.
     OfFile(FileTask),
+    /// A file with a while program, and the option.
+    While,
 }
 
 /// The command that a word is.
@@ -41,6 +43,10 @@ pub(crate) fn named(word: &[u8]) -> Option<Command>
         Some(Command::OfPair(PairTask::Lasso))
     } else if is_same(word, b"lp") {
         Some(Command::OfFile(FileTask::Lp))
+    } else if is_same(word, b"while") {
+        Some(Command::While)
+    } else if is_same(word, b"translate") {
+        Some(Command::OfFile(FileTask::Translate))
     } else {
         None
     }

@@ -34,9 +34,14 @@ pub enum Request {
         task: NumberTask,
         n: u32,
     },
-    /// A task for a file that isn't a program's.
+    /// A task for a file of another kind than a program's.
     OfFile {
         task: FileTask,
+        file: String,
+    },
+    /// `while`: the analysis of the while program in a file.
+    While {
+        pivots: u32,
         file: String,
     },
 }
@@ -89,5 +94,9 @@ fn asked_by(command: Command, line: Line) -> Option<Request>
             task,
             file: file_alone(line)?,
         }),
+        Command::While => {
+            let OneFile { pivots, file } = one_file(line)?;
+            Some(Request::While { pivots, file })
+        }
     }
 }

@@ -22,11 +22,13 @@ pub enum PairTask {
     Lasso,
 }
 
-/// What is done with a file that isn't a program's.
+/// What is done with a file of another kind than a program's.
 #[derive(Clone, Copy, Debug, PartialEq, Eq)]
 pub enum FileTask {
     /// `lp`: the exact end of the simplex method on the linear program in it.
     Lp,
+    /// `translate`: the integer transition system of the while program in it.
+    Translate,
 }
 
 /// What is done with a number.

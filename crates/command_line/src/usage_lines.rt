@@ -14,6 +14,8 @@ pub fn usage() -> &'static [u8]
        koat generate N
        koat selfrun N
        koat facts [--pivots N] FILE
+       koat while [--pivots N] FILE
+       koat translate FILE
        koat lasso FILE RUN
        koat lp FILE
 "

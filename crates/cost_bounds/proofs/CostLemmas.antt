@@ -1,4 +1,4 @@
--- Behind the lemmas of justified finds the lemmas of costs that are bounded are accepted, and hold.
+-- Behind the lemmas of justified derivations the lemmas of costs that are bounded are accepted, and hold.
 use Rattle.std.proofs.Common.{◌≡◌, ◌≢◌, ℕ, true, List, [], ◌∷◌, ◌++◌, map, All, sym, ap, ◌∙◌, subst}
 use Rattle.std.specs.List.{Contains}
 use Rattle.std.proofs.lemmas.List.{append_assoc, append-nil}
@@ -153,7 +153,7 @@ module _ (p : Program) (pivots : ℕ) (v : IsValid p) (past : List (List Fact)) 
 
 module _ (p : Program) (pivots : ℕ) (fs : List Derivation) (nodes : List CostNode) (v : IsValid p) (stand : AllStand (setting_of p) fs)
     (bounded : All (IsBoundedCost p pivots (table_with p fs)) nodes) where
-  -- the lemmas of finds and then those of the costs
+  -- the lemmas of derivations and then those of the costs
   abbrev all_lemmas : List Proof
   all_lemmas = lemmas_of fs ++ cost_lemmas (setting_of p) (number_in fs) nodes
 
@@ -166,7 +166,7 @@ module _ (p : Program) (pivots : ℕ) (fs : List Derivation) (nodes : List CostN
       (behind-accepted p pivots v (facts_of_lemmas (setting_of p) (lemmas_of fs)) (number_in fs) (bounds_of p fs) (bounds_of p fs)
       (are_numbered.say (setting_of p) fs stand) nodes bounded)
 
-  -- and state what the finds do, and the bounds of the costs
+  -- and state what the derivations do, and the bounds of the costs
   pub all-stated : facts_of_lemmas (setting_of p) all_lemmas
       ≡ map facts_of_derivation fs ++ map (λ node. cost_fact (setting_of p) (table_with p fs) node ∷ []) nodes
   unfolding facts_of_lemmas

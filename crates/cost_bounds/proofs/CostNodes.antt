@@ -29,7 +29,7 @@ use Rattle.cert_types.proofs.cert_rules.CheckLists.{passes_each}
 use Rattle.cert_types.proofs.cert_rules.CostReasons.{passes-cost}
 use Rattle.cert_types.proofs.cert_rules.SizeReasons.{reads-left}
 use Rattle.rank_search.specs.rule_questions.EmptyAnswers.{IsEmptyAnswer}
-use Rattle.local_size.specs.LocalAnswers.{Local, HasBound, IsUnboundedOn, HasTripped, IsLocal}
+use Rattle.local_size.specs.LocalAnswers.{Local, HasBound, IsUnboundedOn, HasHitLimit, IsLocal}
 use Rattle.outcome.specs.Reports.{NoSize}
 use Rattle.size_nodes.specs.Needs.{first_missing}
 use Rattle.size_nodes.proofs.FirstMissing.{all-known}
@@ -136,7 +136,7 @@ module _ (p : Program) (pivots : ℕ) (tab : Table) (t : ℕ) where
           → Certifies costs by
       stepped e (HasBound l) found k = sized e l found (first_missing tab (sizes_read (question p tab t) l.up)) refl k
       stepped e (IsUnboundedOn side ray kept) found k = absurd (apart k)
-      stepped e (HasTripped x) found k = absurd (apart k)
+      stepped e (HasHitLimit x) found k = absurd (apart k)
 
       runs : (e : GuardFeasibility) (v : Bool) → is_zero_time (tab.time t) ≡ v
           → RunsTo (question p tab t) (IsStep e) v (BoundedBy by) → Certifies costs by

@@ -28,8 +28,8 @@ use Rattle.cert_types.specs.declared.answer.Question.TheVariants as questions
 use Rattle.cert_types.specs.AnswerViews.{scaled_of}
 use Rattle.cert_types.proofs.cert_rules.CheckLists.{each-append, each-map, in-each}
 use Rattle.rank_search.specs.rule_questions.EmptyAnswers.{IsEmptyAnswer}
-use Rattle.outcome.specs.Reports.{NoSize, SizeUnbounded, SizeTripped, SizeMissing, SizeUntimed, SizeLarge}
-use Rattle.local_size.specs.LocalAnswers.{Local, HasBound, IsUnboundedOn, HasTripped, IsLocal, PassesNone, SideComesTo}
+use Rattle.outcome.specs.Reports.{NoSize, SizeUnbounded, SizeHitLimit, SizeMissing, SizeUntimed, SizeLarge}
+use Rattle.local_size.specs.LocalAnswers.{Local, HasBound, IsUnboundedOn, HasHitLimit, IsLocal, PassesNone, SideComesTo}
 use Rattle.local_size.specs.Sides.{LimitPassed}
 use Rattle.local_size.proofs.UnboundedAnswers.{kept-point, none-affine, ray-limits, ray-of_side}
 use Rattle.size_nodes.specs.Needs.{first_missing, this_or}
@@ -163,7 +163,7 @@ module _ (p : Program) (pivots : ℕ) (tab : Table) (t : ℕ) (why : NoSize) (v 
   }
 
   -- a linear program exceeds a limit
-  exceeds : (e : GuardFeasibility) → IsEmptyAnswer (prepared_cost costs) t pivots e → (x : LimitHit) → IsStep e (HasTripped x)
+  exceeds : (e : GuardFeasibility) → IsEmptyAnswer (prepared_cost costs) t pivots e → (x : LimitHit) → IsStep e (HasHitLimit x)
       → StepExceeds p pivots t (record { question = questions.Cost t; cause = x.cause })
   exceeds e answered x (inl own) = record {
     costs = costs;
@@ -191,8 +191,8 @@ module _ (p : Program) (pivots : ℕ) (tab : Table) (t : ℕ) (why : NoSize) (v 
   stepped e answered (HasBound l) is k = sized e l is (first_missing tab (sizes_read (question p tab t) l.up)) refl k
   stepped e answered (IsUnboundedOn side ray kept) is k =
       because (SizeUnbounded side ray kept) k (unbounded e answered side ray kept is)
-  stepped e answered (HasTripped x) is k =
-      because (SizeTripped (record { question = questions.Cost t; cause = x.cause })) k (exceeds e answered x is)
+  stepped e answered (HasHitLimit x) is k =
+      because (SizeHitLimit (record { question = questions.Cost t; cause = x.cause })) k (exceeds e answered x is)
 
   runs : (e : GuardFeasibility) → IsEmptyAnswer (prepared_cost costs) t pivots e → (w : Bool)
       → RunsTo (question p tab t) (IsStep e) w (NotBounded why) → HasNoCostBound p pivots tab t why

@@ -2,7 +2,7 @@
 pub mod CostPrograms
 -- nodes on costs that are found are accepted
 pub mod CostNodes
--- so are their lemmas, behind those of finds
+-- so are their lemmas, behind those of derivations
 pub mod CitedBefore
 pub mod CostLemmas
 -- a cost has one outcome

@@ -14,7 +14,7 @@ use Rattle.cert_types.specs.declared.answer.GuardFeasibility.TheVariants as feas
 use Rattle.rank_search.specs.rule_questions.EmptyAnswers.{IsEmptyAnswer}
 use Rattle.rank_search.specs.rule_questions.OneEmptyAnswer.{IsSameEmptyAnswer}
 use Rattle.rank_search.proofs.rule_questions.OneEmptyAnswer.{empties-one}
-use Rattle.local_size.specs.LocalAnswers.{Local, HasBound, IsUnboundedOn, HasTripped, IsLocal}
+use Rattle.local_size.specs.LocalAnswers.{Local, HasBound, IsUnboundedOn, HasHitLimit, IsLocal}
 use Rattle.local_size.proofs.OneLocal.{locals-once}
 use Rattle.size_nodes.specs.Needs.{first_missing}
 use Rattle.cost_bounds.specs.CostOutcomes.{CostOutcome, BoundedBy, CostQuestion, IsCostOf, FeasibleTo, RunsTo, SizedTo}
@@ -45,7 +45,7 @@ module _ (q : CostQuestion) (x y : CostOutcome) where
   step-once : (step : Local) → StepTo q step x → StepTo q step y → x ≡ y
   step-once (HasBound local) g h = sized-once local.up (first_missing q.table (sizes_read q local.up)) g h
   step-once (IsUnboundedOn side ray kept) g h = g ∙ sym h
-  step-once (HasTripped limit_hit) g h = g ∙ sym h
+  step-once (HasHitLimit limit_hit) g h = g ∙ sym h
 
   module _ (m : Prepared) (pivots : ℕ) where
     -- this is answered of the cost of one step

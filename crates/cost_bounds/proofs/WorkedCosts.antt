@@ -8,8 +8,8 @@ use Rattle.model.specs.Facts.{Cost}
 use Rattle.cert_types.specs.cert_rules.Nodes.{ResultVariable, SideBoundCost, NeverCost, Cite, NoProof, AndProof, Charge}
 use Rattle.cert_types.specs.declared.answer.LimitHit.{LimitHit}
 use Rattle.cert_types.specs.declared.answer.Question.TheVariants as questions
-use Rattle.local_size.specs.LocalAnswers.{Local, HasTripped}
-use Rattle.outcome.specs.Reports.{SizeMissing, SizeUntimed, SizeTripped}
+use Rattle.local_size.specs.LocalAnswers.{Local, HasHitLimit}
+use Rattle.outcome.specs.Reports.{SizeMissing, SizeUntimed, SizeHitLimit}
 use Rattle.bound_fixpoint.specs.Keys.{key}
 use Rattle.cost_bounds.specs.CostLemmas.{cost_node}
 use Rattle.cost_bounds.specs.CostOutcomes.{BoundedBy, NotBounded, RunsTo, StepTo}
@@ -25,10 +25,10 @@ zero-times = record { zero = refl; none = refl; one = refl; sum = refl }
 
 -- the question of a limit isn't about a place
 not-of_a_place : (x : LimitHit) → x.question ≡ questions.Local 2 1
-    → StepTo (paying_over once own_size 2) (HasTripped x) (NotBounded (SizeTripped x)) → ⊥
+    → StepTo (paying_over once own_size 2) (HasHitLimit x) (NotBounded (SizeHitLimit x)) → ⊥
 not-of_a_place x place k = differ (sym place ∙ ap (λ (y : LimitHit). y.question) (inner k))
   where
-    inner : {x y : LimitHit} → NotBounded (SizeTripped x) ≡ NotBounded (SizeTripped y) → x ≡ y
+    inner : {x y : LimitHit} → NotBounded (SizeHitLimit x) ≡ NotBounded (SizeHitLimit y) → x ≡ y
     inner e = cc
 
     differ : questions.Local 2 1 ≡ questions.Cost 2 → ⊥

@@ -11,7 +11,7 @@ use Rattle.cert_types.specs.cert_rules.Known.{Table}
 use Rattle.cert_types.specs.cert_rules.Nodes.{CostBy, Proofs, Charge}
 use Rattle.local_size.specs.declared.answer.LocalAnswer.{LocalAnswer}
 use Rattle.local_size.specs.declared.answer.LocalAnswer.TheVariants as locals
-use Rattle.outcome.specs.Reports.{SizeTripped, SizeMissing, SizeUntimed, SizeLarge}
+use Rattle.outcome.specs.Reports.{SizeHitLimit, SizeMissing, SizeUntimed, SizeLarge}
 use Rattle.outcome.specs.Views.{unbounded_of}
 use Rattle.cost_bounds.specs.declared.answer.CostAnswer.{CostAnswer}
 use Rattle.cost_bounds.specs.declared.answer.CostAnswer.TheVariants as answers
@@ -34,7 +34,7 @@ AnswersWith q number Is (answers.Found node fact) = (by : CostBy) × Is (Bounded
     × (proof_of node ≡ cost_lemma (setting_of q.program) number (cost_node q.rule by))
     × (fact_of fact ≡ Cost q.rule (stated_cost (setting_of q.program) q.table q.rule by))
 AnswersWith q number Is (answers.UnboundedSide l) = Is (NotBounded (unbounded_of l))
-AnswersWith q number Is (answers.OutOfLimits x) = Is (NotBounded (SizeTripped x))
+AnswersWith q number Is (answers.OutOfLimits x) = Is (NotBounded (SizeHitLimit x))
 AnswersWith q number Is (answers.Missing m) = Is (NotBounded (SizeMissing (result_variable_of m)))
 AnswersWith q number Is (answers.Untimed u) = Is (NotBounded (SizeUntimed u))
 AnswersWith q number Is (answers.Large n) = Is (NotBounded (SizeLarge n))

@@ -15,8 +15,8 @@ use Rattle.cert_types.specs.declared.answer.GuardFeasibility.{GuardFeasibility}
 use Rattle.cert_types.specs.declared.answer.GuardFeasibility.TheVariants as feasible
 use Rattle.cert_types.specs.declared.answer.Question.TheVariants as questions
 use Rattle.rank_search.specs.rule_questions.EmptyAnswers.{IsEmptyAnswer}
-use Rattle.local_size.specs.LocalAnswers.{Local, HasBound, IsUnboundedOn, HasTripped, IsLocal}
-use Rattle.outcome.specs.Reports.{NoSize, SizeUnbounded, SizeTripped, SizeMissing, SizeUntimed, SizeLarge}
+use Rattle.local_size.specs.LocalAnswers.{Local, HasBound, IsUnboundedOn, HasHitLimit, IsLocal}
+use Rattle.outcome.specs.Reports.{NoSize, SizeUnbounded, SizeHitLimit, SizeMissing, SizeUntimed, SizeLarge}
 use Rattle.size_nodes.specs.Needs.{first_missing}
 
 -- the cost of a rule is bounded, as this certifies; or it isn't, for a reason as for sizes, where the cost of one step
@@ -64,8 +64,8 @@ SizedTo q side_bound None o = TimedTo q side_bound (q.table.time q.rule) o
 abbrev pub StepTo : CostQuestion → Local → CostOutcome → Type 0
 StepTo q (HasBound local) o = SizedTo q local.up (first_missing q.table (sizes_read q local.up)) o
 StepTo q (IsUnboundedOn side ray kept) o = o ≡ NotBounded (SizeUnbounded side ray kept)
-StepTo q (HasTripped x) o =
-    o ≡ NotBounded (SizeTripped (record { question = questions.Cost q.rule; cause = x.cause }))
+StepTo q (HasHitLimit x) o =
+    o ≡ NotBounded (SizeHitLimit (record { question = questions.Cost q.rule; cause = x.cause }))
 
 -- a time is known, and is 0
 abbrev pub is_zero_time : Option Bound → Bool

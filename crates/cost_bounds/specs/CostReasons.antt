@@ -22,7 +22,7 @@ use Rattle.cert_types.specs.declared.answer.GuardFeasibility.TheVariants as feas
 use Rattle.cert_types.specs.declared.answer.LimitHit.{LimitHit}
 use Rattle.cert_types.specs.declared.answer.Question.TheVariants as questions
 use Rattle.rank_search.specs.rule_questions.EmptyAnswers.{IsEmptyAnswer}
-use Rattle.outcome.specs.Reports.{NoSize, SizeUnbounded, SizeTripped, SizeMissing, SizeNonlinear, SizeUntimed, SizeLarge}
+use Rattle.outcome.specs.Reports.{NoSize, SizeUnbounded, SizeHitLimit, SizeMissing, SizeNonlinear, SizeUntimed, SizeLarge}
 use Rattle.local_size.specs.LocalAnswers.{both_polynomial, HasSideBounds, LacksForm, PassesNone, SideComesTo}
 use Rattle.local_size.specs.Places.{value_on, is_polynomial_at}
 use Rattle.local_size.specs.Sides.{LimitPassed}
@@ -99,7 +99,7 @@ pub record CostIsLarge (p : Program) (pivots : ℕ) (tab : Table) (t n : ℕ) : 
 -- what each reason says of a rule whose cost isn't bounded over a table
 abbrev pub HasNoCostBound : Program → ℕ → Table → ℕ → NoSize → Type 0
 HasNoCostBound p pivots tab t (SizeUnbounded side ray kept) = StepIsUnbounded p t side ray kept
-HasNoCostBound p pivots tab t (SizeTripped x) = StepExceeds p pivots t x
+HasNoCostBound p pivots tab t (SizeHitLimit x) = StepExceeds p pivots t x
 HasNoCostBound p pivots tab t (SizeMissing m) = ReadsUnsized p pivots tab t m
 HasNoCostBound p pivots tab t (SizeNonlinear m) = ⊥
 HasNoCostBound p pivots tab t (SizeUntimed u) = LacksTime p pivots tab t u

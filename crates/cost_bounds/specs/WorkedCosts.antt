@@ -10,8 +10,8 @@ use Rattle.cert_types.specs.cert_rules.Nodes.{SideBound, Linear, Poly, EmptyCost
 use Rattle.cert_types.specs.cert_rules.Nodes.{Start, Cite, NoProof, AndProof, Charge}
 use Rattle.cert_types.specs.declared.answer.LimitHit.{LimitHit}
 use Rattle.cert_types.specs.declared.answer.Question.TheVariants as questions
-use Rattle.local_size.specs.LocalAnswers.{Local, HasBound, HasTripped}
-use Rattle.outcome.specs.Reports.{SizeTripped, SizeMissing, SizeUntimed}
+use Rattle.local_size.specs.LocalAnswers.{Local, HasBound, HasHitLimit}
+use Rattle.outcome.specs.Reports.{SizeHitLimit, SizeMissing, SizeUntimed}
 use Rattle.bound_fixpoint.specs.Keys.{key}
 use Rattle.cost_bounds.specs.CostLemmas.{cost_fact, cost_lemma, cost_node, cost_premises}
 use Rattle.cost_bounds.specs.CostOutcomes.{BoundedBy, NotBounded, CostQuestion, question, is_zero_time, sizes_read}
@@ -72,10 +72,10 @@ pub record ReasonsAreWorkedOut : Type 0 where
   pub not_the_second : ¬ (StepTo (paying_over no_time no_size 2) (up_to by_B) (NotBounded (SizeMissing (key 2 2))))
   pub lacks_time : StepTo (paying_over no_time own_size 2) (up_to by_B) (NotBounded (SizeUntimed 2))
   pub lacks_size : StepTo (paying_over once no_size 2) (up_to by_B) (NotBounded (SizeMissing (key 1 2)))
-  pub limit : (x : LimitHit) → StepTo (paying_over once own_size 2) (HasTripped x)
-      (NotBounded (SizeTripped (record { question = questions.Cost 2; cause = x.cause })))
+  pub limit : (x : LimitHit) → StepTo (paying_over once own_size 2) (HasHitLimit x)
+      (NotBounded (SizeHitLimit (record { question = questions.Cost 2; cause = x.cause })))
   pub not_of_a_place : (x : LimitHit) → x.question ≡ questions.Local 2 1
-      → ¬ (StepTo (paying_over once own_size 2) (HasTripped x) (NotBounded (SizeTripped x)))
+      → ¬ (StepTo (paying_over once own_size 2) (HasHitLimit x) (NotBounded (SizeHitLimit x)))
   pub never : RunsTo (paying_over once no_size 2) (λ step. ⊥) true (BoundedBy NeverCost)
   pub not_never : ¬ (RunsTo (paying_over once no_size 2) (λ step. step ≡ up_to by_B) false (BoundedBy NeverCost))
 

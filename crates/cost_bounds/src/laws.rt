@@ -3,13 +3,13 @@
 ghost use Rattle.cost_bounds.specs.Laws.{BoundedCostsAreAccepted, BoundedCostsHold, CostAnswersAreOne, CostReasonsAreTrue};
 ghost use Rattle.cost_bounds.specs.WorkedCosts.{CostsAreWorkedOut};
 
-/// Behind the lemmas of justified finds, the lemmas of the costs that are bounded over them are accepted in any order,
-/// and each states the bound of its cost. It has no code, as all functions here: its contract is the law.
+/// Behind the lemmas of justified derivations, the lemmas of the costs that are bounded over them are accepted in any
+/// order, and each states the bound of its cost. It has no code, as all functions here: its contract is the law.
 pub fn bounded_costs_are_accepted()
     ensures { BoundedCostsAreAccepted }
 {}
 
-/// A bound on a cost over what is known with justified finds holds on all runs of a valid program.
+/// A bound on a cost over what is known with justified derivations holds on all runs of a valid program.
 pub fn bounded_costs_hold()
     ensures { BoundedCostsHold }
 {}

@@ -1,5 +1,5 @@
-//! The top call on a shelf and a sink without faults: a fault of writing never comes, and one of reading only where the
-//! shelf lacks a file of the request.
+//! The top call on a shelf and a sink without faults: it never ends with a fault of writing, and with one of reading
+//! only if the shelf lacks a file of the request.
 
 ghost use Rattle.std.specs.Prelude.{◌≡◌, ◌≢◌, map, string_bytes};
 ghost use Rattle.outside_io.specs.SteadyShelf.{held_files};
@@ -7,10 +7,12 @@ ghost use Rattle.command_line.specs.Requests.{Request, Asks};
 ghost use Rattle.koat_cli.specs.RequestPlans.{plan_of};
 ghost use Rattle.call_plans.specs.Endings.{EndsOn};
 
+use crate::scenarios::{Scenario, scenario_of};
+use crate::words::push_item;
 use koat_cli::{Status, run};
-use outside_io::{Held, SteadyShelf, SteadySink};
+use model::Memory;
+use outside_io::{SteadyShelf, SteadySink};
 use std::alloc::Global;
-use std::test::Fail;
 
 fn run_steadily(
     alloc: Global,
@@ -26,26 +28,14 @@ fn run_steadily(
     run(alloc, words, shelf, sink)
 }
 
-#[test]
-fn a_steady_run_ends_by_its_words_and_files(rt: HostRuntime) -> Result<(), Fail> {
-    let alloc = rt.alloc();
-    let mut files = Vec::new(alloc);
-    files.push(Held {
-        name: String::from_str(alloc, "p")?,
-        bytes: Vec::from_slice(
-            alloc,
-            b"(STARTTERM (FUNCTIONSYMBOLS f))(RULES f() -> Com_1(g()))",
-        )?,
-    })?;
+/// The statuses of the calls of a scenario, without its faults.
+pub(crate) fn steady_runs(alloc: Global, text: &str) -> Result<String, Memory> {
+    let Scenario { calls, files, .. } = scenario_of(alloc, text)?;
     let mut shelf = SteadyShelf::new(files);
-    for (name, status) in [("p", Status::Done), ("q", Status::ReadFault)] {
-        let mut words = Vec::new(alloc);
-        words.push(String::from_str(alloc, "analyse")?)?;
-        words.push(String::from_str(alloc, name)?)?;
-        assert_eq!(rt;
-            run_steadily(alloc, &words, &mut shelf, &mut SteadySink),
-            status
-        );
+    let mut statuses = String::new(alloc);
+    for words in &calls {
+        let status = run_steadily(alloc, words, &mut shelf, &mut SteadySink);
+        push_item(&mut statuses, &format!(in alloc; "{status:?}")?)?;
     }
-    Ok(())
+    Ok(statuses)
 }

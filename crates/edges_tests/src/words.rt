@@ -1,173 +1,63 @@
-//! What words ask for, and which ask for nothing.
+//! Words, numbers and texts as lines write them.
 
-use command_line::asks;
-use std::alloc::{AllocError, Global};
-use std::test::Fail;
+use model::Memory;
+use std::alloc::Global;
 
-// Words, and their requests.
-const LINES: &[(&[&str], &str)] = &[
-    (&["analyse", "p"], ANALYSE_P),
-    (&["analyse", "p", "--"], ANALYSE_P),
-    (
-        &["analyse", "-"],
-        "Some(OfProgram { task: Analyse, pivots: 10000, file: \"-\" })",
-    ),
-    (
-        &["analyse", ""],
-        "Some(OfProgram { task: Analyse, pivots: 10000, file: \"\" })",
-    ),
-    (
-        &["analyse", "--", "-p"],
-        "Some(OfProgram { task: Analyse, pivots: 10000, file: \"-p\" })",
-    ),
-    (
-        &["analyse", "--", "--"],
-        "Some(OfProgram { task: Analyse, pivots: 10000, file: \"--\" })",
-    ),
-    (
-        &["analyse", "--pivots", "0", "p"],
-        "Some(OfProgram { task: Analyse, pivots: 0, file: \"p\" })",
-    ),
-    (
-        &["analyse", "p", "--pivots", "70"],
-        "Some(OfProgram { task: Analyse, pivots: 70, file: \"p\" })",
-    ),
-    (
-        &["analyse", "p", "--pivots=5"],
-        "Some(OfProgram { task: Analyse, pivots: 5, file: \"p\" })",
-    ),
-    (
-        &["analyse", "--pivots=1000000", "p"],
-        "Some(OfProgram { task: Analyse, pivots: 1000000, file: \"p\" })",
-    ),
-    (
-        &["analyse", "--pivots=3", "--", "--pivots=4"],
-        "Some(OfProgram { task: Analyse, pivots: 3, file: \"--pivots=4\" })",
-    ),
-    (
-        &["prove", "--pivots", "9", "--", "p"],
-        "Some(OfProgram { task: Prove, pivots: 9, file: \"p\" })",
-    ),
-    (
-        &["prove", "p"],
-        "Some(OfProgram { task: Prove, pivots: 10000, file: \"p\" })",
-    ),
-    (
-        &["check", "p", "q"],
-        "Some(OfPair { task: Check, file: \"p\", second: \"q\" })",
-    ),
-    (
-        &["replay", "-", "--", "-q"],
-        "Some(OfPair { task: Replay, file: \"-\", second: \"-q\" })",
-    ),
-    (
-        &["lasso", "p", "-"],
-        "Some(OfPair { task: Lasso, file: \"p\", second: \"-\" })",
-    ),
-    (
-        &["generate", "0"],
-        "Some(OfNumber { task: Generate, n: 0 })",
-    ),
-    (
-        &["generate", "--", "5"],
-        "Some(OfNumber { task: Generate, n: 5 })",
-    ),
-    (
-        &["selfrun", "100"],
-        "Some(OfNumber { task: Selfrun, n: 100 })",
-    ),
-    (
-        &["facts", "p", "--pivots", "70"],
-        "Some(OfProgram { task: Facts, pivots: 70, file: \"p\" })",
-    ),
-    (
-        &["facts", "--", "-p"],
-        "Some(OfProgram { task: Facts, pivots: 10000, file: \"-p\" })",
-    ),
-    (&["lp", "p"], "Some(OfFile { task: Lp, file: \"p\" })"),
-    (
-        &["lp", "--", "-p"],
-        "Some(OfFile { task: Lp, file: \"-p\" })",
-    ),
-    (&[], "None"),
-    (&["analyse"], "None"),
-    (&["p"], "None"),
-    (&["Analyse", "p"], "None"),
-    (&["--help"], "None"),
-    (&["help"], "None"),
-    (&["", "p"], "None"),
-    (&["analyse", "--help", "p"], "None"),
-    (&["analyse", "-p"], "None"),
-    (&["analyse", "--"], "None"),
-    (&["analyse", "p", "p"], "None"),
-    (&["analyse", "p", "--", "p"], "None"),
-    (&["--pivots", "5", "analyse", "p"], "None"),
-    (&["analyse", "--pivots", "5"], "None"),
-    (&["analyse", "p", "--pivots"], "None"),
-    (&["analyse", "--pivots", "01", "p"], "None"),
-    (&["analyse", "--pivots", "", "p"], "None"),
-    (&["analyse", "--pivots=", "p"], "None"),
-    (&["analyse", "--pivots", "-", "p"], "None"),
-    (&["analyse", "--pivots", "--", "p"], "None"),
-    (&["analyse", "--pivots", "+5", "p"], "None"),
-    (&["analyse", "--pivots=1000001", "p"], "None"),
-    (&["analyse", "--pivots=18446744073709551616", "p"], "None"),
-    (&["analyse", "--pivots=5", "--pivots=5", "p"], "None"),
-    (&["analyse", "--pivot=5", "p"], "None"),
-    (&["prove", "p", "q"], "None"),
-    (&["check", "p"], "None"),
-    (&["check", "p", "q", "r"], "None"),
-    (&["replay", "--pivots=5", "p", "q"], "None"),
-    (&["lasso", "p"], "None"),
-    (&["generate"], "None"),
-    (&["generate", ""], "None"),
-    (&["generate", "01"], "None"),
-    (&["generate", "+1"], "None"),
-    (&["generate", "-1"], "None"),
-    (&["generate", "--", "-1"], "None"),
-    (&["generate", "1 "], "None"),
-    (&["generate", "101"], "None"),
-    (&["generate", "4294967297"], "None"),
-    (&["generate", "1", "2"], "None"),
-    (&["selfrun", "--pivots", "5", "1"], "None"),
-    (&["selfrun", "1e1"], "None"),
-    (&["facts"], "None"),
-    (&["facts", "p", "q"], "None"),
-    (&["facts", "--pivots=1000001", "p"], "None"),
-    (&["fact", "p"], "None"),
-    (&["lp"], "None"),
-    (&["lp", "p", "q"], "None"),
-    (&["lp", "--pivots=5", "p"], "None"),
-    (&["LP", "p"], "None"),
-];
-
-const ANALYSE_P: &str = "Some(OfProgram { task: Analyse, pivots: 10000, file: \"p\" })";
-
-fn words_of(alloc: Global, words: &[&str]) -> Result<Vec<String>, AllocError> {
-    let mut all = Vec::new(alloc);
-    for word in words {
-        all.push(String::from_str(alloc, word)?)?;
-    }
-    Ok(all)
+/// The first word of a text, and what follows the space after it.
+pub(crate) fn first_and_rest(text: &str) -> (&str, &str) {
+    text.split_once(' ').unwrap_or((text, ""))
 }
 
-// Whether these words ask for another thing than is wanted.
-fn is_other(alloc: Global, words: &[&str], wanted: &str) -> Result<bool, AllocError> {
-    let asked = asks(alloc, &words_of(alloc, words)?)?;
-    let text = format!(in alloc; "{asked:?}")?;
-    Ok(text.as_str() != wanted)
+/// The part of a text before the first `@`, and what follows it.
+pub(crate) fn first_part(text: &str) -> (&str, &str) {
+    text.split_once('@').unwrap_or((text, ""))
 }
 
-#[test]
-fn words_ask_for_one_thing_or_none(rt: HostRuntime) -> Result<(), Fail> {
-    let alloc = rt.alloc();
-    let mut other = 0;
-    for (words, wanted) in LINES {
-        if is_other(alloc, words, wanted)? {
-            println!(rt; "not {wanted}: {words:?}")?;
-            other += u64::from(other < 1000);
-        }
+/// A number; 0 if the word isn't one.
+pub(crate) fn number(word: &str) -> u64 {
+    word.parse::<u64>().unwrap_or(0)
+}
+
+/// The word that is written: `''` is the empty word, and `_` stands for a space.
+pub(crate) fn word_of(alloc: Global, written: &str) -> Result<String, Memory> {
+    if written == "''" {
+        Ok(String::new(alloc))
+    } else {
+        written.replace(alloc, '_', " ")
     }
-    assert_eq!(rt; other, 0);
+}
+
+/// The words of a text, which spaces divide.
+pub(crate) fn words_of(alloc: Global, text: &str) -> Result<Vec<String>, Memory> {
+    let mut words = Vec::new(alloc);
+    for written in text.split_whitespace() {
+        words.push(word_of(alloc, written)?)?;
+    }
+    Ok(words)
+}
+
+/// The bytes of a text, in which `~` stands for a line feed.
+pub(crate) fn bytes_of(alloc: Global, text: &str) -> Result<Vec<u8>, Memory> {
+    let mut bytes = Vec::new(alloc);
+    for byte in text.as_bytes() {
+        bytes.push(if *byte == b'~' { b'\n' } else { *byte })?;
+    }
+    Ok(bytes)
+}
+
+/// Appends bytes to a text, with `~` for each line feed.
+pub(crate) fn push_bytes(text: &mut String, bytes: &[u8]) -> Result<(), Memory> {
+    for byte in bytes {
+        let shown = if *byte == b'\n' { b'~' } else { *byte };
+        text.push(char::from(shown))?;
+    }
     Ok(())
+}
+
+/// Appends an item to a list in a text, after a comma unless it is the first.
+pub(crate) fn push_item(text: &mut String, item: &str) -> Result<(), Memory> {
+    if !text.is_empty() {
+        text.push_str(", ")?;
+    }
+    text.push_str(item)
 }

@@ -102,7 +102,7 @@ whole-minus a b c d n m b_one d_one n_is m_is a_narrow c_narrow difference_narro
     difference : (v w a c : ℤ) → v ≡ a → w ≡ c → v -ℤ w ≡ a -ℤ c
     difference v w a c e f = omega (arith, ints)
 
--- the product with a fraction that is 0, in front
+-- the product of 0 and a fraction
 pub zero-product : (a b c d : ℤ) → a ≡ pos 0 → b ≡ pos 1 → IsNarrow d
     → AreNarrow ((a *ℤ c) ∷ (b *ℤ d) ∷ []) × (a *ℤ (b *ℤ d) ≡ (a *ℤ c) *ℤ b)
 zero-product a b c d a_zero b_one d_narrow = (

@@ -30,7 +30,7 @@ pub record IsValidComparison (n : ℕ) (d : Term) (r : Relation) (e : Term) : Ty
   pub right : ReadsBelow n e
   pub expands : first_fault (difference_of d r e) ≡ None
 
--- an atom is the one that always holds, or a comparison like that
+-- an atom is the one that always holds, or a valid comparison
 abbrev pub IsValidAtom : ℕ → Atom → Type 0
 IsValidAtom n Always = ⊤
 IsValidAtom n (Compare d r e) = IsValidComparison n d r e

@@ -6,7 +6,7 @@ use Rattle.std.specs.List.{AllByRecursion}
 use mathlib.Core.List.{reverse-cons}
 use Rattle.expr_text.specs.model.Programs.{Name}
 use Rattle.expr_text.specs.text_core.Names.{IsName, is_same, is_among, AreDistinct}
-use Rattle.expr_text.proofs.text_core.NameLaws.{same_equal, equal_same}
+use Rattle.expr_text.proofs.text_core.NameLaws.{none_of_more, distinct_one_more}
 use Rattle.expr_text.specs.Pieces as inner
 use Rattle.expr_text.specs.Trees.{Sum, Alone, Added, Subtracted, Product, Single, Multiplied, Factor, Plain, Raised}
 use Rattle.expr_text.specs.Trees.{Negated, Base, Number, Named, Bracketed, sum_behind, product_behind, factor_behind}
@@ -30,27 +30,7 @@ pub all_one_more : {X : Type 0} (P : X → Type 0) (xs : List X) (x : X) → All
 all_one_more P [] x h p = (p, tt)
 all_one_more P (y ∷ xs) x h p = (h.0, all_one_more P xs x h.1 p)
 
--- two names differ both ways round
-pub differ_back : (n m : Name) → is_same n m ≡ false → is_same m n ≡ false
-differ_back n m h = go (is_same m n) refl
-  where
-    go : (v : Bool) → is_same m n ≡ v → is_same m n ≡ false
-    go false e = e
-    go true e = let same = equal_same n m (sym (same_equal m n e)) in cc
-
--- a name that is none of some and not one more is none of them all
-pub none_of_more : (m n : Name) (names : List Name) → is_among m names ≡ false → is_same m n ≡ false → is_among m (names ++ n ∷ []) ≡ false
-none_of_more m n [] h e = rw e refl
-none_of_more m n (k ∷ names) h e = let x = neither (is_same m k) (is_among m names) h in rw (x.0, none_of_more m n names x.1 e) refl
-
--- names that differ, and one more that is none of them, differ
-pub distinct_one_more : (names : List Name) (n : Name) → AreDistinct names → is_among n names ≡ false → AreDistinct (names ++ n ∷ [])
-distinct_one_more [] n h e = (refl, tt)
-distinct_one_more (m ∷ names) n h e =
-    let x = neither (is_same n m) (is_among n names) e in
-    (none_of_more m n names h.0 (differ_back n m x.0), distinct_one_more names n h.1 x.1)
-
--- names that differ do so in the other order
+-- a name that isn't among some names isn't among them in reverse
 none_in_reverse : (m : Name) (names : List Name) → is_among m names ≡ false → is_among m (reverse names) ≡ false
 none_in_reverse m [] h = refl
 none_in_reverse m (n ∷ names) h =

@@ -10,7 +10,7 @@ use Rattle.expr_text.specs.model.Programs as plain
 use Rattle.expr_text.specs.model.Programs.{Name, Symbol, Program, arity_in}
 use Rattle.expr_text.specs.its_model.Valid.{IsValidTerm, IsValidAtom, IsValidCost, IsValidSymbol, IsValidRule, IsValid}
 use Rattle.expr_text.specs.text_core.Names.{IsName, is_same, is_among, AreDistinct}
-use Rattle.expr_text.proofs.text_core.NameLaws.{same_equal}
+use Rattle.expr_text.proofs.text_core.NameLaws.{same_equal, distinct_one_more}
 use Rattle.expr_text.proofs.Stability.{among_more, among_last, extended}
 use Rattle.its_text.specs.Written.{LeftTerm, WrittenRule, pieces_behind}
 use Rattle.its_text.specs.Numbering.{term_in, names_of, with_symbol, with_left, symbols_of, number_of, arity_of}
@@ -21,7 +21,7 @@ use Rattle.its_text.specs.Numbering.{program_of_parts}
 use Rattle.its_text.specs.Spelling.{IsRule, AreRules, HaveRules, IsRuleWithin, AreRulesWithin, HaveRulesWithin}
 use Rattle.its_text.specs.Spelling.{SpellsWithin}
 use Rattle.its_text.proofs.NamedPieces.{text_named, before_named, AreNamed}
-use Rattle.its_text.proofs.DistinctNames.{all_one_more, distinct_one_more, AreGood, NamedRule, AreRulesNamed}
+use Rattle.its_text.proofs.DistinctNames.{all_one_more, AreGood, NamedRule, AreRulesNamed}
 use Rattle.its_text.proofs.DistinctNames.{sections_named}
 use Rattle.its_text.proofs.ValidRules.{position_below, sums_extends, guard_extends, arguments_valid, arguments_count}
 use Rattle.its_text.proofs.ValidRules.{cost_extends, cost_along, cost_is_read, cost_valid, cost_counts, guard_valid}

@@ -9,9 +9,9 @@ use Rattle.std.proofs.lemmas.Bool.{and_parts}
 use Rattle.std.proofs.lemmas.Bool.Decides.{nat_tests}
 use Rattle.its_text.specs.expr_text.model.Programs.{Name, Symbol, Rule, arity_of, arity_in}
 use Rattle.its_text.specs.expr_text.text_core.Names.{IsName, continues_name, is_same, is_among, AreDistinct}
-use Rattle.its_text.proofs.expr_text.text_core.NameLaws.{same_equal}
+use Rattle.its_text.proofs.expr_text.text_core.NameLaws.{same_equal, none_of_more, distinct_one_more}
 use Rattle.its_text.specs.Numbering.{names_of, is_com}
-use Rattle.its_text.proofs.DistinctNames.{all_one_more, none_of_more, distinct_one_more}
+use Rattle.its_text.proofs.DistinctNames.{all_one_more}
 use Rattle.its_text.proofs.ValidPrograms.{names_one_more}
 use Rattle.its_writer.specs.Layout.{numeral}
 use Rattle.its_writer.specs.Expressions.{name_at}

@@ -7,11 +7,10 @@ use Rattle.std.proofs.lemmas.Bool.{or_parts as neither}
 use Rattle.std.proofs.lemmas.Bool.Decides.{nat_tests}
 use Rattle.its_text.specs.expr_text.model.Programs.{Name, Symbol, arity_in}
 use Rattle.its_text.specs.expr_text.text_core.Names.{IsName, is_same, is_among, position_of, AreDistinct}
-use Rattle.its_text.proofs.expr_text.text_core.NameLaws.{is_same_self}
+use Rattle.its_text.proofs.expr_text.text_core.NameLaws.{is_same_self, differ_back}
 use Rattle.its_text.specs.expr_text.Terms.{with_name}
 use Rattle.its_text.specs.Numbering as numbered
 use Rattle.its_text.specs.Numbering.{names_of, with_symbol}
-use Rattle.its_text.proofs.DistinctNames.{differ_back}
 use Rattle.its_writer.specs.Expressions.{name_at}
 use Rattle.its_writer.specs.Spellable.{known_with}
 

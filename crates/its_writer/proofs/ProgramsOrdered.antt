@@ -8,7 +8,7 @@ use Rattle.std.proofs.lemmas.List.{length-reverse}
 use Rattle.std.proofs.lemmas.Bool.Decides.{nat_tests}
 use Rattle.its_text.specs.expr_text.model.Programs.{Name, Symbol, Rule, Program, arity_in}
 use Rattle.its_text.specs.expr_text.text_core.Names.{IsName, is_same, is_among, position_of, AreDistinct}
-use Rattle.its_text.proofs.expr_text.text_core.NameLaws.{is_same_self, same_equal}
+use Rattle.its_text.proofs.expr_text.text_core.NameLaws.{is_same_self, same_equal, distinct_one_more}
 use Rattle.its_text.specs.expr_text.Terms.{with_name}
 use Rattle.its_text.proofs.expr_text.Stability.{extended, name_extends}
 use Rattle.its_text.proofs.expr_text.NamesRead.{Extends, extends_self}
@@ -19,7 +19,7 @@ use Rattle.its_text.specs.Numbering.{with_guard, arrow_names, rule_names, sums_t
 use Rattle.its_text.specs.Numbering.{rules_numbered, start_of, rules_of, or_left, first_leaving, program_from, program_of_parts}
 use Rattle.its_text.specs.Spelling.{IsRule, AreRules, HaveRules, Spells}
 use Rattle.its_text.proofs.NamedPieces.{text_named, before_named, AreNamed}
-use Rattle.its_text.proofs.DistinctNames.{all_one_more, distinct_one_more, NamedRule, AreRulesNamed, sections_named}
+use Rattle.its_text.proofs.DistinctNames.{all_one_more, NamedRule, AreRulesNamed, sections_named}
 use Rattle.its_text.proofs.ValidRules.{position_below, sums_extends, cost_extends, guard_extends, arguments_count, no_fewer}
 use Rattle.its_text.proofs.ValidPrograms.{names_one_more, IsKnown, all_known}
 use Rattle.its_text.proofs.Reading.{some_is, none_is_some}

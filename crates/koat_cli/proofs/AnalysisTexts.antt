@@ -25,14 +25,14 @@ use Rattle.time_bounds.specs.rank_search.declared.answer.RankAnswer.TheVariants 
 use Rattle.time_bounds.specs.rule_questions.ProgramQuestions.{ranked_set}
 use Rattle.time_bounds.specs.rule_questions.RuleAnswers.{answer_for, point_in}
 use Rattle.time_bounds.specs.rank_search.RankAnswers.{points_of, IsReadOff, IsRankAnswer}
-use Rattle.outcome.specs.Reports.{NoTime, NoFunction, TimeTripped, TimeLarge, Time, Timed, Untimed}
+use Rattle.outcome.specs.Reports.{NoTime, NoFunction, TimeHitLimit, TimeLarge, Time, Timed, Untimed}
 use Rattle.outcome.specs.Reports.{Size, Sized, Unsized, RuleCost, Costed, Uncosted, Report, spendings, spent_in}
 use Rattle.time_bounds.specs.bound_fixpoint.Answers.{Target, TimeOf, SizesOf, Lacks, Tells, TellsTime, TellsRanking}
 use Rattle.time_bounds.specs.bound_fixpoint.Derivations.{Derivation, bounds_of}
 use Rattle.time_bounds.specs.bound_fixpoint.Keys.{Bounds, over}
 use Rattle.time_bounds.specs.bound_fixpoint.Rounds.{IsAskedFor, IsNoBound}
 use Rattle.time_bounds.specs.bound_fixpoint.Searches.{OfTime}
-use Rattle.time_bounds.specs.bound_fixpoint.Searches.{Ranking, Ranked, Unranked, RankTripped}
+use Rattle.time_bounds.specs.bound_fixpoint.Searches.{Ranking, Ranked, Unranked, RankHitLimit}
 use Rattle.time_bounds.specs.bound_fixpoint.Sets.{AreShutOf}
 use Rattle.report_text.specs.bound_text.Texts.{FitsTypes}
 use Rattle.report_text.specs.Printable as texts
@@ -140,7 +140,7 @@ gap_read b shut pivots empties f (ranks.NoRank gap) e r = subst (IsReadOff b shu
     same h x = cc
 gap_read b shut pivots empties f (ranks.OutOfLimits x) e r = absurd (apart e)
   where
-    apart : RankTripped x ≡ Unranked f → ⊥
+    apart : RankHitLimit x ≡ Unranked f → ⊥
     apart y = cc
 
 -- a bound that is found, and whose numbers fit
@@ -166,9 +166,9 @@ module _ (p : Program) (pivots : ℕ) (valid : IsValid p) (fs : List Derivation)
     where
       same : Lacks (OfTime (NoFunction g)) ≡ Lacks (OfTime (NoFunction f)) → g ≡ f
       same x = cc
-  answer_fits t g set shut are short (RankTripped x) answered tells = absurd (apart tells)
+  answer_fits t g set shut are short (RankHitLimit x) answered tells = absurd (apart tells)
     where
-      apart : Lacks (OfTime (NoFunction g)) ≡ Lacks (OfTime (TimeTripped x)) → ⊥
+      apart : Lacks (OfTime (NoFunction g)) ≡ Lacks (OfTime (TimeHitLimit x)) → ⊥
       apart y = cc
 
   -- the result of the answer about a rule
@@ -181,7 +181,7 @@ module _ (p : Program) (pivots : ℕ) (valid : IsValid p) (fs : List Derivation)
   -- why a time is missing
   no_time_fits : (t : ℕ) (why : NoTime) → IsNoBound (searches_of_program p pivots) (setting_of p) fs t 0 (OfTime why)
       → ReasonFits why → IsPrintableNoTime (length p.symbols) why
-  no_time_fits t (TimeTripped x) h fits = fits
+  no_time_fits t (TimeHitLimit x) h fits = fits
   no_time_fits t (TimeLarge m) h fits = fits
   no_time_fits t (NoFunction g) h fits = by h.target h.asked h.tells
     where

@@ -1,19 +1,18 @@
 -- The contents of the shelf determine how a call ends, and a call has one answer.
-use Rattle.std.proofs.Common.{◌≡◌, ◌≢◌, ◌↔◌, ℕ, List, Option, Some, None, IsSome, refl, sym, ◌∙◌, subst, true, false}
-use Rattle.outside_io.specs.Counts.{Rose}
+use Rattle.std.proofs.Common.{◌≡◌, ◌↔◌, ℕ, List, Option, Some, None, IsSome, refl, sym, ◌∙◌, subst}
 use Rattle.outside_io.specs.Files.{Files}
 use Rattle.command_line.specs.Requests.{Request, Asks}
 use Rattle.call_plans.specs.declared.status.Status.{Status}
-use Rattle.call_plans.specs.declared.status.Status.TheVariants.{Usage, ReadFault}
-use Rattle.call_plans.specs.Calls.{Seen, Put}
+use Rattle.call_plans.specs.declared.status.Status.TheVariants.{Usage}
+use Rattle.call_plans.specs.Calls.{Put}
 use Rattle.call_plans.specs.Plans.{IsLast}
 use Rattle.call_plans.specs.Endings.{EndsOn, IsHonest}
 use Rattle.call_plans.proofs.Faults.{honest_without_rise, honest_other}
 use Rattle.call_plans.proofs.OneEnding.{exactly_where, answer_unique, last_unique, last_exactly}
 use Rattle.koat_cli.specs.Calls.{Call}
 use Rattle.koat_cli.specs.RequestPlans.{plan_of}
-use Rattle.koat_cli.specs.Answers.{AsksForNothing, FetchesNothing, AnswersOf, Says, ToNothing, ToRequest}
-use Rattle.koat_cli.specs.Ends.{Ends, WroteWhole}
+use Rattle.koat_cli.specs.Answers.{AsksForNothing, AnswersOf, Says, ToNothing, ToRequest}
+use Rattle.koat_cli.specs.Ends.{WroteWhole}
 use Rattle.koat_cli.specs.Exclusion.{AreOneAnswer, AnswersExcludeEachOther}
 use Rattle.koat_cli.specs.CallsAnswered.{IsOnShelf, EndsWell, CallsAreAnswered}
 use Rattle.koat_cli.proofs.Determined.{Determined}

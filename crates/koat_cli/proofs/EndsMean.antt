@@ -1,9 +1,13 @@
 -- What the status means with which a call ends.
-use Rattle.std.proofs.Common.{◌≡◌, ◌≢◌, ℕ, List, IsSome, IsTrue, IsFalse, inl, inr, refl, sym, ◌∙◌, ap, subst}
+use Rattle.std.proofs.Common.{◌≡◌, ◌≢◌, ℕ, List, Option, Some, None, IsSome, IsTrue, IsFalse, inl, inr, refl, sym, ◌∙◌, ap}
+use Rattle.std.proofs.Common.{subst}
+use Rattle.model.specs.Bounds.{Bound}
 use Rattle.command_line.specs.Lines.{Word}
-use Rattle.command_line.specs.Requests.{Request, OfProgram, Asks}
+use Rattle.command_line.specs.Requests.{Request, OfProgram, While, Asks}
 use Rattle.command_line.specs.declared.task.ProgramTask.TheVariants.{Analyse}
 use Rattle.outcome.specs.Reports.{Report, is_bounded}
+use Rattle.while_answer.specs.Executed.{translation_of}
+use Rattle.while_answer.specs.while_text.Reading.{Source}
 use Rattle.call_plans.specs.declared.status.Status.{Status}
 use Rattle.call_plans.specs.declared.status.Status.TheVariants.{Done, Unknown, Usage, ReadFault, WriteFault, Memory}
 use Rattle.call_plans.specs.Sorts.{Answer, Refusal, sort_of}
@@ -17,9 +21,15 @@ use Rattle.koat_cli.specs.Ends.{Ends, WroteWhole}
 use Rattle.koat_cli.specs.Means.{Means}
 use Rattle.koat_cli.specs.Report.{usage_text}
 use Rattle.koat_cli.specs.WroteReport.{WroteReport}
+use Rattle.koat_cli.specs.WroteTotal.{WroteTotal}
 use Rattle.koat_cli.proofs.BoundedReports.{total_where_bounded}
 use Rattle.koat_cli.proofs.LawfulPlans.{plans_sorted}
 use Rattle.koat_cli.proofs.OneRequest.{answer_of, asked_where, answer_whole, refusal_whole, usage_for_nothing, usage_says}
+
+-- a bound that is there
+bound_there : (o : Option Bound) → IsSome o → (b : Bound) × (o ≡ Some b)
+bound_there None some = absurd (let never : ⊥ = cc in never)
+bound_there (Some b) some = (b, refl)
 
 module _ (call : Call) (put : Put) (n : ℕ) (file : Word) where
   -- a report that lacks no bound was written with `Done`, and one that lacks one with `Unknown`
@@ -57,6 +67,28 @@ module _ (call : Call) (put : Put) (n : ℕ) (file : Word) where
     told.1.bounded,
   )
   unknown_wrote (p, (gives, (x, (inr (inr never), appended)))) = absurd never
+
+  -- with `Done` a total of the executions was written
+  total_wrote : Wrote call.shelf put (plan_of (While n file)) Done
+      → (source : Source) × (total : Bound) × WroteTotal call put n file source total
+  total_wrote (source, (gives, (x, (inl told, appended)))) =
+      let held = told.1.holds.stated in
+      let total = bound_there told.1.report.total
+      (total_where_bounded (translation_of source) told.1.report held.stated.report told.1.bounded) in (
+        source,
+        total.0,
+        record {
+          given = gives;
+          report = told.1.report;
+          is_total = total.1;
+          text = x;
+          stated = told.1.holds;
+          appended = appended;
+        },
+      )
+  total_wrote (source, (gives, (x, (inr (inl told), appended)))) =
+      absurd (let e : Done ≡ Unknown = told.0 in let never : ⊥ = cc in never)
+  total_wrote (source, (gives, (x, (inr (inr never), appended)))) = absurd never
 
 module _ (s : Status) (call : Call) (put : Put) (ends : Ends s call put) where
   -- with the status of an answer a text of the request's plan was written
@@ -127,6 +159,10 @@ ends_mean s call put ends = record {
       unknown_wrote call put n file
       (subst (λ (t : Status). Wrote call.shelf put (plan_of (OfProgram Analyse n file)) t) is
       (answered s call put ends (OfProgram Analyse n file) made (ap sort_of is)));
+  executed = λ n file made is.
+      total_wrote call put n file
+      (subst (λ (t : Status). Wrote call.shelf put (plan_of (While n file)) t) is
+      (answered s call put ends (While n file) made (ap sort_of is)));
   answered = answered s call put ends;
   asked = asked s call put ends;
   refused = refused s call put ends;

@@ -1,18 +1,18 @@
 -- The plan of each request is lawful, and its statuses are of their sorts.
-use Rattle.std.proofs.Common.{◌≡◌, ℕ, List, refl, sym, ◌∙◌, subst}
-use Rattle.std.specs.Prelude.{⊤}
+use Rattle.std.proofs.Common.{ℕ, List, refl, sym, ◌∙◌, subst}
 use Rattle.model.specs.Programs.{Program}
 use Rattle.its_reader.specs.its_text.Spelling.{SpellsWithin}
 use Rattle.its_writer.specs.Generated.{generated}
 use Rattle.command_line.specs.declared.task.ProgramTask.{ProgramTask}
 use Rattle.command_line.specs.declared.task.PairTask.{PairTask}
 use Rattle.command_line.specs.declared.task.NumberTask.{NumberTask}
+use Rattle.command_line.specs.declared.task.FileTask.{FileTask}
 use Rattle.command_line.specs.Lines.{Word}
-use Rattle.command_line.specs.Requests.{Request, OfProgram, OfPair, OfNumber, OfFile, default_pivots}
+use Rattle.command_line.specs.Requests.{Request, OfProgram, OfPair, OfNumber, OfFile, While, default_pivots}
 use Rattle.command_line.specs.declared.task.ProgramTask.TheVariants.{Analyse, Prove, Facts}
 use Rattle.command_line.specs.declared.task.PairTask.TheVariants.{Check, Replay, Lasso}
 use Rattle.command_line.specs.declared.task.NumberTask.TheVariants.{Generate, Selfrun}
-use Rattle.command_line.specs.declared.task.FileTask.TheVariants.{Lp}
+use Rattle.command_line.specs.declared.task.FileTask.TheVariants.{Lp, Translate}
 use Rattle.cert_types.specs.cert_rules.Gaps.{ProofFile}
 use Rattle.run_replay.specs.ReplayAnswers.{last_first}
 use Rattle.run_replay.specs.Replays.{IsFirstBadStep}
@@ -37,6 +37,7 @@ use Rattle.koat_cli.proofs.ProofAnswers.{proof_texts_decided, one_refusal, one_a
 use Rattle.koat_cli.proofs.RunAnswers.{run_texts_decided}
 use Rattle.koat_cli.proofs.LassoAnswers.{lasso_texts_decided, lasso_rows}
 use Rattle.koat_cli.proofs.LpAnswers.{lp_texts_decided, lp_rows}
+use Rattle.koat_cli.proofs.WhileAnswers.{while_programs_decided, executions_rows, translation_rows}
 use Rattle.koat_cli.proofs.ReportTables.{report_rows}
 use Rattle.koat_cli.proofs.Statements.{stated-unique}
 
@@ -88,7 +89,7 @@ module _ (laws : Determined) where
   second_lawful Check p second spelling spelled =
       (proof_texts_decided spelling p spelled, λ bytes f stands. check_rows p f)
   second_lawful Replay p second spelling spelled = (run_texts_decided p, λ bytes r stands. replay_rows p r)
-  second_lawful Lasso p second spelling spelled = (lasso_texts_decided p, λ bytes l stands. lasso_rows laws.replays p l)
+  second_lawful Lasso p second spelling spelled = (lasso_texts_decided p, λ bytes f stands. lasso_rows laws.replays p f)
 
   -- the plan of each request is lawful
   pub plans_lawful : (request : Request) → IsLawful (plan_of request)
@@ -98,12 +99,14 @@ module _ (laws : Determined) where
       (program_texts_decided laws, λ bytes p stands. second_lawful task p second bytes stands)
   plans_lawful (OfNumber task n) = number_rows task n
   plans_lawful (OfFile Lp file) = (lp_texts_decided, λ bytes p stands. lp_rows p)
+  plans_lawful (OfFile Translate file) = (while_programs_decided, λ bytes s stands. translation_rows s)
+  plans_lawful (While n file) = (while_programs_decided, λ bytes s stands. executions_rows s n laws)
 
 -- its statuses are of their sorts
 second_sorted : (task : PairTask) (p : Program) (second : Word) → HasSorts (second_plan task p second)
 second_sorted Check p second = (refl, λ f. (refl, (refl, tt)))
 second_sorted Replay p second = (refl, λ r. (refl, (refl, tt)))
-second_sorted Lasso p second = (refl, λ l. (refl, (refl, (refl, tt))))
+second_sorted Lasso p second = (refl, λ f. (refl, (refl, tt)))
 
 program_sorted : (task : ProgramTask) (n : ℕ) (file : Word) → HasSorts (plan_of (OfProgram task n file))
 program_sorted Analyse n file = (refl, λ p. (refl, (refl, tt)))
@@ -116,9 +119,16 @@ plans_sorted (OfPair task file second) = (refl, λ p. second_sorted task p secon
 plans_sorted (OfNumber Generate n) = (refl, tt)
 plans_sorted (OfNumber Selfrun n) = (refl, (refl, tt))
 plans_sorted (OfFile Lp file) = (refl, λ p. (refl, (refl, tt)))
+plans_sorted (OfFile Translate file) = (refl, λ s. (refl, tt))
+plans_sorted (While n file) = (refl, λ s. (refl, (refl, tt)))
 
 -- a second file is read behind the first of two
 pub second_not_last : (task : PairTask) (p : Program) (second : Word) → ¬ (IsLast (second_plan task p second))
 second_not_last Check p second last = last
 second_not_last Replay p second last = last
 second_not_last Lasso p second last = last
+
+-- a file of another kind is read
+pub file_not_last : (task : FileTask) (file : Word) → ¬ (IsLast (plan_of (OfFile task file)))
+file_not_last Lp file last = last
+file_not_last Translate file last = last

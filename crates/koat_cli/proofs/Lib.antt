@@ -13,6 +13,7 @@ pub mod ProgramAnswers
 pub mod RunAnswers
 pub mod ProofAnswers
 pub mod LpAnswers
+pub mod WhileAnswers
 pub mod ProofFiles
 pub mod GeneratedTexts
 pub mod WithinBounds
@@ -31,6 +32,7 @@ pub mod WorkedAnswers
 pub mod WorkedReplayTexts
 pub mod WorkedMissingFiles
 pub mod WorkedMeanings
+pub mod WorkedExecutions
 pub mod LinesBeside
 pub mod AbsoluteValues
 pub mod AnalysisTexts

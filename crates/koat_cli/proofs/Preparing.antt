@@ -1,5 +1,5 @@
 -- What is prepared is the answer of the call.
-use Rattle.std.proofs.Common.{◌≡◌, ℕ, List, Option, Some, None, Result, IfOk, MatchOption, subst}
+use Rattle.std.proofs.Common.{◌≡◌, Option, Some, Result, IfOk, MatchOption, subst}
 use Rattle.std.proofs.lemmas.Result.{IfOk-weaker}
 use Rattle.command_line.specs.Lines.{Words}
 use Rattle.command_line.specs.Requests.{Request, Asks}
@@ -10,7 +10,7 @@ use Rattle.koat_cli.specs.Calls.{Call}
 use Rattle.koat_cli.specs.Answers.{AnswersOf, Says, ToRequest}
 
 -- the words ask for the request that was read of them
-asked : (words : Words) (o : Option declared.Request) (r : declared.Request) → o ≡ Some r
+pub asked : (words : Words) (o : Option declared.Request) (r : declared.Request) → o ≡ Some r
     → MatchOption o ((q : Request) → ¬ (Asks words q)) (λ q. Asks words (request_of q)) → Asks words (request_of r)
 asked words o r e h =
     subst (λ (p : Option declared.Request). MatchOption p ((q : Request) → ¬ (Asks words q)) (λ q. Asks words (request_of q))) e h

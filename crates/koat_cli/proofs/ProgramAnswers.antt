@@ -1,5 +1,5 @@
 -- Bytes spell one program at most, or are refused for one first fault, and not both.
-use Rattle.std.proofs.Common.{◌≡◌, ℕ, List, sym, ◌∙◌, ap}
+use Rattle.std.proofs.Common.{◌≡◌, sym, ◌∙◌, ap}
 use Rattle.model.specs.Programs.{Program}
 use Rattle.its_model.specs.text_core.Readers.{Fault}
 use Rattle.its_model.specs.text_core.Reading.{Answer, Stands, Refused}

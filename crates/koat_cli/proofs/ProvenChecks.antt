@@ -1,5 +1,5 @@
 -- What `prove` wrote of a program is the text of a proof file of it, which is accepted; so `check` accepts it.
-use Rattle.std.proofs.Common.{◌≡◌, ◌≢◌, ◌⊎◌, ℕ, ◌≤◌, List, ◌++◌, length, Option, Some, None, IsSome, refl, sym}
+use Rattle.std.proofs.Common.{◌≡◌, ◌⊎◌, ℕ, ◌≤◌, List, length, Option, Some, None, IsSome, refl, sym}
 use Rattle.std.proofs.Common.{◌∙◌, ap, subst, inl, inr, true, false}
 use Rattle.std.proofs.lemmas.List.{append_cancel_left}
 use Rattle.std.specs.Prelude.{⊤}
@@ -15,7 +15,7 @@ use Rattle.cert_text.specs.Spelled.{IsTextWithin}
 use Rattle.outcome.specs.declared.outcome_of.Outcome.{Outcome}
 use Rattle.analysis_certs.specs.ProvedFiles.{file_of_outcome}
 use Rattle.call_plans.specs.declared.status.Status.{Status}
-use Rattle.call_plans.specs.declared.status.Status.TheVariants.{Done, Unknown, Memory}
+use Rattle.call_plans.specs.declared.status.Status.TheVariants.{Done, Unknown}
 use Rattle.call_plans.specs.Sorts.{Answer, sort_of}
 use Rattle.call_plans.specs.Calls.{Put}
 use Rattle.call_plans.specs.Gives.{Gives}

@@ -8,7 +8,7 @@ use Rattle.outcome.specs.Holding.{IsReportOn, ReportHolds}
 use Rattle.outcome.specs.Reports.{Report}
 use Rattle.run_replay.specs.ReplayAnswers.{IsReplay, last_first}
 use Rattle.run_replay.specs.ReplayLaws.{ReplaysAreDecided}
-use Rattle.run_replay.specs.Replays.{Sums, tally_along}
+use Rattle.run_replay.specs.Replays.{Sums}
 use Rattle.run_replay.specs.Runs.{Run}
 use Rattle.time_bounds.specs.Analysis.{IsAnalysis}
 use Rattle.time_bounds.specs.Whys.{ReasonsAreTrue}

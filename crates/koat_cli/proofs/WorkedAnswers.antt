@@ -32,7 +32,20 @@ figures_worked = record { figures = refl }
 
 pub lasso_texts_worked : LassoTextsAreWorkedOut
 unfolding digits
-lasso_texts_worked = record { turn = refl; great_cost = refl; other_value = refl; other_symbol = refl }
+lasso_texts_worked = record {
+  turn = refl;
+  great_cost = refl;
+  moving = refl;
+  no_place = refl;
+  bad = refl;
+  other_value = refl;
+  other_symbol = refl;
+  leaves = refl;
+  passes = refl;
+  atom = refl;
+  place = refl;
+  changes = refl;
+}
 
 -- the number of the word
 no_loop : IsNumber 100 (codes "0") 0
@@ -59,20 +72,20 @@ selfrun_asked = record {
 }
 
 -- the call with these words
-abbrev call_with : Words → Option ℕ → Seen → Call
+abbrev pub call_with : Words → Option ℕ → Seen → Call
 call_with words before seen = record { words = words; fetches_before = before; shelf = seen }
 
 -- a status that no row and no file of a request's plan has isn't answered
 module _ (call : Call) (r : Request) (asked : Asks call.words r) where
-  not_answered : (Holds : Status → Type 0) (s : Status) (x : List ℕ) → OfPlan Holds (plan_of r) → Says call s x → Holds s
+  pub not_answered : (Holds : Status → Type 0) (s : Status) (x : List ℕ) → OfPlan Holds (plan_of r) → Says call s x → Holds s
   not_answered Holds s x all said =
       of_plan Holds call.shelf call.fetches_before (plan_of r) s x all (answer_of call r s x asked said)
 
-  not_usage : (x : List ℕ) → ¬ (Says call Usage x)
+  pub not_usage : (x : List ℕ) → ¬ (Says call Usage x)
   not_usage x said = never_usage_of call r x (answer_of call r Usage x asked said)
 
 -- statuses but one
-abbrev IsNotUnknown : Status → Type 0
+abbrev pub IsNotUnknown : Status → Type 0
 IsNotUnknown Unknown = ⊥
 IsNotUnknown status = ⊤
 
@@ -88,7 +101,7 @@ abbrev IsNotProofRefused : Status → Type 0
 IsNotProofRefused ProofRefused = ⊥
 IsNotProofRefused status = ⊤
 
-abbrev IsNotNotARun : Status → Type 0
+abbrev pub IsNotNotARun : Status → Type 0
 IsNotNotARun NotARun = ⊥
 IsNotNotARun status = ⊤
 
@@ -168,10 +181,10 @@ answers_worked = record {
       not_usage (call_with lasso_words before seen) (OfPair Lasso (codes "p") (codes "q")) command_lines.lasso x said;
   lasso_known = λ before seen x said.
       not_answered (call_with lasso_words before seen) (OfPair Lasso (codes "p") (codes "q")) command_lines.lasso
-      IsNotUnknown Unknown x (tt, (tt, λ p. (tt, (tt, λ l. (tt, (tt, (tt, tt))))))) said;
+      IsNotUnknown Unknown x (tt, (tt, λ p. (tt, (tt, λ l. (tt, (tt, tt)))))) said;
   lasso_no_proof = λ before seen x said.
       not_answered (call_with lasso_words before seen) (OfPair Lasso (codes "p") (codes "q")) command_lines.lasso
-      IsNotProofRefused ProofRefused x (tt, (tt, λ p. (tt, (tt, λ l. (tt, (tt, (tt, tt))))))) said;
+      IsNotProofRefused ProofRefused x (tt, (tt, λ p. (tt, (tt, λ l. (tt, (tt, tt)))))) said;
   lp = λ before seen x said.
       not_usage (call_with (codes "lp" ∷ codes "p" ∷ []) before seen) (OfFile Lp (codes "p"))
       command_lines.linear_program x said;

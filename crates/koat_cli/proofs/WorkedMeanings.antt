@@ -2,9 +2,8 @@
 use Rattle.std.proofs.Common.{◌≡◌, ℕ, ◌<◌, Bool, true, false, cond, List, [], ◌∷◌, ◌++◌, length, get_or, Option, Some, None}
 use Rattle.std.proofs.Common.{refl, sym, ◌∙◌, ap, subst, arith, codes, inl, inr}
 use Rattle.std.proofs.lemmas.List.{append_cancel_left}
-use Rattle.std.specs.FinMap.{get}
 use Rattle.model.specs.Programs.{Program}
-use Rattle.model.specs.Bounds.{Bound, Constant}
+use Rattle.model.specs.Bounds.{Constant}
 use Rattle.model.specs.Facts.{HoldsTime, HoldsTotal}
 use Rattle.model.specs.WorkedRuns.{countdown}
 use Rattle.model.proofs.WorkedFacts.{times_hold}
@@ -17,7 +16,6 @@ use Rattle.command_line.specs.declared.task.ProgramTask.TheVariants.{Analyse}
 use Rattle.command_line.specs.declared.task.NumberTask.TheVariants.{Generate}
 use Rattle.command_line.proofs.OneWay.{read_in_one_way}
 use Rattle.command_line.proofs.WorkedLines.{command_lines}
-use Rattle.outside_io.specs.Counts.{Rose}
 use Rattle.outcome.specs.Reports.{Timed, Report, is_bounded}
 use Rattle.outcome.specs.Holding.{numbered_entry}
 use Rattle.report_text.specs.Reports.{text_of_report}
@@ -30,7 +28,6 @@ use Rattle.koat_cli.specs.Calls.{Call}
 use Rattle.koat_cli.specs.Report.{usage_text}
 use Rattle.koat_cli.specs.RequestPlans.{plan_of}
 use Rattle.koat_cli.specs.Answers.{Says, ToNothing}
-use Rattle.koat_cli.specs.Means.{Means}
 use Rattle.koat_cli.specs.WroteReport.{WroteReport}
 use Rattle.koat_cli.specs.WorkedEnds.{untold}
 use Rattle.koat_cli.specs.WorkedMissingFiles.{holding}
@@ -61,7 +58,7 @@ meant words before seen s x said fault =
     ends_mean s call (appended x) (ended_whole call (appended x) s x said fault refl refl)
 
 -- the first byte of what was written
-first_is : (bytes x : List ℕ) → codes "old " ++ bytes ≡ codes "old " ++ x → get_or bytes 0 0 ≡ get_or x 0 0
+pub first_is : (bytes x : List ℕ) → codes "old " ++ bytes ≡ codes "old " ++ x → get_or bytes 0 0 ≡ get_or x 0 0
 first_is bytes x e = ap (λ (w : List ℕ). get_or w 0 0) (append_cancel_left (codes "old ") bytes x e)
 
 -- a call without words
@@ -146,7 +143,7 @@ refused_unwritten h =
     go (inr (p, (gives, never))) = never
 
 -- the first letter of a report, by whether no bound is missing, is that of its headline
-abbrev first_letter : Bool → ℕ
+abbrev pub first_letter : Bool → ℕ
 first_letter true = 98
 first_letter false = 117
 
@@ -155,7 +152,7 @@ headline_first : (b : Bool) (lines reasons : List ℕ)
 headline_first true lines reasons = refl
 headline_first false lines reasons = refl
 
-report_first : (p : Program) (r : Report) → get_or (text_of_report p r) 0 0 ≡ first_letter (is_bounded r)
+pub report_first : (p : Program) (r : Report) → get_or (text_of_report p r) 0 0 ≡ first_letter (is_bounded r)
 unfolding text_of_report
 report_first p r = headline_first (is_bounded r) _ _
 

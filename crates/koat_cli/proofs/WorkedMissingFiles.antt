@@ -8,6 +8,13 @@ use Rattle.outside_io.specs.Counts.{Rose}
 use Rattle.outside_io.specs.Files.{Files}
 use Rattle.its_reader.specs.its_text.Kinds.{MissingSection}
 use Rattle.its_reader.proofs.its_text.VerdictLaws.{verdicts_are_right}
+use Rattle.text_grammar.specs.Texts.{reader}
+use Rattle.text_grammar.specs.ByteTexts.{tokens}
+use Rattle.text_grammar.proofs.text_core.FirstFaults.{answer_is}
+use Rattle.text_grammar.proofs.ReaderLaws.{reader_laws}
+use Rattle.lp_text.specs.declared.kind.LpKind.TheVariants.{Syntax}
+use Rattle.lp_text.specs.Texts.{lps}
+use Rattle.lp_text.proofs.LpParts.{lps_lawful}
 use Rattle.command_line.specs.Lines.{Word, Words}
 use Rattle.command_line.specs.Requests.{Request, OfProgram, OfPair, OfFile, Asks}
 use Rattle.command_line.specs.declared.task.ProgramTask.TheVariants.{Analyse}
@@ -16,11 +23,11 @@ use Rattle.command_line.specs.declared.task.FileTask.TheVariants.{Lp}
 use Rattle.command_line.proofs.WorkedLines.{command_lines}
 use Rattle.call_plans.specs.declared.status.Status.{Status}
 use Rattle.call_plans.specs.declared.status.Status.TheVariants.{ReadFault, ProgramRefused}
-use Rattle.call_plans.specs.Calls.{Seen}
 use Rattle.call_plans.specs.OnFiles.{read_fault_text, IsNoText, Unread, Bad, Without}
 use Rattle.call_plans.proofs.Faults.{honest_without_rise}
 use Rattle.call_plans.proofs.OneEnding.{answer_unique}
 use Rattle.koat_cli.specs.Calls.{Call}
+use Rattle.koat_cli.specs.LpTexts.{linear_programs}
 use Rattle.koat_cli.specs.ProgramTexts.{programs}
 use Rattle.koat_cli.specs.RequestPlans.{plan_of}
 use Rattle.koat_cli.specs.Answers.{Says, ToRequest}
@@ -43,18 +50,18 @@ steady (inr most) = omega (arith, most)
 lacks_program : get (one_file (codes "-q")) (codes "p") ≡ None
 lacks_program = get-insert nat_list_cmp_total empty (codes "-q") [] (codes "p") ∙ get-empty (slice_cmp nat_cmp) (codes "p")
 
-lacks_checked : get (one_file (codes "q")) (codes "p") ≡ None
+pub lacks_checked : get (one_file (codes "q")) (codes "p") ≡ None
 lacks_checked = get-insert nat_list_cmp_total empty (codes "q") [] (codes "p") ∙ get-empty (slice_cmp nat_cmp) (codes "p")
 
 pub has_program : get (one_file (codes "p")) (codes "p") ≡ Some []
 has_program = get-insert nat_list_cmp_total empty (codes "p") [] (codes "p")
 
 -- a call with these words on such a shelf
-abbrev call_on : Words → Word → Call
+abbrev pub call_on : Words → Word → Call
 call_on words name = record { words = words; fetches_before = Some 0; shelf = holding name }
 
 -- what is answered of its request is one
-only : Determined → (words : Words) (name : Word) (r : Request) → Asks words r → (s t : Status) (x y : List ℕ)
+pub only : Determined → (words : Words) (name : Word) (r : Request) → Asks words r → (s t : Status) (x y : List ℕ)
     → Says (call_on words name) s x → Says (call_on words name) t y → s ≡ t
 only laws words name r asked s t x y a b =
     (answer_unique (holding name) (one_file name) (Some 0) (plan_of r) refl (plans_lawful laws r) s t x y
@@ -115,6 +122,24 @@ no_lasso = ToRequest (OfPair Lasso (codes "p") (codes "q")) command_lines.lasso 
 pub empty_analysed : Analysed (holding (codes "p")) ProgramRefused (codes "program refused at 0: MissingSection\n")
 empty_analysed = ToRequest (OfProgram Analyse 10000 (codes "p")) command_lines.file_alone (Without refl no_bytes)
 
+-- an empty file is no linear program
+empty_lp : IsNoText linear_programs (holding (codes "p")) (codes "p") ProgramRefused (codes "program refused at 0: Syntax\n")
+unfolding digits
+empty_lp =
+    Bad (record {
+      bytes = [];
+      fetched = record { held = has_program; taken = refl; within = omega arith };
+      refused = record {
+        subject = record { kind = Syntax; at = 0 };
+        is = answer_is (reader lps) (reader_laws lps lps_lawful) 0 (tokens []);
+        result_is = refl;
+      };
+      ends = refl;
+    })
+
+empty_solved : Solved (holding (codes "p")) ProgramRefused (codes "program refused at 0: Syntax\n")
+empty_solved = ToRequest (OfFile Lp (codes "p")) command_lines.linear_program (Without refl empty_lp)
+
 module _ (laws : Determined) where
   -- each is the only answer
   only_replayed : (name : Word) (s t : Status) (x y : List ℕ) → Replayed (holding name) s x → Replayed (holding name) t y
@@ -169,4 +194,7 @@ module _ (laws : Determined) where
         only_turned (codes "p") s ProgramRefused x (codes "program refused at 0: MissingSection\n") said no_lasso;
     no_solved = no_solved;
     no_solved_alone = λ s x said. only_solved (codes "q") s ReadFault x read_fault_text said no_solved;
+    empty_solved = empty_solved;
+    empty_solved_alone = λ s x said.
+        only_solved (codes "p") s ProgramRefused x (codes "program refused at 0: Syntax\n") said empty_solved;
   }

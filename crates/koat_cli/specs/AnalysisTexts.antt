@@ -5,7 +5,7 @@ use Rattle.model.specs.Programs.{Program}
 use Rattle.model.specs.Bounds.{Bound}
 use Rattle.its_model.specs.Valid.{IsValid}
 use Rattle.outcome.specs.cert_rules.Gaps.{Gap}
-use Rattle.outcome.specs.Reports.{NoTime, NoFunction, TimeTripped, TimeLarge, Time, Timed, Untimed}
+use Rattle.outcome.specs.Reports.{NoTime, NoFunction, TimeHitLimit, TimeLarge, Time, Timed, Untimed}
 use Rattle.outcome.specs.Reports.{Size, Sized, Unsized, RuleCost, Costed, Uncosted, Report}
 use Rattle.report_text.specs.bound_text.Texts.{FitsTypes}
 use Rattle.report_text.specs.Printable.{IsShort, IsPrintablePoint, IsPrintableLimitHit, IsPrintableNoSize}
@@ -25,7 +25,7 @@ pub record HasShortNumbers (g : Gap) : Type 0 where
 -- the numbers of a reason why a time is missing fit
 abbrev pub ReasonFits : NoTime → Type 0
 ReasonFits (NoFunction g) = HasShortNumbers g
-ReasonFits (TimeTripped t) = IsPrintableLimitHit t
+ReasonFits (TimeHitLimit t) = IsPrintableLimitHit t
 ReasonFits (TimeLarge nodes) = IsShort nodes
 
 -- the numbers of a time, of a rule's cost, of a size and of the total fit the types that hold them: those of a bound,

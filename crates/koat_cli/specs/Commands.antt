@@ -8,3 +8,5 @@ pub mod Lasso
 pub mod Generate
 pub mod Selfrun
 pub mod Lp
+pub mod While
+pub mod Translate

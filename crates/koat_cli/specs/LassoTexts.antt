@@ -1,32 +1,31 @@
--- Lasso files as the second file of a request: their limit, and the answers where one is refused; and the texts of what
--- is found of a lasso.
-use Rattle.std.specs.Prelude.{ℕ, List, [], ◌∷◌, ◌++◌, length, codes, decimal}
+-- Lasso files of both forms as the second file of a request: their limit, and the answers where one is refused; and the
+-- texts of what is found of a turn.
+use Rattle.std.specs.Prelude.{ℕ, List, [], ◌∷◌, ◌++◌, ℤ, codes, decimal}
 use Rattle.model.specs.Programs.{Program}
-use Rattle.run_replay.specs.text_core.Faults.{IsFirst}
-use Rattle.run_replay.specs.text_grammar.ByteTexts.{tokens}
-use Rattle.run_replay.specs.text_grammar.Texts.{reader}
-use Rattle.lasso_check.specs.Checks.{Turn, Verdict, Round, Bad, OpenAt}
-use Rattle.lasso_check.specs.Lassos.{Lasso}
-use Rattle.lasso_check.specs.Spelled.{IsTextWithin}
-use Rattle.lasso_check.specs.Texts.{lassos_of}
+use Rattle.lasso_forms.specs.lasso_check.Checks.{Turn}
+use Rattle.lasso_forms.specs.moving_check.affine_turns.Turns.{Stop, AtomStops, PlaceBends}
+use Rattle.lasso_forms.specs.moving_check.Findings.{Moving, Finding, Moves, LeavesSymbol, PassesAt, StopsAt, ChangesAt}
+use Rattle.lasso_forms.specs.Files.{LassoFile}
+use Rattle.lasso_forms.specs.Texts.{IsFileText, IsFirstFault}
+use Rattle.lasso_forms.specs.Turns.{EndlessTurn, Back, On, Obstacle, StepIsBad, TurnIsOpen, TurnStops}
+use Rattle.report_text.specs.Pieces.{parts_text}
 use Rattle.call_plans.specs.declared.status.Status.TheVariants.{RunRefused}
 use Rattle.call_plans.specs.Kinds.{TextKind}
 use Rattle.koat_cli.specs.Statements.{StatesOne}
 use Rattle.koat_cli.specs.ReplayTexts.{value_text}
 use Rattle.koat_cli.specs.RunTexts.{run_limit, run_too_long_text, run_refusal_text, bad_step_text}
 
--- the bytes have a fault as the text of a lasso of the program, and the text states the first, as that of a run
+-- the bytes have a fault as the text of a lasso file of the program, and the text states the first, as that of a run
 abbrev pub IsLassoRefusedAs : Program → List ℕ → List ℕ → Type 0
-IsLassoRefusedAs program bytes text =
-    StatesOne (IsFirst (reader (lassos_of program)) (length bytes) (tokens bytes)) run_refusal_text text
+IsLassoRefusedAs program bytes text = StatesOne (IsFirstFault program bytes) run_refusal_text text
 
--- texts of lassos of a program, within the limits, of as many bytes as texts of runs
-abbrev pub lassos : Program → TextKind Lasso
+-- texts of lasso files of a program, within the limits, of as many bytes as texts of runs
+abbrev pub lassos : Program → TextKind LassoFile
 lassos program = record {
   limit = run_limit;
   refused = RunRefused;
   too_long = run_too_long_text;
-  StandsFor = IsTextWithin program;
+  StandsFor = IsFileText program;
   IsRefusedAs = IsLassoRefusedAs program;
 }
 
@@ -42,16 +41,50 @@ rule_lines (rule ∷ rules) = rule_line rule ++ rule_lines rules
 abbrev pub cost_line : ℕ → List ℕ
 cost_line cost = codes "turn cost " ++ (value_text cost ++ codes "\n")
 
+-- by how much the values at the places change in each turn
+abbrev pub moves_line : List ℤ → List ℕ
+moves_line differences = codes "moves " ++ (parts_text differences ++ codes "\n")
+
 -- the text of a turn that leads back: its rules, and what it costs
-abbrev pub turn_text : Turn → List ℕ
-turn_text turn = codes "endless\n" ++ (rule_lines turn.rules ++ cost_line turn.cost)
+abbrev pub back_text : Turn → List ℕ
+back_text turn = codes "endless\n" ++ (rule_lines turn.rules ++ cost_line turn.cost)
+
+-- the text of a turn that moves on: its differences, its rules, and what the first turn costs
+abbrev pub on_text : Moving → List ℕ
+on_text turn = codes "endless\n" ++ (moves_line turn.differences ++ (rule_lines turn.rules ++ cost_line turn.cost))
+
+-- the text of a turn that can be repeated
+abbrev pub turn_text : EndlessTurn → List ℕ
+turn_text (Back turn) = back_text turn
+turn_text (On turn) = on_text turn
 
 -- the text where a turn leads elsewhere: the first place with another value, or 0 where the symbol is another one
 abbrev pub open_text : ℕ → List ℕ
 open_text place = codes "not a run: open at place " ++ (decimal place ++ codes "\n")
 
--- the text of what is found of a lasso
-abbrev pub verdict_text : Verdict → List ℕ
-verdict_text (Round turn) = turn_text turn
-verdict_text (Bad bad) = bad_step_text bad
-verdict_text (OpenAt place) = open_text place
+-- the text where a step isn't seen to go on: its number, and the atom or the place
+abbrev pub stop_line : ℕ → List ℕ → ℕ → List ℕ
+stop_line step what number =
+    codes "not seen to move on at step " ++ (decimal step ++ (codes ": " ++ (what ++ (decimal number ++ codes "\n"))))
+
+abbrev pub stop_text : ℕ → Stop → List ℕ
+stop_text step (AtomStops atom) = stop_line step (codes "atom ") atom
+stop_text step (PlaceBends place) = stop_line step (codes "place ") place
+
+-- the text where the difference at a place is none for each turn: it passes 128 bits, or is another one behind the turn
+abbrev pub difference_text : ℕ → List ℕ → List ℕ
+difference_text place what = codes "not seen to move on: difference at place " ++ (decimal place ++ (what ++ codes "\n"))
+
+-- the text of what is found of a turn that is to move on
+abbrev pub finding_text : Finding → List ℕ
+finding_text (Moves turn) = on_text turn
+finding_text LeavesSymbol = codes "not seen to move on: other symbol\n"
+finding_text (PassesAt place) = difference_text place (codes " passes 128 bits")
+finding_text (StopsAt stop) = stop_text stop.number stop.stop
+finding_text (ChangesAt place) = difference_text place (codes " changes")
+
+-- the text of what keeps a turn from being repeated, or from being seen to
+abbrev pub obstacle_text : Obstacle → List ℕ
+obstacle_text (StepIsBad bad) = bad_step_text bad
+obstacle_text (TurnIsOpen place) = open_text place
+obstacle_text (TurnStops found) = finding_text found

@@ -11,6 +11,7 @@ pub mod RunTexts
 pub mod LassoTexts
 pub mod LassoLaws
 pub mod LpTexts
+pub mod WhileTexts
 pub mod WithinBounds
 pub mod Found
 pub mod Commands
@@ -18,6 +19,7 @@ pub mod RequestPlans
 pub mod Answers
 pub mod Ends
 pub mod WroteReport
+pub mod WroteTotal
 pub mod Means
 pub mod Processes
 pub mod Exclusion
@@ -30,5 +32,7 @@ pub mod WorkedAnswers
 pub mod WorkedReplayTexts
 pub mod WorkedMissingFiles
 pub mod WorkedMeanings
+pub mod WorkedExecutions
 -- what the contracts of the functions inside cite
 pub mod Steps
+pub mod WhileTasks

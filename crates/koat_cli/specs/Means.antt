@@ -1,9 +1,11 @@
 -- What the status means with which a call ends.
 use Rattle.std.specs.Prelude.{◌≡◌, ℕ, IsSome, IsTrue, IsFalse}
+use Rattle.model.specs.Bounds.{Bound}
 use Rattle.command_line.specs.Lines.{Word}
-use Rattle.command_line.specs.Requests.{Request, OfProgram, Asks}
+use Rattle.command_line.specs.Requests.{Request, OfProgram, While, Asks}
 use Rattle.command_line.specs.declared.task.ProgramTask.TheVariants.{Analyse}
 use Rattle.outcome.specs.Reports.{Report, is_bounded}
+use Rattle.while_answer.specs.while_text.Reading.{Source}
 use Rattle.call_plans.specs.declared.status.Status.{Status}
 use Rattle.call_plans.specs.declared.status.Status.TheVariants.{Done, Unknown, Usage, ReadFault}
 use Rattle.call_plans.specs.Sorts.{Answer, Refusal, sort_of}
@@ -14,19 +16,23 @@ use Rattle.koat_cli.specs.Report.{usage_text}
 use Rattle.koat_cli.specs.RequestPlans.{plan_of}
 use Rattle.koat_cli.specs.Answers.{AsksForNothing}
 use Rattle.koat_cli.specs.WroteReport.{WroteReport}
+use Rattle.koat_cli.specs.WroteTotal.{WroteTotal}
 
 -- What statuses mean. Where `analyse` ends with `Done`, such a report was written, in which every rule has a time and
 -- every rule with a cost a bound on it, and which has a total; and where it ends with `Unknown`, one in which a time or
--- a bound on a cost is missing. For every command: with the status of an answer, the words make a request,
--- its files gave all that its plan reads, and a text of the row with this status was written, whole; with the status of
--- a refusal, a text was written, whole, that refuses a file of the request, the files before it having given what the
--- plan reads; with `ReadFault`, a file of the request that is reached so may fail; and with `Usage`, the words make no
--- request, and the usage text was written.
+-- a bound on a cost is missing. Where `while` ends with `Done`, a while program was read, and the report of its
+-- translation was written with a total, which bounds the steps of each execution. For every command: with the status of
+-- an answer, the words make a request, its files gave all that its plan reads, and a text of the row with this status
+-- was written, whole; with the status of a refusal, a text was written, whole, that refuses a file of the request, the
+-- files before it having given what the plan reads; with `ReadFault`, a file of the request that is reached so may
+-- fail; and with `Usage`, the words make no request, and the usage text was written.
 pub record Means (status : Status) (call : Call) (put : Put) : Type 0 where
   pub done : (pivots : ℕ) (file : Word) → Asks call.words (OfProgram Analyse pivots file) → status ≡ Done
       → (report : Report) × WroteReport call put pivots file report × IsTrue (is_bounded report) × IsSome report.total
   pub unknown : (pivots : ℕ) (file : Word) → Asks call.words (OfProgram Analyse pivots file) → status ≡ Unknown
       → (report : Report) × WroteReport call put pivots file report × IsFalse (is_bounded report)
+  pub executed : (pivots : ℕ) (file : Word) → Asks call.words (While pivots file) → status ≡ Done
+      → (source : Source) × (total : Bound) × WroteTotal call put pivots file source total
   pub answered : (request : Request) → Asks call.words request → sort_of status ≡ Answer
       → Wrote call.shelf put (plan_of request) status
   pub asked : sort_of status ≡ Answer → (request : Request) × Asks call.words request

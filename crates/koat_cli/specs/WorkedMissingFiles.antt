@@ -83,3 +83,6 @@ pub record FilesAreReadInOrder : Type 0 where
   pub no_solved : Solved (holding (codes "q")) ReadFault read_fault_text
   pub no_solved_alone : (status : Status) (text : List ℕ) → Solved (holding (codes "q")) status text
       → status ≡ ReadFault
+  pub empty_solved : Solved (holding (codes "p")) ProgramRefused (codes "program refused at 0: Syntax\n")
+  pub empty_solved_alone : (status : Status) (text : List ℕ) → Solved (holding (codes "p")) status text
+      → status ≡ ProgramRefused

@@ -1,62 +1,77 @@
-//! Answers whether the turn of a lasso leads back.
+//! Answers whether the turn of a lasso leads back, or is seen to move on.
 
-ghost use Rattle.std.specs.Prelude.{◌≡◌, ◌≤◌, ◌++◌, length, IfOk, IfSome, IsErr, None, OnOk};
+ghost use Rattle.std.specs.Prelude.{◌≡◌, ◌++◌, IfOk, IfSome, IsErr, None, OnOk};
 ghost use Rattle.its_model.specs.Valid.{IsValid};
 ghost use Rattle.its_model.specs.Views.{program_of};
-ghost use Rattle.lasso_check.specs.CheckAnswers.{turn_of, verdict_in};
-ghost use Rattle.lasso_check.specs.Spelled.{IsWithin};
-ghost use Rattle.lasso_check.specs.Views.{lasso_of};
+ghost use Rattle.lasso_forms.specs.lasso_check.CheckAnswers as back;
+ghost use Rattle.lasso_forms.specs.lasso_check.Spelled.{IsWithin};
+ghost use Rattle.lasso_forms.specs.Files.{lasso_in};
+ghost use Rattle.lasso_forms.specs.Views.{file_of, turn_of, obstacle_to_back, obstacle_in};
 ghost use Rattle.call_plans.specs.Plans.{Tells};
 ghost use Rattle.koat_cli.specs.Commands.Lasso.{lasso_answers};
-ghost use Rattle.koat_cli.specs.LassoTexts.{turn_text, rule_line, rule_lines, open_text, verdict_text};
+ghost use Rattle.koat_cli.specs.LassoTexts.{back_text, turn_text, rule_line, rule_lines, cost_line, open_text};
+ghost use Rattle.koat_cli.specs.LassoTexts.{obstacle_text};
 
+use crate::moving_text::{moving_lines, stop_lines};
 use crate::replay_text::push_value;
 use crate::run_refusal::{atom_fails, bad_at};
 use call_plans::{Status, StatusText};
 use itoa::Buffer;
 use its_model::Program;
-use lasso_check::{Lasso, LassoError, Turn, check_lasso, listed_rules_are_endless};
+use lasso_forms::{
+    EndlessTurn, LassoError, LassoFile, Turn, TurnError, check_lasso_file,
+    endless_turns_have_no_time,
+};
 use model::Memory;
 use std::alloc::{AllocError, Global};
 
-/// The rules of a lasso's turn and what it costs, where it leads back; or its first bad step, or where it stays open.
+/// The rules of a lasso's turn and what it costs, where it leads back or is seen to move on, then by which differences; or
+/// what keeps it from that.
 pub(crate) fn lasso_answer(
     alloc: Global,
     program: &Program,
-    lasso: &Lasso,
+    file: &LassoFile,
 ) -> Result<StatusText, Memory>
     requires valid { IsValid (program_of program.now) }
-    requires within { IsWithin (program_of program.now) (lasso_of lasso.now) }
+    requires within { IsWithin (program_of program.now) (lasso_in (file_of file.now)) }
     ensures { IfOk result (λ said.
-        Tells (lasso_answers (program_of program.now) (lasso_of lasso.now)) said.status said.text.items) }
+        Tells (lasso_answers (program_of program.now) (file_of file.now)) said.status said.text.items) }
 {
-    listed_rules_are_endless();
-    match check_lasso(alloc, program, lasso) {
+    endless_turns_have_no_time();
+    match check_lasso_file(alloc, program, file) {
         Ok(turn) => Ok(StatusText {
             status: Status::Done,
             text: turn_lines(alloc, &turn)?,
         }),
         Err(error) => Ok(StatusText {
             status: Status::NotARun,
-            text: lasso_fault(alloc, &error)?,
+            text: obstacle_lines(alloc, &error)?,
         }),
     }
 }
 
-// The text of a turn that leads back.
-fn turn_lines(alloc: Global, turn: &Turn) -> Result<Vec<u8>, Memory>
+// The text of a turn that can be repeated.
+fn turn_lines(alloc: Global, turn: &EndlessTurn) -> Result<Vec<u8>, Memory>
     ensures { IfOk result (λ text. text.items ≡ turn_text (turn_of turn.now)) }
+{
+    match turn {
+        EndlessTurn::Back(turn) => back_lines(alloc, turn),
+        EndlessTurn::On(moving) => moving_lines(alloc, moving),
+    }
+}
+
+// The text of a turn that leads back.
+fn back_lines(alloc: Global, turn: &Turn) -> Result<Vec<u8>, Memory>
+    ensures { IfOk result (λ text. text.items ≡ back_text (back.turn_of turn.now)) }
 {
     let mut text = Vec::from_slice(alloc, b"endless\n")?;
     push_rules(&mut text, &turn.rules)?;
-    text.extend_from_slice(b"turn cost ")?;
-    push_value(&mut text, turn.cost)?;
-    text.extend_from_slice(b"\n")?;
+    push_cost(&mut text, turn.cost)?;
     Ok(text)
 }
 
-// A line for each rule.
-fn push_rules(text: &mut Vec<u8>, rules: &[u32]) -> Result<(), Memory>
+/// A line for each rule.
+pub(crate) fn push_rules(text: &mut Vec<u8>, rules: &[u32]) -> Result<(), Memory>
     ensures { OnOk result (text.new.items ≡ text.old.items ++ rule_lines rules.now) }
 {
     for rule in rules {
@@ -74,10 +89,31 @@ fn push_rule(text: &mut Vec<u8>, rule: u32) -> Result<(), Memory>
     text.extend_from_slice(b"\n")
 }
 
+/// The line of what a turn costs.
+pub(crate) fn push_cost(text: &mut Vec<u8>, cost: u128) -> Result<(), Memory>
+    ensures { OnOk result (text.new.items ≡ text.old.items ++ cost_line cost) }
+{
+    text.extend_from_slice(b"turn cost ")?;
+    push_value(text, cost)?;
+    text.extend_from_slice(b"\n")
+}
+
+// The text of what keeps a turn from being repeated, or from being seen to.
+fn obstacle_lines(alloc: Global, error: &TurnError) -> Result<Vec<u8>, Memory>
+    ensures result_is { IfOk result (λ text. IfSome (obstacle_in error.now) (λ o. text.items ≡ obstacle_text o)) }
+    ensures memory { obstacle_in error.now ≡ None → IsErr result }
+{
+    match error {
+        TurnError::FirstForm(error) => open_lines(alloc, error),
+        TurnError::SecondForm(error) => stop_lines(alloc, error),
+    }
+}
+
 // The text of the first bad step, and of a turn that stays open.
-fn lasso_fault(alloc: Global, error: &LassoError) -> Result<Vec<u8>, Memory>
-    ensures result_is { IfOk result (λ text. IfSome (verdict_in error.now) (λ v. text.items ≡ verdict_text v)) }
-    ensures memory { verdict_in error.now ≡ None → IsErr result }
+fn open_lines(alloc: Global, error: &LassoError) -> Result<Vec<u8>, Memory>
+    ensures result_is { IfOk result (λ text.
+        IfSome (obstacle_to_back error.now) (λ o. text.items ≡ obstacle_text o)) }
+    ensures memory { obstacle_to_back error.now ≡ None → IsErr result }
 {
     match error {
         LassoError::WrongRule { step } => bad_at(alloc, *step, b"wrong rule"),

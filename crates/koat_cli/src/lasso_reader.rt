@@ -1,9 +1,9 @@
-//! Reads the text of a lasso's file for a program, and answers it.
+//! Reads the text of a lasso file of either form for a program, and answers it.
 
 ghost use Rattle.its_model.specs.Valid.{IsValid};
 ghost use Rattle.its_model.specs.Views.{program_of};
-ghost use Rattle.lasso_check.specs.Lassos as plain;
-ghost use Rattle.lasso_check.specs.Views.{lasso_of};
+ghost use Rattle.lasso_forms.specs.Files as plain;
+ghost use Rattle.lasso_forms.specs.Views.{file_of};
 ghost use Rattle.koat_cli.specs.Commands.Lasso.{lasso_answers};
 ghost use Rattle.koat_cli.specs.LassoTexts.{lassos};
 
@@ -11,11 +11,11 @@ use crate::lasso_answer::lasso_answer;
 use crate::run_refusal::run_refusal;
 use call_plans::{FileCommand, Read, Reader, Status, StatusText};
 use its_model::Program;
-use lasso_check::{Lasso, read_lasso};
+use lasso_forms::{LassoFile, read_lasso_file};
 use model::Memory;
 use std::alloc::Global;
 
-/// The reader of lassos of a program, each of at most 67,108,864 bytes.
+/// The reader of lasso files of a program, each of at most 67,108,864 bytes.
 #[derive(Drop)]
 pub(crate) struct Lassos<'a> {
     /// The program.
@@ -23,13 +23,13 @@ pub(crate) struct Lassos<'a> {
 }
 
 impl<'a> Reader for Lassos<'a> {
-    type Thing = Lasso;
+    type Thing = LassoFile;
 
-    ghost Plain = { plain.Lasso };
+    ghost Plain = { plain.LassoFile };
 
     ghost kind = { λ reader. lassos (program_of reader.program.now) };
 
-    ghost plain = { lasso_of };
+    ghost plain = { file_of };
 
     ghost ready = { λ reader. IsValid (program_of reader.program.now) };
 
@@ -47,16 +47,16 @@ impl<'a> Reader for Lassos<'a> {
         b"run refused: too long\n"
     }
 
-    fn read(&self, alloc: Global, bytes: &[u8]) -> Result<Read<Lasso>, Memory> {
-        match read_lasso(alloc, self.program, bytes) {
-            Ok(lasso) => Ok(Read::Thing(lasso)),
+    fn read(&self, alloc: Global, bytes: &[u8]) -> Result<Read<LassoFile>, Memory> {
+        match read_lasso_file(alloc, self.program, bytes) {
+            Ok(file) => Ok(Read::Thing(file)),
             Err(error) => Ok(Read::Refusal(run_refusal(alloc, &error)?)),
         }
     }
 }
 
 impl<'a> FileCommand for Lassos<'a> {
-    fn answer(&self, alloc: Global, thing: &Lasso) -> Result<StatusText, Memory> {
+    fn answer(&self, alloc: Global, thing: &LassoFile) -> Result<StatusText, Memory> {
         lasso_answer(alloc, self.program, thing)
     }
 }

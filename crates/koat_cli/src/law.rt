@@ -10,9 +10,10 @@ ghost use Rattle.koat_cli.specs.WorkedEnds.{FaultsLeaveFirstBytes};
 ghost use Rattle.koat_cli.specs.WorkedAnswers.{FiguresAreWorkedOut, LassoTextsAreWorkedOut, AnswersAreWorkedOut};
 ghost use Rattle.koat_cli.specs.WorkedMissingFiles.{FilesAreReadInOrder};
 ghost use Rattle.koat_cli.specs.WorkedMeanings.{StatusesMean, ReportsAreOfPrograms};
+ghost use Rattle.koat_cli.specs.WorkedExecutions.{WhileAnswersAreWorkedOut, WhileStatusesMean};
 ghost use Rattle.koat_cli.specs.WorkedReplayTexts.{ReplaysAreTexts, TalliesAreBounded};
 
-use lassos::lassos_are_endless;
+use lasso_forms::endless_turns_have_no_time;
 use run_replay::replays_are_decided;
 
 /// The law that a call of `run` has at most one answer where no file is fetched for its words, or the shelf discloses
@@ -54,13 +55,16 @@ pub fn analysis_texts_state_one_report()
     ensures { AnalysisTextsStateOneReport }
 {}
 
-/// The law that no report on a program with a lasso has a time for every rule, where its bounds hold on all runs; and
-/// that where `lasso` ended with `Done`, no such report on the program in its first file has a time for a rule of the
-/// turn that was written. Its contract is the law; it has no code but the law of lassos.
+/// The law that no report on a program with a lasso, whose turn leads back or is seen to move on, has a time for every
+/// rule, where its bounds hold on all runs; that where `lasso` ended with `Done`, no such report on the program in its
+/// first file has a time for a rule of the turn that was written, which is that of the lasso in its second file, nor a
+/// total where that leads back and costs something; and that where `analyse` ended with `Done`, the program in its file
+/// has no lasso.
+/// Its contract is the law; it has no code but the law of lassos.
 pub fn lassos_leave_times_missing()
     ensures { LassosLeaveTimesMissing }
 {
-    lassos_are_endless();
+    endless_turns_have_no_time();
 }
 
 /// Worked values of what a fault of the sink leaves of a text. The function has no code: its contract is these values.
@@ -98,3 +102,13 @@ pub fn worked_meanings_hold()
     ensures statuses { StatusesMean }
     ensures reports { ReportsAreOfPrograms }
 {}
+
+/// Worked values of what is answered to a while program, and of what statuses mean then. The function has no code but
+/// the law of replays and the worked values below it: its contract is these values.
+pub fn worked_executions_hold()
+    ensures answers { WhileAnswersAreWorkedOut }
+    ensures statuses { WhileStatusesMean }
+{
+    replays_are_decided();
+    while_answer::worked_answers_hold();
+}

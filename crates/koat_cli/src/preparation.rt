@@ -3,7 +3,7 @@
 ghost use Rattle.std.specs.Prelude.{◌≡◌, ◌≤◌, ◌<◌, ◌^◌, length, map, string_bytes, IfOk};
 ghost use Rattle.its_model.specs.Valid.{IsValid};
 ghost use Rattle.its_model.specs.Views.{program_of};
-ghost use Rattle.command_line.specs.Requests.{OfProgram, OfPair, OfFile};
+ghost use Rattle.command_line.specs.Requests.{OfProgram, OfPair, OfFile, While};
 ghost use Rattle.call_plans.specs.Calls.{seen_of};
 ghost use Rattle.call_plans.specs.Plans.{OnPlan, Tells};
 ghost use Rattle.koat_cli.specs.Answers.{FetchesNothing, Says};
@@ -18,6 +18,8 @@ use crate::program_reader::Programs;
 use crate::proof_reader::Proofs;
 use crate::proving::proved;
 use crate::run_reader::Runs;
+use crate::while_reader::WhilePrograms;
+use crate::while_task::WhileTask;
 use call_plans::{Got, Status, StatusText, answer_file, status_with_text, take};
 use command_line::{FileTask, NumberTask, PairTask, ProgramTask, Request, asks, usage};
 use its_model::Program;
@@ -48,6 +50,7 @@ pub(crate) fn prepare<F: Shelf>(
         }
         Some(Request::OfNumber { task, n }) => of_number(alloc, task, n),
         Some(Request::OfFile { task, file }) => on_file(alloc, task, &file, shelf),
+        Some(Request::While { pivots, file }) => on_while(alloc, pivots, &file, shelf),
         None => status_with_text(alloc, Status::Usage, usage()),
     }
 }
@@ -136,7 +139,7 @@ fn on_second<F: Shelf>(
     }
 }
 
-// What is answered of a file that isn't a program's.
+// What is answered of a file of another kind than a program's.
 fn on_file<F: Shelf>(
     alloc: Global,
     task: FileTask,
@@ -152,7 +155,39 @@ fn on_file<F: Shelf>(
 {
     match task {
         FileTask::Lp => answer_file(alloc, &LinearPrograms, file, shelf),
+        FileTask::Translate => answer_file(
+            alloc,
+            &WhilePrograms {
+                task: WhileTask::Translate,
+            },
+            file,
+            shelf,
+        ),
     }
+}
+
+// What is answered of the executions of the while program in a file.
+fn on_while<F: Shelf>(
+    alloc: Global,
+    pivots: u32,
+    file: &String,
+    shelf: &mut F,
+) -> Result<StatusText, Memory>
+    ensures keeps_files { F.held shelf.new ≡ F.held shelf.old }
+    ensures keeps_count { F.faults shelf.old ≤ F.faults shelf.new }
+    ensures fault { IfOk result (λ said.
+        F.faults shelf.old < F.faults shelf.new → said.status ≡ Status.ReadFault) }
+    ensures says { IfOk result (λ said. OnPlan (seen_of F.Shelf shelf.old shelf.new) (F.fetches shelf.old)
+        (plan_of (While pivots (string_bytes file.now))) said.status said.text.items) }
+{
+    answer_file(
+        alloc,
+        &WhilePrograms {
+            task: WhileTask::Executions(pivots),
+        },
+        file,
+        shelf,
+    )
 }
 
 // What is answered of a number.

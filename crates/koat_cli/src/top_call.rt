@@ -45,6 +45,10 @@ use std::alloc::Global;
 /// - `lp FILE` fetches the file of a linear program, of at most 4,194,304 bytes, solves it exactly, and writes the
 ///   end: a solution of least cost, or a dual, which shows that there is no solution, and after how many pivots of
 ///   Bland's rule it is reached. No number of pivots is set.
+/// - `while [--pivots N] FILE` fetches the file of a while program, of at most 4,194,304 bytes, and writes the position
+///   of the first byte of each statement, `point K at P`, followed by the report of its translation.
+/// - `translate FILE` fetches the file of a while program, and writes its translation, an integer transition system, as
+///   its canonical text.
 /// - Other words get the usage text.
 ///
 /// Each file is fetched once, the second of two only after the first gave a program. The whole text is written by one
@@ -63,19 +67,22 @@ use std::alloc::Global;
 ///   the turn leads back: each rule that was written occurs without end, so no bound on its use holds, and where the
 ///   turn costs something, no bound on what all steps cost. With `selfrun`, its figures were written, and every rule
 ///   of the generated program has a time. With `generate`, that program's text was written. With `lp`, the end of the
-///   sequence of tableaux was written.
-/// - `Unknown`: with `analyse` and `facts`, the same, where some rule has no time, or some rule with a cost no bound
-///   on it: the report says why, and every bound that it gives holds on every run. With `facts` the reasons are those
-///   of the strengthened program. With `prove`, the proof file of such an analysis was written. With `selfrun`, the
-///   figures of such an analysis of the generated program were written. With `lp`, why the end isn't reached was
+///   sequence of tableaux was written. With `while`, the file spells a while program, and the report of its translation
+///   was written behind the positions: from a value for each input, each execution has at most as many steps as the
+///   total says, and some execution of n steps ends with these values exactly where some run of n steps of the
+///   translation does. With `translate`, the translation was written.
+/// - `Unknown`: with `analyse`, `facts` and `while`, the same, where some rule has no time, or some rule with a cost no
+///   bound on it: the report says why, and every bound that it gives holds on every run. With `facts` the reasons are
+///   those of the strengthened program. With `prove`, the proof file of such an analysis was written. With `selfrun`,
+///   the figures of such an analysis of the generated program were written. With `lp`, why the end isn't reached was
 ///   written.
 /// - `Usage`: the words are no command line.
-/// - `ReadFault`: the command needs a file, and the shelf had a fault in this call, or discloses that it lacks the
-///   file of the program or of the linear program, or, where a program is spelled, the file of the proof, of the run
-///   or of the lasso.
+/// - `ReadFault`: the command needs a file, and the shelf had a fault in this call, or discloses that it lacks the file
+///   of the program, of the linear program or of the while program, or, where a program is spelled, the file of the
+///   proof, of the run or of the lasso.
 /// - `ProgramRefused`: the command needs a file, and the file of the program has too many bytes, or has a fault as the
 ///   text of a program within the limits: the text states the first fault, and its byte. With `lp`, the same of the
-///   file of the linear program.
+///   file of the linear program, and with `while` and `translate` of that of the while program.
 /// - `ProofRefused`: with `check`, the first file spells a program, and the second has too many bytes, or has a fault
 ///   as the text of a proof file of the program within the limits: the text states the first fault, and its byte.
 /// - `No`: with `check`, the files spell a program and a proof file, of which some node of a lemma isn't accepted, or

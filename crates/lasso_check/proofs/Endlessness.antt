@@ -44,7 +44,7 @@ counted_used t (s ∷ earlier) low h = go (eqb_tells s.rule t) (counted_used t e
     go (inr (test, other)) before = inr (before (omega (arith, h, one_if_same-other s.rule t other)))
 
 -- what holds of each number from 1 on that is used holds of all that a list has of them
-all_used : (steps : List Step) (P : ℕ → Type 0) → ((t : ℕ) → IsUsed t steps → P t) → (a n : ℕ) → 1 ≤ a
+pub all_used : (steps : List Step) (P : ℕ → Type 0) → ((t : ℕ) → IsUsed t steps → P t) → (a n : ℕ) → 1 ≤ a
     → All P (filter (is_used_in steps) (range_with_len a n))
 all_used steps P each a zero low = All-nil P
 all_used steps P each a (suc n) low = go (is_used_in steps a) refl (all_used steps P each (a + 1) n (omega arith))

@@ -4,8 +4,8 @@ pub mod LassoText
 mod LassosApart
 mod WorkedTexts
 pub mod Verdicts
-mod WorkedChecks
-mod Walks
-mod Turns
+pub mod WorkedChecks
+pub mod Walks
+pub mod Turns
 mod Differences
 pub mod Endlessness

@@ -19,8 +19,8 @@ use Rattle.run_replay.proofs.ReplayStands.{first_more, bad_first}
 use Rattle.lasso_check.specs.declared.file.Lasso as file
 use Rattle.lasso_check.specs.declared.checking_error.LassoError.{LassoError}
 use Rattle.lasso_check.specs.Lassos.{Lasso, stem_back, both_back, run_along}
-use Rattle.lasso_check.specs.Checks.{Verdict, Bad}
-use Rattle.lasso_check.specs.CheckAnswers.{HasVerdict, verdict_in, Refuses, HasTaken}
+use Rattle.lasso_check.specs.Checks.{Verdict, Round, Bad, OpenAt}
+use Rattle.lasso_check.specs.CheckAnswers.{HasVerdict, IsBadStep, verdict_in, Refuses, RefusesStep, HasTaken}
 use Rattle.lasso_check.specs.Views.{lasso_of}
 
 -- a step of the stem has the same position in both parts
@@ -83,10 +83,20 @@ taken_cost p l n charged s w h e =
 pub taken_bad : (p : Program) (l : Lasso) (n : ℕ) (s : Step) (w : Walk) (f : StepFault) (x : LassoError)
     → n < length (run_along l).steps → s ≡ get_or (run_along l).steps n s → HasTaken p l n w
     → replay_fault p (config_of w.here) s ≡ Some f
-    → verdict_in x ≡ Some (Bad (record { number = n + 1; fault = f })) → Refuses p l x
+    → verdict_in x ≡ Some (Bad (record { number = n + 1; fault = f })) → RefusesStep p l x
 taken_bad p l n s w f x low e h fault says =
-    subst (λ (o : Option Verdict). IfSome o (HasVerdict p l)) (sym says)
+    subst (λ (o : Option Verdict). IfSome o (IsBadStep p l)) (sym says)
     (bad_first p (run_along l) n s (config_of w.here) f low e h.runs fault)
+
+-- an error that says the first bad step is right
+pub step_refused : (p : Program) (l : Lasso) (e : LassoError) → RefusesStep p l e → Refuses p l e
+step_refused p l e = go (verdict_in e)
+  where
+    go : (o : Option Verdict) → IfSome o (IsBadStep p l) → IfSome o (HasVerdict p l)
+    go None h = tt
+    go (Some (Bad bad)) h = h
+    go (Some (Round t)) h = absurd h
+    go (Some (OpenAt place)) h = absurd h
 
 -- the first steps, as many as the stem has, are those of the stem
 take-append : (xs ys : List Step) → take (length xs) (xs ++ ys) ≡ xs

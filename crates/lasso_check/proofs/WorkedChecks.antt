@@ -59,7 +59,7 @@ module _ (law : ReplayStepsHaveNoFault) (decided : ReplaysAreDecided) where
       next_runs law p (z ∷ []) earlier c (by_rule t) (after r c) h (law.step p c (by_rule t) r e left none) none
 
   -- a step behind a run in range that has a fault is the first bad one, whatever comes behind it
-  bad_behind : (p : Program) (z : ℤ) (later : List Step) (t : ℕ) (earlier : List Step) (c : Config) (f : StepFault)
+  pub bad_behind : (p : Program) (z : ℤ) (later : List Step) (t : ℕ) (earlier : List Step) (c : Config) (f : StepFault)
       → RunsInRange p (z ∷ []) earlier c → replay_fault p c (by_rule t) ≡ Some f
       → IsFirstBadStep p (z ∷ []) (later ++ by_rule t ∷ earlier) (record { number = suc (length earlier); fault = f })
   bad_behind p z later t earlier c f h e = record {
@@ -74,13 +74,13 @@ module _ (law : ReplayStepsHaveNoFault) (decided : ReplaysAreDecided) where
   }
 
   -- loops: the run by rule 1, and by rule 2 behind it
-  entered : (u : Term) (z : ℤ) → replay_fault (looping_by u) (one_value 0 z) (by_rule 1) ≡ None
+  pub entered : (u : Term) (z : ℤ) → replay_fault (looping_by u) (one_value 0 z) (by_rule 1) ≡ None
       → RunsInRange (looping_by u) (z ∷ []) (by_rule 1 ∷ []) (one_value 1 z)
   entered u z none =
       more (looping_by u) z [] 1 (one_place_rule 0 1 (Variable 0) []) (one_value 0 z)
       (record { run = record { places = refl; at = refl; values = refl }; fit = tt }) refl refl none
 
-  looped : (u : Term) (z : ℤ) → replay_fault (looping_by u) (one_value 0 z) (by_rule 1) ≡ None
+  pub looped : (u : Term) (z : ℤ) → replay_fault (looping_by u) (one_value 0 z) (by_rule 1) ≡ None
       → replay_fault (looping_by u) (one_value 1 z) (by_rule 2) ≡ None
       → RunsInRange (looping_by u) (z ∷ []) (by_rule 2 ∷ by_rule 1 ∷ []) (one_value 1 (value u (z ∷ [])))
   looped u z first second =
@@ -90,11 +90,11 @@ module _ (law : ReplayStepsHaveNoFault) (decided : ReplaysAreDecided) where
   begun : (z : ℤ) → RunsInRange circling (z ∷ []) [] (one_value 0 z)
   begun z = record { run = record { places = refl; at = refl; values = refl }; fit = tt }
 
-  by_entering : (z : ℤ) → replay_fault circling (one_value 0 z) (by_rule 1) ≡ None
+  pub by_entering : (z : ℤ) → replay_fault circling (one_value 0 z) (by_rule 1) ≡ None
       → RunsInRange circling (z ∷ []) (by_rule 1 ∷ []) (one_value 1 z)
   by_entering z none = more circling z [] 1 entering (one_value 0 z) (begun z) refl refl none
 
-  by_leaving : (z : ℤ) (earlier : List Step) → replay_fault circling (one_value 1 z) (by_rule 2) ≡ None
+  pub by_leaving : (z : ℤ) (earlier : List Step) → replay_fault circling (one_value 1 z) (by_rule 2) ≡ None
       → RunsInRange circling (z ∷ []) earlier (one_value 1 z)
       → RunsInRange circling (z ∷ []) (by_rule 2 ∷ earlier) (one_value 2 z)
   by_leaving z earlier none h = more circling z earlier 2 leaving (one_value 1 z) h refl refl none

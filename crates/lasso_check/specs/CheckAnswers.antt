@@ -49,6 +49,16 @@ verdict_in Memory = None
 abbrev pub Refuses : Program → Lasso → LassoError → Type 0
 Refuses p l e = IfSome (verdict_in e) (HasVerdict p l)
 
+-- it is right that this is the first bad step, and nothing else is said
+abbrev pub IsBadStep : Program → Lasso → Verdict → Type 0
+IsBadStep p l (Bad bad) = IsFirstBadStep p l.start (both_back l) bad
+IsBadStep p l (Round t) = ⊥
+IsBadStep p l (OpenAt place) = ⊥
+
+-- what an error says, if it says something, is the first bad step
+abbrev pub RefusesStep : Program → Lasso → LassoError → Type 0
+RefusesStep p l e = IfSome (verdict_in e) (IsBadStep p l)
+
 -- what a result says is right
 abbrev pub Finds : Program → Lasso → Result code.Turn LassoError → Type 0
 Finds p l result = MatchResult result (λ t. IsTurn p l (turn_of t)) (Refuses p l)

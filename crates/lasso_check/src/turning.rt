@@ -7,7 +7,7 @@ ghost use Rattle.its_model.specs.Valid.{IsValid};
 ghost use Rattle.its_model.specs.Views.{program_of, step_of};
 ghost use Rattle.run_replay.specs.ReplayAnswers.{first_steps};
 ghost use Rattle.lasso_check.specs.Lassos.{run_along};
-ghost use Rattle.lasso_check.specs.CheckAnswers.{HasTaken, HasTurned, Refuses};
+ghost use Rattle.lasso_check.specs.CheckAnswers.{HasTaken, HasTurned, RefusesStep};
 ghost use Rattle.lasso_check.specs.Views.{lasso_of};
 
 use crate::checking_error::{LassoError, error_at};
@@ -40,7 +40,7 @@ fn step_along(
         ≡ slice_index_or (run_along (lasso_of lasso.now)).steps i (step_of step.now) }
     requires taken { HasTaken (program_of p.now) (lasso_of lasso.now) i walk.old }
     ensures taken { MatchResult result (λ _. HasTaken (program_of p.now) (lasso_of lasso.now) (i + 1) walk.new)
-        (Refuses (program_of p.now) (lasso_of lasso.now)) }
+        (RefusesStep (program_of p.now) (lasso_of lasso.now)) }
     ensures cost { IfOk result (λ n. n ≡ step_cost (program_of p.now) lasso.now.start.items (step_of step.now)
         (first_steps (run_along (lasso_of lasso.now)) i)) }
     ensures rule { IfOk result (λ _. (1 ≤ step.now.rule) × (step.now.rule ≤ length p.now.rules.items)) }
@@ -58,12 +58,12 @@ fn step_along(
 /// # Errors
 ///
 /// The first bad step, or that memory ran out.
-pub(crate) fn walk_stem(alloc: Global, p: &Program, lasso: &Lasso) -> Result<Walk, LassoError>
+pub fn walk_stem(alloc: Global, p: &Program, lasso: &Lasso) -> Result<Walk, LassoError>
     requires valid { IsValid (program_of p.now) }
     requires start { length lasso.now.start.items ≡ arity_of (program_of p.now) (program_of p.now).start }
     ensures { MatchResult result
         (HasTaken (program_of p.now) (lasso_of lasso.now) (length lasso.now.stem.items))
-        (Refuses (program_of p.now) (lasso_of lasso.now)) }
+        (RefusesStep (program_of p.now) (lasso_of lasso.now)) }
 {
     let mut walk = Walk::new(alloc, p, &lasso.start)?;
     for i in 0..lasso.stem.len() {
@@ -82,7 +82,7 @@ impl Turning {
         requires step { i < length lasso.now.turn.items }
         requires turned { HasTurned (program_of p.now) (lasso_of lasso.now) i self.old }
         ensures { MatchResult result (λ _. HasTurned (program_of p.now) (lasso_of lasso.now) (i + 1) self.new)
-            (Refuses (program_of p.now) (lasso_of lasso.now)) }
+            (RefusesStep (program_of p.now) (lasso_of lasso.now)) }
     {
         let step = &lasso.turn[i];
         let position = lasso.stem.len() as u64 + i as u64;
@@ -102,7 +102,7 @@ impl Turning {
 /// # Errors
 ///
 /// The first bad step, or that memory ran out.
-pub(crate) fn walk_turn(
+pub fn walk_turn(
     alloc: Global,
     p: &Program,
     lasso: &Lasso,
@@ -112,7 +112,7 @@ pub(crate) fn walk_turn(
     requires taken { HasTaken (program_of p.now) (lasso_of lasso.now) (length lasso.now.stem.items) walk }
     ensures { MatchResult result
         (HasTurned (program_of p.now) (lasso_of lasso.now) (length lasso.now.turn.items))
-        (Refuses (program_of p.now) (lasso_of lasso.now)) }
+        (RefusesStep (program_of p.now) (lasso_of lasso.now)) }
 {
     let used = vec![in alloc; false; p.rules.len()]?;
     let mut turning = Turning {

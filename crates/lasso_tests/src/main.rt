@@ -2,6 +2,7 @@
 //! remark that begins with `#`, is written as it is.
 #![tactic(auto)]
 
+mod moving;
 mod turns;
 
 use std::io;

@@ -1,14 +1,16 @@
 //! Lassos: a line is rules, and behind a `;` a lasso file in which `|` stands for a line feed.
 
+use crate::moving::answer_moving;
 use itoa::Buffer;
 use its_reader::read;
 use lasso_check::{LassoError, LassoTextError, Turn, check_lasso, read_lasso};
 use model::Memory;
+use moving_check::is_moving_form;
 use std::alloc::{AllocError, Global};
 
 /// What is found of the lasso of a program with these rules, which starts at `l0`: the rules of its turn and what the turn
-/// costs; or its first bad step, or the place at which it stays open. Where the program's text is refused there is no
-/// program, and where the lasso's is, the refusal.
+/// costs, behind the differences where its text is of the second form; or its first bad step, or why the turn isn't one of
+/// a lasso. Where the program's text is refused there is no program, and where the lasso's is, the refusal.
 pub(crate) fn found(alloc: Global, line: &str) -> Result<String, Memory> {
     match line.split_once(';') {
         Some((rules, lasso)) => {
@@ -38,6 +40,7 @@ fn lasso_text(alloc: Global, text: &str) -> Result<Vec<u8>, Memory> {
 
 fn answer(alloc: Global, program: &[u8], lasso: &[u8]) -> Result<String, Memory> {
     match read(alloc, program) {
+        Ok(program) if is_moving_form(lasso) => answer_moving(alloc, &program, lasso),
         Ok(program) => match read_lasso(alloc, &program, lasso) {
             Ok(file) => told(alloc, &check_lasso(alloc, &program, &file)),
             Err(error) => refused(alloc, &error),
@@ -46,7 +49,8 @@ fn answer(alloc: Global, program: &[u8], lasso: &[u8]) -> Result<String, Memory>
     }
 }
 
-fn refused(alloc: Global, error: &LassoTextError) -> Result<String, Memory> {
+/// A refusal.
+pub(crate) fn refused(alloc: Global, error: &LassoTextError) -> Result<String, Memory> {
     match error {
         LassoTextError::Syntax { at } => format!(in alloc; "Syntax at {at}"),
         LassoTextError::NumberTooLarge { at } => format!(in alloc; "NumberTooLarge at {at}"),
@@ -72,12 +76,24 @@ fn told(alloc: Global, checked: &Result<Turn, LassoError>) -> Result<String, Mem
 
 // The rules of a turn, and behind a `:` what it costs.
 fn turn_told(alloc: Global, turn: &Turn) -> Result<String, Memory> {
-    let mut out = Vec::from_slice(alloc, b"rules")?;
-    for rule in &turn.rules {
+    let mut out = Vec::new(alloc);
+    push_rules(&mut out, &turn.rules)?;
+    push_cost(&mut out, turn.cost)?;
+    String::from_str(alloc, str::from_utf8(&out).unwrap_or("no text"))
+}
+
+/// Writes rules.
+pub(crate) fn push_rules(out: &mut Vec<u8>, rules: &[u32]) -> Result<(), Memory> {
+    out.extend_from_slice(b"rules")?;
+    for rule in rules {
         out.push(b' ')?;
         out.extend_from_slice(Buffer::new().format(*rule).as_bytes())?;
     }
+    Ok(())
+}
+
+/// Writes a `:` and a cost.
+pub(crate) fn push_cost(out: &mut Vec<u8>, cost: u128) -> Result<(), Memory> {
     out.extend_from_slice(b" : ")?;
-    out.extend_from_slice(Buffer::new().format(turn.cost).as_bytes())?;
-    String::from_str(alloc, str::from_utf8(&out).unwrap_or("no text"))
+    out.extend_from_slice(Buffer::new().format(cost).as_bytes())
 }

@@ -34,7 +34,7 @@ row_a = plane (pos 1) (pos 0) (negsuc 0)
 abbrev row_b : Form
 row_b = plane (negsuc 0) (pos 1) (pos 0)
 
--- points and rays are told apart from what is none
+-- points and rays are distinguished from other lists
 pub points : PointsAreWorkedOut
 points = record {
   corner = record { denominator = omega (arith, ints); meets = meets_two row_a row_b (at_two (pos 1) (pos 1)) (pos 1) (omega (arith, ints)) (omega (arith, ints)) };

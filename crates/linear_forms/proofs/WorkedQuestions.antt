@@ -9,7 +9,7 @@ use Rattle.linear_forms.specs.QuestionValues.{falling_set, shut_set, sliding_set
 use Rattle.linear_forms.specs.QuestionValues.{FallingIsRanked, ShutIsNotRanked, SlidingIsNotRanked, FallingStaysBelow}
 use Rattle.linear_forms.specs.QuestionValues.{FallingStaysAbove, SlidingIsAffine, FreeIsUnbounded, QuestionValues}
 
--- what holds at 0 and at the numbers after it
+-- what holds at 0 and at each number i + 1 up to n holds at each number below n + 1
 below-suc : (P : ℕ → Type 0) (n : ℕ) → P 0 → ((i : ℕ) → i < n → P (suc i)) → (i : ℕ) → i < suc n → P i
 below-suc P n a h zero l = a
 below-suc P n a h (suc i) l = h i (omega arith)
@@ -23,7 +23,7 @@ abbrev naturals : List ℕ → List ℤ
 naturals [] = []
 naturals (x ∷ xs) = pos x ∷ naturals xs
 
--- no number of a list of numbers at least 0 is negative
+-- a list of natural numbers has no negative entry
 at-natural : (xs : List ℕ) (j : ℕ) → pos 0 ≤ℤ at (naturals xs) j
 at-natural [] j = omega (arith, ints)
 at-natural (x ∷ xs) zero = omega (arith, ints)
@@ -43,7 +43,7 @@ impossible = record {
   unsolved = λ s. let e = s.equations 0 (omega arith) in omega (arith, ints, e);
 }
 
--- the sliding rule has one
+-- the sliding rule has a point
 has_point : SlidingHasPoint
 unfolding program_of_question sliding_rule
 has_point = record {
@@ -72,7 +72,7 @@ ranked = record {
   unsolved = λ s. let e = s.equations 4 (omega arith) in omega (arith, ints, e);
 }
 
--- with its place shut the falling rule isn't
+-- with its place shut, the falling rule is not ranked
 shut : ShutIsNotRanked
 unfolding program_of_question falling_rule shut_set
 shut = record {
@@ -86,7 +86,7 @@ shut = record {
   not_refuted = λ d. let e = d.columns 0 (omega arith) in omega (arith, ints, e);
 }
 
--- the sliding rule isn't
+-- the sliding rule is not ranked
 not_ranked : SlidingIsNotRanked
 unfolding program_of_question sliding_rule sliding_set
 not_ranked = record {
@@ -103,7 +103,7 @@ not_ranked = record {
   not_refuted = λ d. let e = d.columns 1 (omega arith) in omega (arith, ints, e);
 }
 
--- the falling rule's new value on both sides
+-- the falling rule's new value has side bounds on both sides
 below : FallingStaysBelow
 unfolding program_of_question falling_rule
 below = record {
@@ -135,7 +135,7 @@ above = record {
   };
 }
 
--- the sliding rule's new value has a bound
+-- the sliding rule's new value has an affine bound
 affine : SlidingIsAffine
 unfolding program_of_question sliding_rule
 affine = record {
@@ -150,7 +150,7 @@ affine = record {
   };
 }
 
--- the free rule's has none
+-- the free rule's new value has no bound
 unbounded : FreeIsUnbounded
 unfolding program_of_question free_rule
 unbounded = record {
@@ -163,7 +163,7 @@ unbounded = record {
   not_refuted = λ d. let e = d.columns 0 (omega arith) in omega (arith, ints, e);
 }
 
--- all of them
+-- all worked values of questions
 pub question-values : QuestionValues
 question-values = record {
   impossible = impossible;

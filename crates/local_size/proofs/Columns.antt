@@ -15,7 +15,7 @@ use Rattle.simplex_core.proofs.linear_forms.ListLaws.{after-is, length-listed}
 use Rattle.simplex_core.proofs.linear_forms.SolutionLaws.{All-listed}
 use Rattle.cert_types.specs.rule_forms.Kinds.{Kind, Number, Argument, Affine, Sign, Plus, Minus, unit_of}
 use Rattle.cert_types.specs.rule_forms.Questions.{form_of}
-use Rattle.simplex_core.specs.Trips.{IsScaledSolution}
+use Rattle.simplex_core.specs.HitsLimit.{IsScaledSolution}
 use Rattle.cert_types.specs.cert_rules.Limits.{IsInLimit, IsFormInLimit, AreInLimit}
 use Rattle.rule_questions.proofs.Lists.{multipliers-listed}
 pub use Rattle.simplex_core.proofs.linear_forms.SolutionLaws.{length-multipliers as multipliers-long}

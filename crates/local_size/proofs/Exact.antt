@@ -22,8 +22,8 @@ use Rattle.rule_questions.specs.EmptyAnswers.{IsEmptyAnswer}
 use Rattle.rule_questions.specs.OneEmptyAnswer.{IsSameEmptyAnswer}
 use Rattle.local_size.specs.Sides.{SideBoundFound}
 use Rattle.local_size.specs.Places.{local_forms, value_on, is_polynomial_at, kinds_of}
-use Rattle.local_size.specs.LocalAnswers.{Local, HasBound, IsUnboundedOn, HasTripped, SideComesTo, IsLocal}
-use Rattle.local_size.specs.LocalLaws.{IsResultVariableOf, IsUnboundedSide, PlaceTrips, SaysUnbounded, SaysTripped, LocalAnswersAreExact}
+use Rattle.local_size.specs.LocalAnswers.{Local, HasBound, IsUnboundedOn, HasHitLimit, SideComesTo, IsLocal}
+use Rattle.local_size.specs.LocalLaws.{IsResultVariableOf, IsUnboundedSide, PlaceHitsLimit, SaysUnbounded, SaysHitLimit, LocalAnswersAreExact}
 use Rattle.local_size.proofs.Accepted.{at-least-one, found-fits}
 use Rattle.local_size.proofs.FirstSideBounds.{fails, side_bound-of_kind, side_bound-above}
 use Rattle.local_size.proofs.UnboundedAnswers.{ray-of_side, has-point}
@@ -54,11 +54,11 @@ same-again (empties.OutOfLimits t) = (refl, refl)
 
 -- an unbounded answer isn't a limit hit
 unbounded-no_limit_hit : (side : Side) (ray : List ℤ) (kept : ScaledPoint) (t : LimitHit)
-    → IsUnboundedOn side ray kept ≡ HasTripped t → ⊥
+    → IsUnboundedOn side ray kept ≡ HasHitLimit t → ⊥
 unbounded-no_limit_hit side ray kept t e = cc
 
 -- side bounds aren't a limit hit
-bound-no_limit_hit : (l : LocalBound) (t : LimitHit) → HasBound l ≡ HasTripped t → ⊥
+bound-no_limit_hit : (l : LocalBound) (t : LimitHit) → HasBound l ≡ HasHitLimit t → ⊥
 bound-no_limit_hit l t e = cc
 
 module _ (p : Program) (r : Rule) (result_variable : ResultVariable) (pivots : ℕ) (valid : IsValid p) (is : IsResultVariableOf p result_variable r) where
@@ -89,7 +89,7 @@ module _ (p : Program) (r : Rule) (result_variable : ResultVariable) (pivots : �
 
   -- the answer is unbounded exactly if a side is unbounded and no question hits a limit
   unbounded-if : (empty : GuardFeasibility) (x : Local) → IsEmptyAnswer m result_variable.rule pivots empty → IsLocal m result_variable pivots empty x
-      → SaysUnbounded x ↔ (((side : Side) × IsUnboundedSide m result_variable.place side) × (¬ PlaceTrips m result_variable pivots empty))
+      → SaysUnbounded x ↔ (((side : Side) × IsUnboundedSide m result_variable.place side) × (¬ PlaceHitsLimit m result_variable pivots empty))
   unbounded-if empty (HasBound l) known h = (λ s. absurd s, λ g. bound-not_unbounded empty l g.0.0 h g.0.1)
   unbounded-if empty (IsUnboundedOn side ray kept) known h = (
     λ s. (
@@ -103,32 +103,32 @@ module _ (p : Program) (r : Rule) (result_variable : ResultVariable) (pivots : �
         },
       ),
       λ t. unbounded-no_limit_hit side ray kept t.limit_hit
-          (locals-once m result_variable pivots empty empty (IsUnboundedOn side ray kept) (HasTripped t.limit_hit) (same-again empty) h
-          t.tripped),
+          (locals-once m result_variable pivots empty empty (IsUnboundedOn side ray kept) (HasHitLimit t.limit_hit) (same-again empty) h
+          t.hit_limit),
     ),
     λ g. tt,
   )
-  unbounded-if empty (HasTripped t) known h = (λ s. absurd s, λ g. g.1 (record { limit_hit = t; tripped = h }))
+  unbounded-if empty (HasHitLimit t) known h = (λ s. absurd s, λ g. g.1 (record { limit_hit = t; hit_limit = h }))
 
 -- the answer is a limit hit exactly if a question hits a limit
-tripped-if : (m : Prepared) (result_variable : ResultVariable) (pivots : ℕ) (empty : GuardFeasibility) (x : Local) → IsLocal m result_variable pivots empty x
-    → SaysTripped x ↔ PlaceTrips m result_variable pivots empty
-tripped-if m result_variable pivots empty (HasBound l) h = (
+hit_limit-if : (m : Prepared) (result_variable : ResultVariable) (pivots : ℕ) (empty : GuardFeasibility) (x : Local) → IsLocal m result_variable pivots empty x
+    → SaysHitLimit x ↔ PlaceHitsLimit m result_variable pivots empty
+hit_limit-if m result_variable pivots empty (HasBound l) h = (
   λ s. absurd s,
   λ t. bound-no_limit_hit l t.limit_hit
-      (locals-once m result_variable pivots empty empty (HasBound l) (HasTripped t.limit_hit) (same-again empty) h t.tripped),
+      (locals-once m result_variable pivots empty empty (HasBound l) (HasHitLimit t.limit_hit) (same-again empty) h t.hit_limit),
 )
-tripped-if m result_variable pivots empty (IsUnboundedOn side ray kept) h = (
+hit_limit-if m result_variable pivots empty (IsUnboundedOn side ray kept) h = (
   λ s. absurd s,
   λ t. unbounded-no_limit_hit side ray kept t.limit_hit
-      (locals-once m result_variable pivots empty empty (IsUnboundedOn side ray kept) (HasTripped t.limit_hit) (same-again empty) h
-      t.tripped),
+      (locals-once m result_variable pivots empty empty (IsUnboundedOn side ray kept) (HasHitLimit t.limit_hit) (same-again empty) h
+      t.hit_limit),
 )
-tripped-if m result_variable pivots empty (HasTripped t) h = (λ s. record { limit_hit = t; tripped = h }, λ u. tt)
+hit_limit-if m result_variable pivots empty (HasHitLimit t) h = (λ s. record { limit_hit = t; hit_limit = h }, λ u. tt)
 
 -- each answer comes exactly in its case
 pub answers-exact : LocalAnswersAreExact
 answers-exact = record {
   unbounded = λ p r result_variable pivots empty x valid is known h. unbounded-if p r result_variable pivots valid is empty x known h;
-  tripped = tripped-if;
+  hit_limit = hit_limit-if;
 }

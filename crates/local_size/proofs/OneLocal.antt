@@ -17,7 +17,7 @@ use Rattle.rule_questions.specs.OneEmptyAnswer.{IsSameEmptyAnswer}
 use Rattle.rule_questions.specs.RuleAnswers.{point_in, limit_hit_in}
 use Rattle.local_size.specs.Sides.{SideOutcome, SideBoundFound, NoneFound, LimitPassed}
 use Rattle.local_size.specs.Places.{local_forms, value_on, kinds_of}
-use Rattle.local_size.specs.LocalAnswers.{Local, HasBound, IsUnboundedOn, HasTripped, SideComesTo, HasSideBounds}
+use Rattle.local_size.specs.LocalAnswers.{Local, HasBound, IsUnboundedOn, HasHitLimit, SideComesTo, HasSideBounds}
 use Rattle.local_size.specs.LocalAnswers.{PassesNone, LacksForm, IsLocal}
 use Rattle.local_size.specs.LocalLaws.{LocalAnswersAreOne}
 use Rattle.local_size.proofs.OneSideOutcome.{search-once}
@@ -86,16 +86,16 @@ points-same (empties.OutOfLimits t) (empties.Point z) s = absurd s
 points-same (empties.OutOfLimits t) (empties.OutOfLimits u) s = refl
 
 -- equal answers have the same limit hit
-trips-same : (d e : GuardFeasibility) → IsSameEmptyAnswer d e → limit_hit_in (Some d) ≡ limit_hit_in (Some e)
-trips-same (empties.Empty n) (empties.Empty k) s = refl
-trips-same (empties.Empty n) (empties.Point z) s = absurd s
-trips-same (empties.Empty n) (empties.OutOfLimits t) s = absurd s
-trips-same (empties.Point z) (empties.Empty n) s = absurd s
-trips-same (empties.Point z) (empties.Point w) s = refl
-trips-same (empties.Point z) (empties.OutOfLimits t) s = absurd s
-trips-same (empties.OutOfLimits t) (empties.Empty n) s = absurd s
-trips-same (empties.OutOfLimits t) (empties.Point z) s = absurd s
-trips-same (empties.OutOfLimits t) (empties.OutOfLimits u) s = ap (λ (v : LimitHit). Some v) (limit_hit-same t u s.0 s.1)
+hits_limit-same : (d e : GuardFeasibility) → IsSameEmptyAnswer d e → limit_hit_in (Some d) ≡ limit_hit_in (Some e)
+hits_limit-same (empties.Empty n) (empties.Empty k) s = refl
+hits_limit-same (empties.Empty n) (empties.Point z) s = absurd s
+hits_limit-same (empties.Empty n) (empties.OutOfLimits t) s = absurd s
+hits_limit-same (empties.Point z) (empties.Empty n) s = absurd s
+hits_limit-same (empties.Point z) (empties.Point w) s = refl
+hits_limit-same (empties.Point z) (empties.OutOfLimits t) s = absurd s
+hits_limit-same (empties.OutOfLimits t) (empties.Empty n) s = absurd s
+hits_limit-same (empties.OutOfLimits t) (empties.Point z) s = absurd s
+hits_limit-same (empties.OutOfLimits t) (empties.OutOfLimits u) s = ap (λ (v : LimitHit). Some v) (limit_hit-same t u s.0 s.1)
 
 -- an answer with a point has no limit hit
 not-both : (d : GuardFeasibility) (z : ScaledPoint) (t : LimitHit) → point_in (Some d) ≡ Some z → limit_hit_in (Some d) ≡ Some t → ⊥
@@ -187,31 +187,31 @@ module _ (m : Prepared) (result_variable : ResultVariable) (pivots : ℕ) where
   bound-not_unbounded d e l side ray kept (inr g) h = side_bounds-suffice m result_variable.place pivots side ray l g h.lacks
 
   -- side bounds aren't a limit hit
-  bound-not_tripped : (d e : GuardFeasibility) (l : LocalBound) (t : LimitHit) → IsLocal m result_variable pivots d (HasBound l)
-      → IsLocal m result_variable pivots e (HasTripped t) → ⊥
-  bound-not_tripped d e l t (inl g) (inl h) = apart _ g.0 h.asked
-  bound-not_tripped d e l t (inl g) (inr h) = apart _ g.0 h.asked
-  bound-not_tripped d e l t (inr g) (inl h) =
+  bound-not_hit_limit : (d e : GuardFeasibility) (l : LocalBound) (t : LimitHit) → IsLocal m result_variable pivots d (HasBound l)
+      → IsLocal m result_variable pivots e (HasHitLimit t) → ⊥
+  bound-not_hit_limit d e l t (inl g) (inl h) = apart _ g.0 h.asked
+  bound-not_hit_limit d e l t (inl g) (inr h) = apart _ g.0 h.asked
+  bound-not_hit_limit d e l t (inr g) (inl h) =
       first-apart m result_variable.place pivots (cause_of t.cause) h.first (side_bounds-pass m result_variable.place pivots l g)
-  bound-not_tripped d e l t (inr g) (inr h) =
+  bound-not_hit_limit d e l t (inr g) (inr h) =
       side_bounds-suffice m result_variable.place pivots h.lacks.0 h.lacks.1.0 l g h.lacks.1.1
 
   -- an unbounded answer isn't a limit hit
-  unbounded-not_tripped : (d e : GuardFeasibility) (side : Side) (ray : List ℤ) (kept : ScaledPoint) (t : LimitHit)
+  unbounded-not_hit_limit : (d e : GuardFeasibility) (side : Side) (ray : List ℤ) (kept : ScaledPoint) (t : LimitHit)
       → IsSameEmptyAnswer d e → IsLocal m result_variable pivots d (IsUnboundedOn side ray kept)
-      → IsLocal m result_variable pivots e (HasTripped t) → ⊥
-  unbounded-not_tripped d e side ray kept t same g (inl h) =
+      → IsLocal m result_variable pivots e (HasHitLimit t) → ⊥
+  unbounded-not_hit_limit d e side ray kept t same g (inl h) =
       first-apart m result_variable.place pivots (cause_of t.cause) h.first (lacks-pass m result_variable.place pivots side ray g.lacks)
-  unbounded-not_tripped d e side ray kept t same g (inr h) =
+  unbounded-not_hit_limit d e side ray kept t same g (inr h) =
       not-both e kept t (sym (points-same d e same) ∙ g.point) h.limit_hit
 
   -- a limit hit isn't an unbounded answer
-  tripped-not_unbounded : (d e : GuardFeasibility) (t : LimitHit) (side : Side) (ray : List ℤ) (kept : ScaledPoint)
-      → IsSameEmptyAnswer d e → IsLocal m result_variable pivots d (HasTripped t)
+  hit_limit-not_unbounded : (d e : GuardFeasibility) (t : LimitHit) (side : Side) (ray : List ℤ) (kept : ScaledPoint)
+      → IsSameEmptyAnswer d e → IsLocal m result_variable pivots d (HasHitLimit t)
       → IsLocal m result_variable pivots e (IsUnboundedOn side ray kept) → ⊥
-  tripped-not_unbounded d e t side ray kept same (inl g) h =
+  hit_limit-not_unbounded d e t side ray kept same (inl g) h =
       first-apart m result_variable.place pivots (cause_of t.cause) g.first (lacks-pass m result_variable.place pivots side ray h.lacks)
-  tripped-not_unbounded d e t side ray kept same (inr g) h =
+  hit_limit-not_unbounded d e t side ray kept same (inr g) h =
       not-both d kept t (points-same d e same ∙ h.point) g.limit_hit
 
   -- an unbounded answer by its parts
@@ -231,20 +231,20 @@ module _ (m : Prepared) (result_variable : ResultVariable) (pivots : ℕ) where
       (some-point kept point (sym g.point ∙ (points-same d e same ∙ h.point))))
 
   -- a limit hit is unique
-  trips-once : (d e : GuardFeasibility) (t u : LimitHit) → IsSameEmptyAnswer d e → IsLocal m result_variable pivots d (HasTripped t)
-      → IsLocal m result_variable pivots e (HasTripped u) → HasTripped t ≡ HasTripped u
-  trips-once d e t u same (inl g) (inl h) =
-      ap HasTripped
+  hits_limit-once : (d e : GuardFeasibility) (t u : LimitHit) → IsSameEmptyAnswer d e → IsLocal m result_variable pivots d (HasHitLimit t)
+      → IsLocal m result_variable pivots e (HasHitLimit u) → HasHitLimit t ≡ HasHitLimit u
+  hits_limit-once d e t u same (inl g) (inl h) =
+      ap HasHitLimit
       (limit_hit-same t u (g.question ∙ sym h.question)
       (first-once m result_variable.place pivots (cause_of t.cause) (cause_of u.cause) g.first h.first))
-  trips-once d e t u same (inl g) (inr h) =
+  hits_limit-once d e t u same (inl g) (inr h) =
       absurd (first-apart m result_variable.place pivots (cause_of t.cause) g.first
       (lacks-pass m result_variable.place pivots h.lacks.0 h.lacks.1.0 h.lacks.1.1))
-  trips-once d e t u same (inr g) (inl h) =
+  hits_limit-once d e t u same (inr g) (inl h) =
       absurd (first-apart m result_variable.place pivots (cause_of u.cause) h.first
       (lacks-pass m result_variable.place pivots g.lacks.0 g.lacks.1.0 g.lacks.1.1))
-  trips-once d e t u same (inr g) (inr h) =
-      ap HasTripped (some-limit_hit t u (sym g.limit_hit ∙ (trips-same d e same ∙ h.limit_hit)))
+  hits_limit-once d e t u same (inr g) (inr h) =
+      ap HasHitLimit (some-limit_hit t u (sym g.limit_hit ∙ (hits_limit-same d e same ∙ h.limit_hit)))
 
 -- a place has one answer
 pub locals-once : (m : Prepared) (result_variable : ResultVariable) (pivots : ℕ) (d e : GuardFeasibility) (x y : Local) → IsSameEmptyAnswer d e
@@ -252,19 +252,19 @@ pub locals-once : (m : Prepared) (result_variable : ResultVariable) (pivots : �
 locals-once m result_variable pivots d e (HasBound l) (HasBound k) same g h = bounds-once m result_variable pivots d e l k g h
 locals-once m result_variable pivots d e (HasBound l) (IsUnboundedOn side ray kept) same g h =
     absurd (bound-not_unbounded m result_variable pivots d e l side ray kept g h)
-locals-once m result_variable pivots d e (HasBound l) (HasTripped t) same g h =
-    absurd (bound-not_tripped m result_variable pivots d e l t g h)
+locals-once m result_variable pivots d e (HasBound l) (HasHitLimit t) same g h =
+    absurd (bound-not_hit_limit m result_variable pivots d e l t g h)
 locals-once m result_variable pivots d e (IsUnboundedOn side ray kept) (HasBound l) same g h =
     absurd (bound-not_unbounded m result_variable pivots e d l side ray kept h g)
 locals-once m result_variable pivots d e (IsUnboundedOn a ray kept) (IsUnboundedOn b other point) same g h =
     unbounded-once m result_variable pivots d e a b ray other kept point same g h
-locals-once m result_variable pivots d e (IsUnboundedOn side ray kept) (HasTripped t) same g h =
-    absurd (unbounded-not_tripped m result_variable pivots d e side ray kept t same g h)
-locals-once m result_variable pivots d e (HasTripped t) (HasBound l) same g h =
-    absurd (bound-not_tripped m result_variable pivots e d l t h g)
-locals-once m result_variable pivots d e (HasTripped t) (IsUnboundedOn side ray kept) same g h =
-    absurd (tripped-not_unbounded m result_variable pivots d e t side ray kept same g h)
-locals-once m result_variable pivots d e (HasTripped t) (HasTripped u) same g h = trips-once m result_variable pivots d e t u same g h
+locals-once m result_variable pivots d e (IsUnboundedOn side ray kept) (HasHitLimit t) same g h =
+    absurd (unbounded-not_hit_limit m result_variable pivots d e side ray kept t same g h)
+locals-once m result_variable pivots d e (HasHitLimit t) (HasBound l) same g h =
+    absurd (bound-not_hit_limit m result_variable pivots e d l t h g)
+locals-once m result_variable pivots d e (HasHitLimit t) (IsUnboundedOn side ray kept) same g h =
+    absurd (hit_limit-not_unbounded m result_variable pivots d e t side ray kept same g h)
+locals-once m result_variable pivots d e (HasHitLimit t) (HasHitLimit u) same g h = hits_limit-once m result_variable pivots d e t u same g h
 
 -- for all places
 pub locals-one : LocalAnswersAreOne

@@ -10,7 +10,7 @@ use Rattle.rule_questions.proofs.OneEmptyAnswer.{solution-once, dual-once, apart
 use Rattle.local_size.specs.Sides.{SideOutcome, SideBoundFound, NoneFound, LimitPassed, kind_program, solved_side_bound, ComesTo}
 use Rattle.local_size.specs.Sides.{IsEnd}
 use Rattle.local_size.specs.Sides.{SearchComesTo}
-use Rattle.local_size.proofs.WholeNumbers.{solved-untripped, refuted-untripped}
+use Rattle.local_size.proofs.WholeNumbers.{solved-hits_no_limit, refuted-hits_no_limit}
 
 module _ (r : RuleForms) (w : Form) (pivots : ℕ) where
   -- the question of one kind has one result
@@ -24,18 +24,18 @@ module _ (r : RuleForms) (w : Form) (pivots : ℕ) where
   comes-once kind (SideBoundFound a) (NoneFound ray) g h =
       absurd (apart (kind_program r w kind) pivots g.0 h.0 g.1.0 h.1.0 g.1.1 h.1.1)
   comes-once kind (SideBoundFound a) (LimitPassed c) g h =
-      absurd (solved-untripped (kind_program r w kind) pivots g.0 g.1.0 g.1.1 c h)
+      absurd (solved-hits_no_limit (kind_program r w kind) pivots g.0 g.1.0 g.1.1 c h)
   comes-once kind (NoneFound ray) (SideBoundFound b) g h =
       absurd (apart (kind_program r w kind) pivots h.0 g.0 h.1.0 g.1.0 h.1.1 g.1.1)
   comes-once kind (NoneFound ray) (NoneFound other) g h =
       let e = dual-once (kind_program r w kind) pivots g.0 h.0 g.1.0 h.1.0 g.1.1 h.1.1 in
       ap NoneFound (g.1.2 ∙ (ap (λ (ns : List ℤ). listed r.unknowns (at ns)) e.0 ∙ sym h.1.2))
   comes-once kind (NoneFound ray) (LimitPassed c) g h =
-      absurd (refuted-untripped (kind_program r w kind) pivots g.0 g.1.0 g.1.1 c h)
+      absurd (refuted-hits_no_limit (kind_program r w kind) pivots g.0 g.1.0 g.1.1 c h)
   comes-once kind (LimitPassed c) (SideBoundFound b) g h =
-      absurd (solved-untripped (kind_program r w kind) pivots h.0 h.1.0 h.1.1 c g)
+      absurd (solved-hits_no_limit (kind_program r w kind) pivots h.0 h.1.0 h.1.1 c g)
   comes-once kind (LimitPassed c) (NoneFound ray) g h =
-      absurd (refuted-untripped (kind_program r w kind) pivots h.0 h.1.0 h.1.1 c g)
+      absurd (refuted-hits_no_limit (kind_program r w kind) pivots h.0 h.1.0 h.1.1 c g)
   comes-once kind (LimitPassed c) (LimitPassed d) g h =
       ap LimitPassed (causes-same (kind_program r w kind) pivots c d g h)
 

@@ -10,7 +10,7 @@ use Rattle.cert_types.specs.declared.answer.Question.TheVariants as questions
 use Rattle.cert_types.specs.declared.answer.LimitHit.{LimitHit}
 use Rattle.local_size.specs.declared.search.SideAnswer.{SideAnswer}
 use Rattle.local_size.specs.Asking.{side_outcome_of, IsLoosened}
-use Rattle.local_size.specs.LocalAnswers.{Local, HasBound, IsUnboundedOn, HasTripped, SideComesTo, PassesNone, LacksForm}
+use Rattle.local_size.specs.LocalAnswers.{Local, HasBound, IsUnboundedOn, HasHitLimit, SideComesTo, PassesNone, LacksForm}
 use Rattle.local_size.specs.LocalAnswers.{both_polynomial, IsLocal}
 use Rattle.local_size.specs.Places.{is_polynomial_at}
 use Rattle.local_size.specs.Sides.{SideOutcome, SideBoundFound, NoneFound, LimitPassed}
@@ -37,18 +37,18 @@ module _ (m : Prepared) (result_variable : ResultVariable) (pivots : ℕ) (empty
           (subst (LacksForm m result_variable.place pivots side) (sym h.1) lacks);
       point = h.2;
     }
-    lacking side ray (HasTripped t) lacks h = inr (record { asked = no; lacks = (side, (ray, lacks)); limit_hit = h })
+    lacking side ray (HasHitLimit t) lacks h = inr (record { asked = no; lacks = (side, (ray, lacks)); limit_hit = h })
 
     -- the up side exceeds a limit, or the low side after it
-    pub tripped-up : (t : LimitHit) → t.question ≡ questions.Local result_variable.rule result_variable.place
+    pub hit_limit-up : (t : LimitHit) → t.question ≡ questions.Local result_variable.rule result_variable.place
         → SideComesTo m result_variable.place pivots Up (LimitPassed (cause_of t.cause))
-        → IsLocal m result_variable pivots empty (HasTripped t)
-    tripped-up t e up = inl (record { asked = no; question = e; first = inl up })
+        → IsLocal m result_variable pivots empty (HasHitLimit t)
+    hit_limit-up t e up = inl (record { asked = no; question = e; first = inl up })
 
-    pub tripped-low : (t : LimitHit) → t.question ≡ questions.Local result_variable.rule result_variable.place → PassesNone m result_variable.place pivots Up
+    pub hit_limit-low : (t : LimitHit) → t.question ≡ questions.Local result_variable.rule result_variable.place → PassesNone m result_variable.place pivots Up
         → SideComesTo m result_variable.place pivots Low (LimitPassed (cause_of t.cause))
-        → IsLocal m result_variable pivots empty (HasTripped t)
-    tripped-low t e up low = inl (record { asked = no; question = e; first = inr (up, low) })
+        → IsLocal m result_variable pivots empty (HasHitLimit t)
+    hit_limit-low t e up low = inl (record { asked = no; question = e; first = inr (up, low) })
 
 -- a side whose result is a side bound, or none, hits no limit
 pub passes : {A B : Type 0} (m : Prepared) (place pivots : ℕ) (side : Side) (s : SideAnswer) (f : A → SideAnswer)

@@ -12,7 +12,7 @@ use Rattle.cert_types.specs.rule_forms.Kinds as plain
 use Rattle.cert_types.specs.rule_forms.Kinds.{Number, Argument, Affine}
 use Rattle.cert_types.specs.rule_forms.Questions.{question_of, form_of}
 use Rattle.cert_types.specs.rule_forms.SoughtParts.{sought_places}
-use Rattle.simplex_core.specs.Trips.{IsScaledSolution, IsScaledDual}
+use Rattle.simplex_core.specs.HitsLimit.{IsScaledSolution, IsScaledDual}
 use Rattle.cert_types.specs.cert_rules.Nodes.{Linear}
 use Rattle.rule_questions.specs.GroupLines.{group_lines}
 use Rattle.rule_questions.proofs.GroupLines.{equations-many}

@@ -19,7 +19,7 @@ use Rattle.simplex_core.specs.declared.scaling.Numerators.{Numerators}
 use Rattle.simplex_core.specs.declared.answers.Answer.{Answer}
 use Rattle.simplex_core.specs.declared.answers.Answer.TheVariants.{Solution, Dual, OutOfLimits}
 use Rattle.simplex_core.specs.Problem.{program_of}
-use Rattle.simplex_core.specs.Trips.{Trips, IsWholeAnswer}
+use Rattle.simplex_core.specs.HitsLimit.{HitsLimit, IsWholeAnswer}
 use Rattle.simplex_core.proofs.Agreement.{whole-answers-agree}
 use Rattle.cert_types.specs.cert_rules.Nodes.{SideBound, Linear}
 use Rattle.rule_questions.specs.Programs.{IsProblemOf}
@@ -77,7 +77,7 @@ module _ (r : RuleForms) (w : Form) (kind : plain.Kind) (pivots : ℕ) (problem 
   -- a limit
   pub limit-passed : (c : LimitCause) (cause : Cause) → IsWholeAnswer (program_of problem) pivots (OutOfLimits c)
       → cause ≡ cause_of c → ComesTo r w pivots kind (LimitPassed cause)
-  limit-passed c cause h e = subst (λ (k : Cause). Trips (kind_program r w kind) pivots k) (sym e) (moved (OutOfLimits c) h)
+  limit-passed c cause h e = subst (λ (k : Cause). HitsLimit (kind_program r w kind) pivots k) (sym e) (moved (OutOfLimits c) h)
 
 module _ (r : RuleForms) (w : Form) (pivots : ℕ) where
   -- the only kind decides

@@ -24,7 +24,7 @@ use Rattle.local_size.specs.declared.side.Side.TheVariants as sides
 use Rattle.local_size.specs.declared.search.SideAnswer.{SideAnswer}
 use Rattle.local_size.specs.declared.search.SideAnswer.TheVariants as answers
 use Rattle.local_size.specs.Sides.{SideOutcome, SideBoundFound, NoneFound, LimitPassed}
-use Rattle.local_size.specs.LocalAnswers.{Local, HasBound, IsUnboundedOn, HasTripped}
+use Rattle.local_size.specs.LocalAnswers.{Local, HasBound, IsUnboundedOn, HasHitLimit}
 
 -- a sign as plain data
 abbrev pub sign_of : Sign → plain.Sign
@@ -82,4 +82,4 @@ pub record AreWritableWithin (places : List ℕ) (goals : List Goal) : Type 0 wh
 abbrev pub IsLoosened : nodes.Side → List ℤ → GuardFeasibility → Local → Type 0
 IsLoosened side ray empty (HasBound l) = ⊥
 IsLoosened side ray empty (IsUnboundedOn s r kept) = (s ≡ side) × (r ≡ ray) × (point_in (Some empty) ≡ Some kept)
-IsLoosened side ray empty (HasTripped t) = limit_hit_in (Some empty) ≡ Some t
+IsLoosened side ray empty (HasHitLimit t) = limit_hit_in (Some empty) ≡ Some t

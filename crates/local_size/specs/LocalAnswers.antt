@@ -21,12 +21,12 @@ use Rattle.local_size.specs.Places.{local_forms, value_on, is_polynomial_at, kin
 pub data Local : Type 0 where
   HasBound : LocalBound → Local
   IsUnboundedOn : Side → List ℤ → ScaledPoint → Local
-  HasTripped : LimitHit → Local
+  HasHitLimit : LimitHit → Local
 
 abbrev pub local_answer_of : LocalAnswer → Local
 local_answer_of (answers.Bound l) = HasBound (local_of l)
 local_answer_of (answers.UnboundedSide l) = IsUnboundedOn (side_by l.up) l.ray.items (scaled_of l.kept)
-local_answer_of (answers.OutOfLimits t) = HasTripped t
+local_answer_of (answers.OutOfLimits t) = HasHitLimit t
 
 -- the questions of a side of a place have this result
 abbrev pub SideComesTo : Prepared → ℕ → ℕ → Side → SideOutcome → Type 0
@@ -82,4 +82,4 @@ abbrev pub IsLocal : Prepared → ResultVariable → ℕ → GuardFeasibility �
 IsLocal m result_variable pivots empty (HasBound l) = ((is_polynomial_at m result_variable.place ≡ true) × (l ≡ both_polynomial))
     ⊎ HasSideBounds m result_variable.place pivots l
 IsLocal m result_variable pivots empty (IsUnboundedOn side ray kept) = IsUnboundedPlace m result_variable.place pivots empty side ray kept
-IsLocal m result_variable pivots empty (HasTripped t) = IsOwnLimitHit m result_variable pivots t ⊎ IsFeasibilityLimitHit m result_variable.place pivots empty t
+IsLocal m result_variable pivots empty (HasHitLimit t) = IsOwnLimitHit m result_variable pivots t ⊎ IsFeasibilityLimitHit m result_variable.place pivots empty t

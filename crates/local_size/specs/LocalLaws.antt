@@ -19,7 +19,7 @@ use Rattle.cert_types.specs.declared.answer.LimitHit.{LimitHit}
 use Rattle.rule_questions.specs.EmptyAnswers.{IsEmptyAnswer}
 use Rattle.rule_questions.specs.OneEmptyAnswer.{IsSameEmptyAnswer}
 use Rattle.local_size.specs.Places.{value_on, is_polynomial_at, kinds_of}
-use Rattle.local_size.specs.LocalAnswers.{Local, HasBound, IsUnboundedOn, HasTripped, IsLocal}
+use Rattle.local_size.specs.LocalAnswers.{Local, HasBound, IsUnboundedOn, HasHitLimit, IsLocal}
 
 -- the result variable is a place of this rule of the program
 pub record IsResultVariableOf (p : Program) (result_variable : ResultVariable) (r : Rule) : Type 0 where
@@ -62,9 +62,9 @@ pub record IsUnboundedSide (m : Prepared) (place : ℕ) (side : Side) : Type 0 w
   pub ray : IsUnboundedRay m.rows m.left (value_on side m place) z
 
 -- a question of the place hits a limit
-pub record PlaceTrips (m : Prepared) (result_variable : ResultVariable) (pivots : ℕ) (empty : GuardFeasibility) : Type 0 where
+pub record PlaceHitsLimit (m : Prepared) (result_variable : ResultVariable) (pivots : ℕ) (empty : GuardFeasibility) : Type 0 where
   pub limit_hit : LimitHit
-  pub tripped : IsLocal m result_variable pivots empty (HasTripped limit_hit)
+  pub hit_limit : IsLocal m result_variable pivots empty (HasHitLimit limit_hit)
 
 -- an unbounded answer has a ray of that side and a point, whose numbers are within the limit, and no affine form
 -- bounds the side
@@ -87,12 +87,12 @@ pub record UnboundedAnswersAreUnbounded : Type 0 where
 abbrev pub SaysUnbounded : Local → Type 0
 SaysUnbounded (HasBound l) = ⊥
 SaysUnbounded (IsUnboundedOn side ray kept) = Unit {0}
-SaysUnbounded (HasTripped t) = ⊥
+SaysUnbounded (HasHitLimit t) = ⊥
 
-abbrev pub SaysTripped : Local → Type 0
-SaysTripped (HasBound l) = ⊥
-SaysTripped (IsUnboundedOn side ray kept) = ⊥
-SaysTripped (HasTripped t) = Unit {0}
+abbrev pub SaysHitLimit : Local → Type 0
+SaysHitLimit (HasBound l) = ⊥
+SaysHitLimit (IsUnboundedOn side ray kept) = ⊥
+SaysHitLimit (HasHitLimit t) = Unit {0}
 
 -- the answer is unbounded exactly if a side of the place is and no question hits a limit; and a limit hit exactly if
 -- one does
@@ -100,9 +100,9 @@ pub record LocalAnswersAreExact : Type 0 where
   pub unbounded : (p : Program) (r : Rule) (result_variable : ResultVariable) (pivots : ℕ) (empty : GuardFeasibility) (x : Local) → IsValid p
       → IsResultVariableOf p result_variable r → IsEmptyAnswer (prepared r) result_variable.rule pivots empty → IsLocal (prepared r) result_variable pivots empty x
       → SaysUnbounded x
-      ↔ (((side : Side) × IsUnboundedSide (prepared r) result_variable.place side) × (¬ PlaceTrips (prepared r) result_variable pivots empty))
-  pub tripped : (m : Prepared) (result_variable : ResultVariable) (pivots : ℕ) (empty : GuardFeasibility) (x : Local)
-      → IsLocal m result_variable pivots empty x → SaysTripped x ↔ PlaceTrips m result_variable pivots empty
+      ↔ (((side : Side) × IsUnboundedSide (prepared r) result_variable.place side) × (¬ PlaceHitsLimit (prepared r) result_variable pivots empty))
+  pub hit_limit : (m : Prepared) (result_variable : ResultVariable) (pivots : ℕ) (empty : GuardFeasibility) (x : Local)
+      → IsLocal m result_variable pivots empty x → SaysHitLimit x ↔ PlaceHitsLimit m result_variable pivots empty
 
 -- a place has one answer within a number of pivots
 pub record LocalAnswersAreOne : Type 0 where

@@ -8,7 +8,7 @@ use Rattle.simplex_core.specs.linear_forms.RuleQuestions.{RuleForms}
 use Rattle.cert_types.specs.rule_forms.Kinds.{Kind}
 use Rattle.cert_types.specs.rule_forms.Questions.{question_of}
 use Rattle.cert_types.specs.rule_forms.Laws.{solved_form, solved_multipliers}
-use Rattle.simplex_core.specs.Trips.{Trips, IsScaledSolution, IsScaledDual}
+use Rattle.simplex_core.specs.HitsLimit.{HitsLimit, IsScaledSolution, IsScaledDual}
 use Rattle.cert_types.specs.cert_rules.Nodes.{SideBound, Linear}
 
 -- the result of the questions of one side: a side bound; no form of any kind, as the dual of the last question shows;
@@ -35,7 +35,7 @@ ComesTo r w pivots kind (SideBoundFound side_bound) = (numbers : List ℤ)
     × (side_bound ≡ solved_side_bound r w kind numbers den))
 ComesTo r w pivots kind (NoneFound ray) = (numbers : List ℤ)
     × ((den : ℕ) × IsScaledDual (kind_program r w kind) pivots numbers den × (ray ≡ listed r.unknowns (at numbers)))
-ComesTo r w pivots kind (LimitPassed cause) = Trips (kind_program r w kind) pivots cause
+ComesTo r w pivots kind (LimitPassed cause) = HitsLimit (kind_program r w kind) pivots cause
 
 -- the search ends with this result: a side bound, or a limit hit
 abbrev pub IsEnd : SideOutcome → Type 0

@@ -6,7 +6,7 @@ ghost use Rattle.cert_types.specs.Views.{result_variable_of};
 ghost use Rattle.cert_types.specs.declared.answer.Question.TheVariants as questions;
 ghost use Rattle.rule_questions.specs.EmptyAnswers.{IsPrepared, SaysEmpty};
 ghost use Rattle.local_size.specs.Asking.{side_of, IsLoosened};
-ghost use Rattle.local_size.specs.LocalAnswers.{local_answer_of, HasTripped, IsLocal};
+ghost use Rattle.local_size.specs.LocalAnswers.{local_answer_of, HasHitLimit, IsLocal};
 ghost use Rattle.outcome.specs.Views.{side_by};
 
 use crate::answer::LocalAnswer;
@@ -65,7 +65,7 @@ pub fn local(
         &kinds,
         pivots,
     )? {
-        SideAnswer::OutOfLimits(cause) => Ok(tripped(result_variable, cause)),
+        SideAnswer::OutOfLimits(cause) => Ok(hit_limit(result_variable, cause)),
         SideAnswer::SideBound(up) => match search_side(
             alloc,
             prepared_rule,
@@ -74,7 +74,7 @@ pub fn local(
             &kinds,
             pivots,
         )? {
-            SideAnswer::OutOfLimits(cause) => Ok(tripped(result_variable, cause)),
+            SideAnswer::OutOfLimits(cause) => Ok(hit_limit(result_variable, cause)),
             SideAnswer::SideBound(low) => Ok(LocalAnswer::Bound(LocalBound { up, low })),
             SideAnswer::UnboundedSide(ray) => loosened(alloc, Side::Low, ray, empty),
         },
@@ -86,7 +86,7 @@ pub fn local(
             &kinds,
             pivots,
         )? {
-            SideAnswer::OutOfLimits(cause) => Ok(tripped(result_variable, cause)),
+            SideAnswer::OutOfLimits(cause) => Ok(hit_limit(result_variable, cause)),
             SideAnswer::SideBound(_) | SideAnswer::UnboundedSide(_) => loosened(
                 alloc,
                 Side::Up,
@@ -98,9 +98,9 @@ pub fn local(
 }
 
 // A question of the place exceeded a limit.
-fn tripped(result_variable: ResultVariable, cause: LimitCause) -> LocalAnswer
+fn hit_limit(result_variable: ResultVariable, cause: LimitCause) -> LocalAnswer
     ensures { local_answer_of result
-        ≡ HasTripped (record { question = questions.Local result_variable.rule result_variable.place; cause = cause }) }
+        ≡ HasHitLimit (record { question = questions.Local result_variable.rule result_variable.place; cause = cause }) }
 {
     LocalAnswer::OutOfLimits(LimitHit {
         question: Question::Local {

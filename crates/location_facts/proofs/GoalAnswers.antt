@@ -20,7 +20,7 @@ use Rattle.poly_terms.proofs.linear_forms.CombinationLaws.{form_value-times}
 use Rattle.poly_terms.proofs.linear_forms.ListLaws.{length-listed, listed-is}
 use Rattle.poly_terms.proofs.linear_forms.SolutionLaws.{solution-solves, All-listed}
 use Rattle.poly_terms.proofs.linear_forms.ElementLaws.{dual-refutes, program-columns}
-use Rattle.lp_builder.specs.simplex_core.Trips.{IsScaledSolution, IsScaledDual}
+use Rattle.lp_builder.specs.simplex_core.HitsLimit.{IsScaledSolution, IsScaledDual}
 use Rattle.rule_questions.proofs.EmptyLaws.{at-least-one}
 use Rattle.rule_questions.proofs.Lists.{multipliers-listed, value-seen, listed-agree}
 use Rattle.location_facts.specs.Kept.{goal_question, goal_program}

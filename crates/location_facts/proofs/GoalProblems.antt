@@ -17,7 +17,7 @@ use Rattle.lp_builder.specs.simplex_core.declared.answers.Answer.TheVariants.{So
 use Rattle.lp_builder.specs.simplex_core.declared.problem.Problem.{Problem}
 use Rattle.lp_builder.specs.simplex_core.declared.scaling.Numerators.{Numerators}
 use Rattle.lp_builder.specs.simplex_core.Problem.{program_of}
-use Rattle.lp_builder.specs.simplex_core.Trips.{IsWholeAnswer}
+use Rattle.lp_builder.specs.simplex_core.HitsLimit.{IsWholeAnswer}
 use Rattle.lp_builder.proofs.simplex_core.Agreement.{whole-answers-agree}
 use Rattle.lp_builder.specs.declared.builder.Builder.{Builder}
 use Rattle.lp_builder.specs.declared.description.Goal.{Goal}
@@ -114,7 +114,7 @@ module _ (n : ℕ) (rows : List Row) (goal : Row) (writable : All (λ r. IsWrita
   )
 
   -- a linear program that hits a limit isn't solved within the pivots
-  pub goal-trips : (c : LimitCause) → IsWholeAnswer (program_of problem) pivots (OutOfLimits c)
+  pub goal-hits_limit : (c : LimitCause) → IsWholeAnswer (program_of problem) pivots (OutOfLimits c)
       → ¬ IsSolvedWithin pivots (goal_program n (map form_of rows) (form_of goal))
-  goal-trips c h =
+  goal-hits_limit c h =
       (solved-by (goal_program n (map form_of rows) (form_of goal)) pivots (OutOfLimits c) (moved (OutOfLimits c) h)).1

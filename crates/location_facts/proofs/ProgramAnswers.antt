@@ -8,9 +8,9 @@ use Rattle.poly_terms.specs.linear_forms.LinearProgram.{LinearProgram}
 use Rattle.poly_terms.specs.linear_forms.RuleQuestions.{RuleForms}
 use Rattle.lp_builder.specs.simplex_core.declared.answers.Answer.{Answer}
 use Rattle.lp_builder.specs.simplex_core.declared.answers.Answer.TheVariants.{Solution, Dual, OutOfLimits}
-use Rattle.lp_builder.specs.simplex_core.Trips.{IsWholeAnswer}
+use Rattle.lp_builder.specs.simplex_core.HitsLimit.{IsWholeAnswer}
 use Rattle.lp_builder.proofs.simplex_core.Certificates.{dual-excludes}
-use Rattle.rule_questions.proofs.Trips.{solution-untripped}
+use Rattle.rule_questions.proofs.HitsLimit.{solution-hits_no_limit}
 use Rattle.location_facts.specs.declared.fact.LocFact.{LocFact}
 use Rattle.location_facts.specs.Kept.{goal_program, IsSolvedWithin, IsImplied}
 use Rattle.location_facts.specs.Laws.{SaysSolution, AnswersTellImplied}
@@ -22,12 +22,12 @@ pub solved-by : (q : LinearProgram) (pivots : ℕ) (a : Answer) → IsWholeAnswe
 solved-by q pivots (Solution s) h = (
   λ _. record {
     solution = record { x = at s.numbers.items; d = pos s.den; solution = h.solution };
-    untripped = solution-untripped q pivots s h;
+    hits_no_limit = solution-hits_no_limit q pivots s h;
   },
   λ _. tt,
 )
 solved-by q pivots (Dual s) h = (λ no. absurd no, λ k. dual-excludes q (at s.numbers.items) h.certified k.solution)
-solved-by q pivots (OutOfLimits c) h = (λ no. absurd no, λ k. k.untripped.each (cause_of c) h)
+solved-by q pivots (OutOfLimits c) h = (λ no. absurd no, λ k. k.hits_no_limit.each (cause_of c) h)
 
 -- a rule implies a fact exactly if one of its two linear programs is answered by a solution
 implied-by : (pivots : ℕ) (r : RuleForms) (kept : List LocFact) (f : LocFact) (a b : Answer)

@@ -13,9 +13,9 @@ use Rattle.poly_terms.specs.linear_forms.LinearProgram.{LinearProgram, IsDual}
 use Rattle.poly_terms.specs.linear_forms.Questions.{program_of_question}
 use Rattle.poly_terms.proofs.model.Cases.{none_some, some_same}
 use Rattle.lp_builder.specs.simplex_core.Bland.{next, tableau_at, is_infeasible}
-use Rattle.lp_builder.specs.simplex_core.Outcome.{IsSmallRatio, IsInRange, TripsRange, TripsBudget}
+use Rattle.lp_builder.specs.simplex_core.Outcome.{IsSmallRatio, IsInRange, ExceedsNumberRange, ExceedsPivotLimit}
 use Rattle.lp_builder.specs.simplex_core.Tableau.{Tableau, first_tableau, equation, cost, pivot}
-use Rattle.lp_builder.specs.simplex_core.Trips.{Trips, TripsSolution, TripsDual}
+use Rattle.lp_builder.specs.simplex_core.HitsLimit.{HitsLimit, ScaledSolutionExceeds, ScaledDualExceeds}
 use Rattle.lp_builder.proofs.simplex_core.Certificates.{dual-excludes}
 use Rattle.cert_types.specs.guard_prep.Tightening.{divisor_of}
 use Rattle.rule_questions.specs.ProgramQuestions.{forms_at}
@@ -118,11 +118,11 @@ minus-in-range = record {
 }
 
 -- so none is out of range, no pivot is missing, and the table isn't too wide
-zero-range : (k : ℕ) → TripsRange zero_program 0 k → ⊥
+zero-range : (k : ℕ) → ExceedsNumberRange zero_program 0 k → ⊥
 zero-range k t =
     t.out (subst (IsInRange zero_program) (first-alone zero_program k t.last t.within t.reached.is) zero-in-range)
 
-zero-budget : TripsBudget zero_program 0 → ⊥
+zero-budget : ExceedsPivotLimit zero_program 0 → ⊥
 unfolding program_of_question divisor_of first_tableau equation cost
 zero-budget t =
     none_some t.following
@@ -148,7 +148,7 @@ at-zero zero = refl
 at-zero (suc j) = refl
 
 -- the last tableau's solution is 0, which is whole
-zero-solution : TripsSolution zero_program 0 → ⊥
+zero-solution : ScaledSolutionExceeds zero_program 0 → ⊥
 unfolding program_of_question divisor_of first_tableau equation cost
 zero-solution t =
     t.exceeds (pos 0 ∷ []) 1
@@ -172,7 +172,7 @@ zero-solution t =
 false-true : false ≡ true → ⊥
 false-true e = cc
 
-zero-dual : TripsDual zero_program 0 → ⊥
+zero-dual : ScaledDualExceeds zero_program 0 → ⊥
 unfolding program_of_question divisor_of first_tableau equation cost
 zero-dual t =
     false-true
@@ -184,13 +184,13 @@ narrow : 40000000000 < 8 → ⊥
 narrow l = omega (arith, l)
 
 -- so the linear program of A >= 0 hits no limit
-zero-untripped : (c : Cause) → Trips zero_program 0 c → ⊥
+zero-hits_no_limit : (c : Cause) → HitsLimit zero_program 0 c → ⊥
 unfolding program_of_question divisor_of
-zero-untripped (range k) (fits, t) = zero-range k t
-zero-untripped (budget n) (fits, e, t) = zero-budget t
-zero-untripped (wide n) (l, e) = narrow l
-zero-untripped scale (fits, inl s) = zero-solution s
-zero-untripped scale (fits, inr d) = zero-dual d
+zero-hits_no_limit (range k) (fits, t) = zero-range k t
+zero-hits_no_limit (budget n) (fits, e, t) = zero-budget t
+zero-hits_no_limit (wide n) (l, e) = narrow l
+zero-hits_no_limit scale (fits, inl s) = zero-solution s
+zero-hits_no_limit scale (fits, inr d) = zero-dual d
 
 pub zero-solved : IsSolvedWithin 0 zero_program
 unfolding program_of_question divisor_of
@@ -204,11 +204,11 @@ zero-solved = record {
       nonnegative = below-one _ (omega (arith, ints));
     };
   };
-  untripped = record { each = zero-untripped };
+  hits_no_limit = record { each = zero-hits_no_limit };
 }
 
 -- the program of A >= -1 goes on from its first tableau
-minus-goes-on : TripsBudget minus_program 0
+minus-goes-on : ExceedsPivotLimit minus_program 0
 unfolding program_of_question divisor_of first_tableau equation cost
 minus-goes-on = record {
   last = first_tableau minus_program;
@@ -222,9 +222,9 @@ minus-goes-on = record {
 fits-eight : 8 ≤ 40000000000
 fits-eight = omega arith
 
-pub minus-tripped : IsSolvedWithin 0 minus_program → ⊥
+pub minus-hit_limit : IsSolvedWithin 0 minus_program → ⊥
 unfolding program_of_question divisor_of
-minus-tripped h = h.untripped.each (budget 0) (fits-eight, refl, minus-goes-on)
+minus-hit_limit h = h.hits_no_limit.each (budget 0) (fits-eight, refl, minus-goes-on)
 
 -- that no row has no point is refuted
 abbrev pub reset_empty : LinearProgram
@@ -236,7 +236,7 @@ reset-pointed = record { columns = below-one _ (omega (arith, ints)); right = om
 
 minus-not-implied : IsImplied 0 (forms_at resetting 1) [] (fact 1 1 0 (negsuc 0)) → ⊥
 minus-not-implied (inl s) = dual-excludes reset_empty (at (pos 0 ∷ pos 1 ∷ [])) reset-pointed s.solution
-minus-not-implied (inr s) = minus-tripped s
+minus-not-implied (inr s) = minus-hit_limit s
 
 pub pivots-worked : PivotsAreWorkedOut
 unfolding program_of_question divisor_of
@@ -249,6 +249,6 @@ pivots-worked = record {
     equations = below-two _ refl refl;
     nonnegative = below-one _ (omega (arith, ints));
   };
-  tripped = minus-tripped;
+  hit_limit = minus-hit_limit;
   not_implied = minus-not-implied;
 }

@@ -15,7 +15,7 @@ use Rattle.location_facts.specs.Worked.{fact, natural}
 use Rattle.location_facts.specs.WorkedKept.{resetting, zero_facts, SomeAreKept, KeptFactsAreWorkedOut}
 use Rattle.location_facts.proofs.Next.{kept-one}
 use Rattle.location_facts.proofs.WorkedKept.{kept-worked, following-worked, not-following-worked, empty-worked}
-use Rattle.location_facts.proofs.WorkedPivots.{reset-pointed, zero-solved, minus-tripped, pivots-worked}
+use Rattle.location_facts.proofs.WorkedPivots.{reset-pointed, zero-solved, minus-hit_limit, pivots-worked}
 
 -- what the one rule that leads to l1 implies, all rules into l1 do
 by_the_rule : (kept : List LocFact) (f : LocFact) → IsImplied 0 (forms_at resetting 1) kept f
@@ -40,7 +40,7 @@ zero_implied = inr zero-solved
 less_not_implied : IsImplied 0 (forms_at resetting 1) [] (fact 1 1 0 (negsuc 0)) → ⊥
 unfolding program_of_question divisor_of
 less_not_implied (inl s) = dual-excludes _ (at (pos 0 ∷ pos 1 ∷ [])) reset-pointed s.solution
-less_not_implied (inr s) = minus-tripped s
+less_not_implied (inr s) = minus-hit_limit s
 
 more_not_implied : IsImplied 0 (forms_at resetting 1) [] (fact 1 1 0 (pos 1)) → ⊥
 unfolding program_of_question divisor_of

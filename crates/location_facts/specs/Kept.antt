@@ -7,7 +7,7 @@ use Rattle.poly_terms.specs.linear_forms.Questions.{Question, program_of_questio
 use Rattle.poly_terms.specs.linear_forms.RuleQuestions.{RuleForms}
 use Rattle.poly_terms.specs.model.Programs.{Program, Rule, rule_at}
 use Rattle.rule_questions.specs.ProgramQuestions.{forms_at}
-use Rattle.rule_questions.specs.Programs.{NothingTrips}
+use Rattle.rule_questions.specs.Programs.{NothingHitsLimit}
 use Rattle.location_facts.specs.declared.fact.LocFact.{LocFact}
 use Rattle.location_facts.specs.Candidates.{candidates}
 use Rattle.location_facts.specs.Rows.{row_after, combined}
@@ -28,7 +28,7 @@ goal_program unknowns rows goal = program_of_question (goal_question unknowns ro
 -- a linear program has a solution, and hits no limit within a number of pivots
 pub record IsSolvedWithin (pivots : ℕ) (q : LinearProgram) : Type 0 where
   pub solution : HasSolution q
-  pub untripped : NothingTrips q pivots
+  pub hits_no_limit : NothingHitsLimit q pivots
 
 -- a rule implies a fact under a list: by one of two linear programs that is solved. The first asks whether the combined
 -- rows have no point, the second whether the fact at the new values follows from them

@@ -6,7 +6,7 @@ use Rattle.poly_terms.specs.linear_forms.LinearProgram.{LinearProgram}
 use Rattle.poly_terms.specs.linear_forms.RuleQuestions.{RuleForms}
 use Rattle.lp_builder.specs.simplex_core.declared.answers.Answer.{Answer}
 use Rattle.lp_builder.specs.simplex_core.declared.answers.Answer.TheVariants.{Solution, Dual, OutOfLimits}
-use Rattle.lp_builder.specs.simplex_core.Trips.{IsWholeAnswer}
+use Rattle.lp_builder.specs.simplex_core.HitsLimit.{IsWholeAnswer}
 use Rattle.poly_terms.specs.model.Bounds.{Bound}
 use Rattle.poly_terms.specs.model.Facts.{Fact, Holds, HoldsTotal, HoldsLength}
 use Rattle.poly_terms.specs.model.Programs.{Program}

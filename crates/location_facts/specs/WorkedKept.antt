@@ -110,7 +110,7 @@ pub record PivotsAreWorkedOut : Type 0 where
   pub solved : IsSolvedWithin 0 (reset_program (pos 0))
   pub implied : IsImplied 0 (forms_at resetting 1) [] natural
   pub with_a_solution : IsSolution (reset_program (negsuc 0)) (at (pos 1 ∷ [])) (pos 1)
-  pub tripped : ¬ (IsSolvedWithin 0 (reset_program (negsuc 0)))
+  pub hit_limit : ¬ (IsSolvedWithin 0 (reset_program (negsuc 0)))
   pub not_implied : ¬ (IsImplied 0 (forms_at resetting 1) [] (fact 1 1 0 (negsuc 0)))
 
 -- A >= 0 and -A >= 0 at l1

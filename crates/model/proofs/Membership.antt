@@ -18,7 +18,7 @@ same_number x = go (eqb_tells x x)
     go (inl (test, e)) = test
     go (inr (test, other)) = absurd (other refl)
 
--- numbers that are told to be the same are the same
+-- numbers that the test finds equal are equal
 pub same_number-sound : (x y : ℕ) → (x == y) ≡ true → x ≡ y
 same_number-sound x y h = go (eqb_tells x y)
   where

@@ -10,7 +10,7 @@ use Rattle.cert_types.specs.declared.answer.LimitHit.{LimitHit}
 -- why a rule has no time: no function ranks it, a linear program exceeded a limit, or the bound is too large
 pub data NoTime : Type 0 where
   NoFunction : Gap → NoTime
-  TimeTripped : LimitHit → NoTime
+  TimeHitLimit : LimitHit → NoTime
   TimeLarge : ℕ → NoTime
 
 -- a time, or why there is none
@@ -22,7 +22,7 @@ pub data Time : Type 0 where
 -- from outside is missing; a polynomial side bound reads a member; a rule has no time; or the bound is too large
 pub data NoSize : Type 0 where
   SizeUnbounded : Side → List ℤ → ScaledPoint → NoSize
-  SizeTripped : LimitHit → NoSize
+  SizeHitLimit : LimitHit → NoSize
   SizeMissing : ResultVariable → NoSize
   SizeNonlinear : ResultVariable → NoSize
   SizeUntimed : ℕ → NoSize

@@ -14,10 +14,10 @@ use Rattle.outcome.specs.declared.entry.CostEntry.TheVariants as costs
 use Rattle.outcome.specs.declared.entry.SizeEntry.{SizeEntry}
 use Rattle.outcome.specs.declared.entry.SizeEntry.TheVariants as sizes
 use Rattle.outcome.specs.declared.outcome_of.Outcome.{Outcome}
-use Rattle.outcome.specs.Reports.{NoFunction, TimeTripped, TimeLarge}
+use Rattle.outcome.specs.Reports.{NoFunction, TimeHitLimit, TimeLarge}
 use Rattle.outcome.specs.Reports.{Time, Timed, Untimed}
 use Rattle.cert_types.specs.cert_rules.AcceptsSizes.{Side, Up, Low}
-use Rattle.outcome.specs.Reports.{NoSize, SizeUnbounded, SizeTripped, SizeMissing, SizeNonlinear, SizeUntimed, SizeLarge}
+use Rattle.outcome.specs.Reports.{NoSize, SizeUnbounded, SizeHitLimit, SizeMissing, SizeNonlinear, SizeUntimed, SizeLarge}
 use Rattle.outcome.specs.Reports.{Size, Sized, Unsized, RuleCost, Costed, Uncosted, Report}
 
 -- the gap without points, over no rule
@@ -35,7 +35,7 @@ numbered_gap (g ∷ gaps) (suc (suc n)) = numbered_gap gaps (suc n)
 abbrev pub time_of : List code.Gap → TimeEntry → Time
 time_of gaps (times.Known s) = Timed (bound_of s.bound)
 time_of gaps (times.Gap n) = Untimed (NoFunction (numbered_gap gaps n))
-time_of gaps (times.OutOfLimits t) = Untimed (TimeTripped t)
+time_of gaps (times.OutOfLimits t) = Untimed (TimeHitLimit t)
 time_of gaps (times.Large n) = Untimed (TimeLarge n)
 
 -- the side that a flag names
@@ -43,7 +43,7 @@ abbrev pub side_by : Bool → Side
 side_by true = Up
 side_by false = Low
 
--- why a loose place has no size, and a loose cost no bound
+-- why a place with an unbounded side has no size, and a cost with one no bound
 abbrev pub unbounded_of : UnboundedSide → NoSize
 unbounded_of l = SizeUnbounded (side_by l.up) l.ray.items (scaled_of l.kept)
 
@@ -51,7 +51,7 @@ unbounded_of l = SizeUnbounded (side_by l.up) l.ray.items (scaled_of l.kept)
 abbrev pub size_of : SizeEntry → Size
 size_of (sizes.Known s) = Sized (bound_of s.bound)
 size_of (sizes.UnboundedSide l) = Unsized (unbounded_of l)
-size_of (sizes.OutOfLimits t) = Unsized (SizeTripped t)
+size_of (sizes.OutOfLimits t) = Unsized (SizeHitLimit t)
 size_of (sizes.Missing s) = Unsized (SizeMissing (result_variable_of s))
 size_of (sizes.Nonlinear s) = Unsized (SizeNonlinear (result_variable_of s))
 size_of (sizes.Untimed t) = Unsized (SizeUntimed t)
@@ -61,7 +61,7 @@ size_of (sizes.Large n) = Unsized (SizeLarge n)
 abbrev pub cost_of : CostEntry → RuleCost
 cost_of (costs.Known s) = Costed (bound_of s.bound)
 cost_of (costs.UnboundedSide l) = Uncosted (unbounded_of l)
-cost_of (costs.OutOfLimits t) = Uncosted (SizeTripped t)
+cost_of (costs.OutOfLimits t) = Uncosted (SizeHitLimit t)
 cost_of (costs.Missing s) = Uncosted (SizeMissing (result_variable_of s))
 cost_of (costs.Untimed t) = Uncosted (SizeUntimed t)
 cost_of (costs.Large n) = Uncosted (SizeLarge n)

@@ -12,11 +12,11 @@ use Rattle.potential_ground.specs.Whole.{AcceptedPotentialsHold}
 
 -- facts that hold do so as signed ones
 all-signed : PlainFactsHold → (p : Program) (facts : List Fact) → AllByRecursion (λ fact. Holds p fact) facts
-    → AllSignedHold p (map signed_fact facts)
+    → AllSignedHold p (map (signed_fact p) facts)
 all-signed plain p [] h = tt
 all-signed plain p (fact ∷ facts) (first, others) = (plain p fact first, all-signed plain p facts others)
 
 pub accepted_potentials : RowsAreTrueGround → SquaresAreSafe → PlainFactsHold → AcceptedLemmasHold → AcceptedPotentialsHold
 accepted_potentials rows squares plain lemmas_hold p facts lemmas valid hold accepted =
-    lemmas_hold (ground_of p expands_to_squares) (map signed_fact facts) 1 lemmas
+    lemmas_hold (ground_of p expands_to_squares) (map (signed_fact p) facts) 1 lemmas
     (rows.ground p expands_to_squares valid) squares.safe (all-signed plain p facts hold) accepted

@@ -16,5 +16,5 @@ use Rattle.potential_ground.specs.RowTerms.{ground_of}
 abbrev pub AcceptedPotentialsHold : Type 0
 AcceptedPotentialsHold = (p : Program) (facts : List Fact) (lemmas : List SignedLemma) → IsValid p
     → AllByRecursion (λ fact. Holds p fact) facts
-    → first_refusal (ground_of p expands_to_squares) (map signed_fact facts) 1 lemmas ≡ None
-    → AllSignedHold p (facts_after (map signed_fact facts) lemmas)
+    → first_refusal (ground_of p expands_to_squares) (map (signed_fact p) facts) 1 lemmas ≡ None
+    → AllSignedHold p (facts_after (map (signed_fact p) facts) lemmas)

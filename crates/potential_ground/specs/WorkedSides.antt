@@ -50,9 +50,9 @@ abbrev pub four_moves : List Move
 four_moves = keeps 1 ∷ gains 2 one_form (Some 4) ∷ gains 3 one_form (Some 5) ∷ keeps 4 ∷ []
 
 -- the lemmas: rule 1 occurs once, and B - A - 2 before it is at most its positive part, so it comes to that; rule 2
--- lowers B - A - 2, which rule 1 sets, and which is at most 0 behind rule 3; rule 3 lowers A - B - 2, which rule 2 raises
--- by 1; and all rules together. The number that rule 3 sets the function to, the gain of rule 2, the function at the
--- start, the constant of the total, and the last lemma's moves can be others
+-- lowers B - A - 2, which rule 1 sets, and which is at most 0 behind rule 3; rule 3 lowers A - B - 2, which rule 2
+-- raises by 1; and all rules together. The number that rule 3 sets the function to, the gain of rule 2, the function at
+-- the start, the constant of the total, and the last lemma's moves can be others
 abbrev pub side_lemmas : Polynomial → ℤ → ℕ → ℕ → List Move → List SignedLemma
 side_lemmas reset gain first constant moves =
     falls (function 0 one_form ∷ []) 1 [] (pays 1 [] ∷ []) (Constant 1)
@@ -65,8 +65,8 @@ side_lemmas reset gain first constant moves =
     ∷ falls (function 0 (number (pos first) ∷ []) ∷ function 1 one_form ∷ function 2 [] ∷ []) 1 moves
     (pays 1 [] ∷ pays 2 [] ∷ pays 3 [] ∷ pays 4 [] ∷ []) (total constant) ∷ []
 
--- they are accepted, and the last one states 2*[B - A - 2] + [A - B - 2] + 2 for all rules; each with one number changed
--- is refused at the lemma that it breaks
+-- they are accepted, and the last one states 2*[B - A - 2] + [A - B - 2] + 2 for all rules; each with one number
+-- changed is refused at the lemma that it breaks
 pub record TwoSidesAreBounded : Type 0 where
   pub accepted : refused_first two_sides (side_lemmas [] (pos 1) 2 2 four_moves) ≡ None
   pub all_rules : numbered (stated (side_lemmas [] (pos 1) 2 2 four_moves)) 6
@@ -79,5 +79,5 @@ pub record TwoSidesAreBounded : Type 0 where
   pub low_start : refused_first two_sides (side_lemmas [] (pos 1) 1 2 four_moves) ≡ refused_at 6 (BadMove 1)
   pub low : refused_first two_sides (side_lemmas [] (pos 1) 2 1 four_moves) ≡ refused_at 6 LowBound
   pub no_move : refused_first two_sides (side_lemmas [] (pos 1) 2 2 three_moves) ≡ refused_at 6 (MissingTime 4)
-  -- a rule without a move is told before a wrong move
+  -- a rule without a move is reported before a wrong move
   pub no_move_first : refused_first two_sides (side_lemmas [] (pos 1) 1 2 three_moves) ≡ refused_at 6 (MissingTime 4)

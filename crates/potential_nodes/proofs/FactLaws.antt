@@ -19,7 +19,7 @@ use Rattle.potential_nodes.specs.Facts.{same_variables, same_polynomial, same_ch
 use Rattle.potential_nodes.specs.Facts.{peak_bound_in, once_charge, says_never, is_never}
 use Rattle.potential_nodes.proofs.LookupLaws.{both-hold, all-numbered}
 
--- lists that are told to be the same are the same
+-- lists that the test finds equal are equal
 pub same_variables-is : (vs ws : List ℕ) → same_variables vs ws ≡ true → vs ≡ ws
 same_variables-is [] [] h = refl
 same_variables-is [] (w ∷ ws) h = absurd (true≢false (sym h))

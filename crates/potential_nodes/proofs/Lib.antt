@@ -3,6 +3,7 @@ pub mod CheckLaws
 pub mod TermLaws
 pub mod CertificateLaws
 pub mod FactLaws
+pub mod CostLaws
 pub mod PlainFactLaws
 pub mod StepLaws
 pub mod TableLaws

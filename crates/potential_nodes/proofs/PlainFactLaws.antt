@@ -3,14 +3,17 @@ use Rattle.std.proofs.Common.{◌≡◌, ◌≢◌, ◌⊎◌, inl, inr, ℕ, �
 use Rattle.std.specs.Prelude.{ℤ}
 use Rattle.potentials.specs.model.Programs.{Program}
 use Rattle.potentials.specs.model.Runs.{Step, count}
+use Rattle.potentials.specs.model.Bounds.{Constant, Input}
 use Rattle.potentials.specs.model.Facts.{Time, Size, Cost}
+use Rattle.potentials.specs.model.WorkedRuns.{countdown}
+use Rattle.potentials.specs.model.WorkedCosts.{paying}
 use Rattle.potentials.specs.Sums.{charges, weighed}
-use Rattle.potentials.proofs.SumLaws.{zero-sum}
-use Rattle.potentials.proofs.NodeLaws.{bounds_above}
-use Rattle.signed_bounds.specs.Bounds.{signed_val}
-use Rattle.signed_bounds.specs.Inputs.{signed_of_bound, SignedBoundsKeepValues}
+use Rattle.potentials.proofs.model.WorkedCosts.{costs_hold}
+use Rattle.signed_bounds.specs.Inputs.{SignedBoundsKeepValues}
 use Rattle.potential_nodes.specs.Facts.{once_charge}
-use Rattle.potential_nodes.specs.PlainFacts.{PlainFactsHold}
+use Rattle.potential_nodes.specs.PlainFacts.{PlainFactsHold, SignedCostsAreCosts}
+use Rattle.potential_nodes.specs.WorkedCosts.{CostsAreWorkedOut}
+use Rattle.potential_nodes.proofs.CostLaws.{spent-charged}
 use Rattle.std.proofs.lemmas.Bool.Decides.{eqb_tells}
 use Rattle.potentials.proofs.model.RunLaws.{one_if_same-same}
 
@@ -40,6 +43,38 @@ plain-facts keep p (Size t i b) holds = record {
       let same = keep.each b start in
       omega (arith, size, same);
 }
-plain-facts keep p (Cost t b) holds =
-    bounds_above p (charges []) (λ start. 0) (signed_val (signed_of_bound b)) (λ start. omega arith)
-    (zero-sum p (charges []) (λ u env. refl))
+plain-facts keep p (Cost t b) holds = record {
+  each = λ start steps c run.
+      let sum = spent-charged p t start steps in
+      let cost = holds.each start steps c run in
+      let same = keep.each b start in
+      omega (arith, sum, cost, same);
+}
+
+pub signed-costs : SignedBoundsKeepValues → SignedCostsAreCosts
+signed-costs keep = record {
+  each = λ p t b holds. record {
+    each = λ start steps c run.
+        let sum = spent-charged p t start steps in
+        let cost = holds.each start steps c run in
+        let same = keep.each b start in
+        omega (arith, sum, cost, same);
+  };
+}
+
+-- facts on costs as they were worked out
+pub costs-worked_out : SignedBoundsKeepValues → CostsAreWorkedOut
+costs-worked_out keep = record {
+  entering = refl;
+  rounds = refl;
+  none_written = refl;
+  no_rule = refl;
+  entry = refl;
+  entering_holds = plain-facts keep paying (Cost 1 (Input 0)) costs_hold.entering;
+  entering_less = λ h. costs_hold.entering_less ((signed-costs keep).each paying 1 (Constant 2) h);
+  entering_by_other = λ h. costs_hold.entering_by_other ((signed-costs keep).each paying 1 (Input 1) h);
+  rounds_hold = plain-facts keep paying (Cost 2 (Input 1)) costs_hold.rounds;
+  rounds_less = λ h. costs_hold.rounds_less ((signed-costs keep).each paying 2 (Constant 6) h);
+  plain_holds = plain-facts keep countdown (Cost 2 (Constant 9)) costs_hold.plain;
+  plain_less = λ h. costs_hold.plain_less ((signed-costs keep).each countdown 2 (Constant 2) h);
+}

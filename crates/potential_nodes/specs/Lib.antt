@@ -4,6 +4,7 @@ pub mod PolynomialTerms
 pub mod Certificates
 pub mod Ground
 pub mod Facts
+pub mod Costs
 pub mod PlainFacts
 pub mod Checks
 pub mod Tables
@@ -19,6 +20,7 @@ pub mod FactMeanings
 pub mod Laws
 -- values that were worked out by hand
 pub mod Worked
+pub mod WorkedCosts
 -- the crates below, which callers name through this one
 pub use Rattle.potentials.specs.model
 pub use Rattle.potentials.specs as potentials

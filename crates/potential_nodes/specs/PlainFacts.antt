@@ -1,16 +1,22 @@
 -- Facts over absolute start values as signed facts.
-use Rattle.std.specs.Prelude.{[], ◌∷◌}
+use Rattle.std.specs.Prelude.{ℕ, [], ◌∷◌}
 use Rattle.potentials.specs.model.Programs.{Program}
-use Rattle.potentials.specs.model.Facts.{Fact, Time, Size, Cost, Holds}
+use Rattle.potentials.specs.model.Bounds.{Bound}
+use Rattle.potentials.specs.model.Facts.{Fact, Time, Size, Cost, Holds, HoldsCost}
 use Rattle.signed_bounds.specs.Inputs.{signed_of_bound}
 use Rattle.potential_nodes.specs.Facts.{SignedFact, SumFact, SizeFact, HoldsSigned, once_charge}
+use Rattle.potential_nodes.specs.Costs.{cost_charge}
 
--- how often a rule occurs is the sum of 1 over its steps, and a size stays one; of a cost nothing is said
-abbrev pub signed_fact : Fact → SignedFact
-signed_fact (Time t b) = SumFact (once_charge t ∷ []) (signed_of_bound b)
-signed_fact (Size t i b) = SizeFact t i (signed_of_bound b)
-signed_fact (Cost t b) = SumFact [] (signed_of_bound b)
+-- how often a rule occurs is the sum of 1 over its steps, what its steps cost is the sum of its cost, and a size stays one
+abbrev pub signed_fact : Program → Fact → SignedFact
+signed_fact p (Time t b) = SumFact (once_charge t ∷ []) (signed_of_bound b)
+signed_fact p (Size t i b) = SizeFact t i (signed_of_bound b)
+signed_fact p (Cost t b) = SumFact (cost_charge p t ∷ []) (signed_of_bound b)
 
 -- a fact holds as a signed one
 abbrev pub PlainFactsHold : Type 0
-PlainFactsHold = (p : Program) (fact : Fact) → Holds p fact → HoldsSigned p (signed_fact fact)
+PlainFactsHold = (p : Program) (fact : Fact) → Holds p fact → HoldsSigned p (signed_fact p fact)
+
+-- what the signed fact of a cost says of the sum is what the fact says of the cost
+pub record SignedCostsAreCosts : Type 0 where
+  pub each : (p : Program) (t : ℕ) (b : Bound) → HoldsSigned p (signed_fact p (Cost t b)) → HoldsCost p t b

@@ -5,12 +5,13 @@
 
 ghost use Rattle.potential_nodes.specs.Certificates.{CertificatesOfProductsHold};
 ghost use Rattle.potential_nodes.specs.Checks.{RefusalsAreFailures};
-ghost use Rattle.potential_nodes.specs.PlainFacts.{PlainFactsHold};
+ghost use Rattle.potential_nodes.specs.PlainFacts.{PlainFactsHold, SignedCostsAreCosts};
 ghost use Rattle.potential_nodes.specs.Acceptance.{AcceptedNodesHold, AcceptedLemmasHold, FirstRefusalsAreFirst};
 ghost use Rattle.potential_nodes.specs.FactMeanings.{FactsBoundRuns};
 ghost use Rattle.potential_nodes.specs.Laws.{FallsAreSound, PeaksAreSound};
 ghost use Rattle.potential_nodes.specs.Worked.{CertificatesAreWorkedOut, FallsAreWorkedOut, PeaksAreWorkedOut};
 ghost use Rattle.potential_nodes.specs.Worked.{CombinationsAreWorkedOut, PhaseNodesAreWorkedOut, LoopsAreBounded};
+ghost use Rattle.potential_nodes.specs.WorkedCosts.{CostsAreWorkedOut};
 
 /// A goal that a certificate shows is at least 0 wherever the rows are.
 pub fn certificates_of_products_hold()
@@ -37,6 +38,20 @@ pub fn facts_bound_runs()
 /// A fact over the absolute values of the start arguments holds as a signed one.
 pub fn plain_facts_hold()
     ensures { PlainFactsHold }
+{
+    signed_bounds::signed_bounds_keep_values();
+}
+
+/// The sum that a fact on a rule's cost says something of as a signed one is what the rule's steps spend.
+pub fn signed_costs_are_costs()
+    ensures { SignedCostsAreCosts }
+{
+    signed_bounds::signed_bounds_keep_values();
+}
+
+/// Facts on costs as signed ones are what was worked out by hand, and hold or don't.
+pub fn costs_are_as_worked_out()
+    ensures { CostsAreWorkedOut }
 {
     signed_bounds::signed_bounds_keep_values();
 }

@@ -1,8 +1,7 @@
--- What an accepted claim comes to holds on all runs of the program.
+-- What lemmas say of a program that simulates another holds of the other.
 use Rattle.std.proofs.Common.{◌≡◌, ◌≢◌, ◌⊎◌, inl, inr, ◌≤◌, ℕ, zero, suc, ◌==◌, true, false, List, [], ◌∷◌}
 use Rattle.std.proofs.Common.{map, Option, Some, None, refl, sym, ap, ◌∙◌, subst, arith}
-use Rattle.std.specs.Prelude.{ℤ, pos, negsuc, neg_ℤ, ◌≤ℤ◌, nat_abs, Bool, slice_get, if◌then◌else◌, ⊤}
-use Rattle.std.specs.Option.{option_map}
+use Rattle.std.specs.Prelude.{ℤ, pos, negsuc, neg_ℤ, ◌≤ℤ◌, nat_abs, slice_get}
 use Rattle.std.proofs.lemmas.Int.{ints}
 use Rattle.std.proofs.lemmas.Bool.Decides.{eqb_tells}
 use Rattle.model.specs.Terms.{Term, Negation}
@@ -11,10 +10,9 @@ use Rattle.model.specs.Polynomials.{Polynomial, polynomial_value}
 use Rattle.model.specs.Runs.{Config, Step, IsRun, last_rule, place_value}
 use Rattle.model.specs.Spending.{or_zero, cost_at, cost_by}
 use Rattle.model.proofs.Cases.{none_some, some_same}
+use Rattle.poly_terms.specs.Expanding.{expanded}
 use Rattle.poly_terms.proofs.Values.{expanded-value}
 use Rattle.refinement.specs.Simulation.{Projection, config_below, step_below, Simulates}
-use Rattle.refinement.specs.Sections.{spelled, projection_of, HasFactsOf}
-use Rattle.refinement.specs.Laws.{same_numbers}
 use Rattle.refinement.proofs.Bounds.{cost-below}
 use Rattle.refinement.proofs.Keeping.{simulation_keeps_bounds}
 use Rattle.signed_bounds.specs.Bounds.{Signed, signed_val}
@@ -22,28 +20,17 @@ use Rattle.signed_bounds.specs.Safe.{IsSafe, expands_to_squares}
 use Rattle.signed_bounds.specs.Within.{WithinHolds}
 use Rattle.potentials.specs.Sums.{Weight, weighed, charges, once_for, cost_for, cost_of_each, HoldsSum}
 use Rattle.potentials.proofs.SumLaws.{count-is, spent-is, spent-all-is}
-use Rattle.potential_nodes.specs.Facts.{SignedFact, PeakFact, SizeFact, HoldsSigned, AllSignedHold, sum_bound, one_form}
-use Rattle.potential_nodes.specs.Facts.{is_never}
+use Rattle.potential_nodes.specs.Facts.{SignedFact, PeakFact, SizeFact, HoldsSigned, AllSignedHold, one_form, is_never}
 use Rattle.potential_nodes.specs.FactMeanings.{HasUpdate}
 use Rattle.potential_nodes.proofs.BoundLaws.{within-above}
-use Rattle.potential_nodes.proofs.FactLaws.{sum_bound-holds, never-steps}
+use Rattle.potential_nodes.proofs.FactLaws.{never-steps}
 use Rattle.potential_nodes.proofs.FactMeaningLaws.{facts_bound_runs}
-use Rattle.program_claims.specs.Claims.{Claim, OnTime, OnCost, OnTotal, OnAbove, OnBelow}
-use Rattle.program_claims.specs.Claims.{Stated, Time, Cost, Total, Above, Below, HoldsOf, AllHoldOf}
-use Rattle.poly_terms.specs.Expanding.{expanded}
-use Rattle.program_claims.specs.Copies.{copies_of, charge_each, cost_charges, update_at, written_cost}
-use Rattle.program_claims.specs.Acceptance.{are_heads_within, time_stated, cost_stated, above_stated, below_stated}
-use Rattle.program_claims.specs.Acceptance.{stated_by, with_stated, all_stated}
-use Rattle.program_claims.specs.Laws.{AcceptedClaimsHold, OwnClaimsHold}
+use Rattle.program_claims.specs.Claims.{Time, Cost, Total, Above, Below, HoldsOf}
+use Rattle.program_claims.specs.Copies.{copies_of, charge_each, cost_charges, update_at}
+use Rattle.program_claims.specs.Heads.{are_heads_within}
 use Rattle.program_claims.proofs.Weights.{weighed-at_most, weighed-below}
 use Rattle.program_claims.proofs.CopyLaws.{copy-charged, cost-charged}
 use Rattle.program_claims.proofs.PeakBounds.{HasHead, copy-bounded}
-
--- an option that is mapped to something is there
-mapped : {A B : Type 0} (f : A → B) (o : Option A) (y : B) → option_map f o ≡ Some y
-    → (x : A) × (o ≡ Some x) × (y ≡ f x)
-mapped f None y h = absurd (none_some y h)
-mapped f (Some x) y h = (x, refl, sym (some_same (f x) y h))
 
 -- a rule that is there has a number other than 0
 numbered-above : (p : Program) (t : ℕ) (r : Rule) → rule_at p t ≡ Some r → t ≢ 0
@@ -51,7 +38,7 @@ numbered-above p zero r h e = none_some r h
 numbered-above p (suc t) r h e = omega (arith, e)
 
 -- the rule that an update, or a cost, is of
-of-rule : (p : Program) (t place : ℕ) (u : Term) → update_at (rule_at p t) place ≡ Some u
+pub of-rule : (p : Program) (t place : ℕ) (u : Term) → update_at (rule_at p t) place ≡ Some u
     → (r : Rule) × (i : ℕ) × (rule_at p t ≡ Some r) × (place ≡ suc i) × (slice_get r.updates i ≡ Some u)
 of-rule p t place u h = go (rule_at p t) refl place refl h
   where
@@ -95,11 +82,10 @@ module _ (p q : Program) (o : Projection) (HasFacts : Config → Type 0) (simula
   charged n form zero r env h below = absurd (none_some r h)
   charged n form (suc k) r env h below = copy-charged o n form env 1 q.rules k (suc k) r h (omega arith) below
 
-  time-holds : (n m : ℕ) (r : Rule) (b : Signed) → rule_at p n ≡ Some r
-      → sum_bound facts (charge_each one_form (copies_of q o n)) m ≡ Some b → HoldsOf p (Time n b)
-  time-holds n m r b there stated = record {
+  pub time-holds : (n : ℕ) (r : Rule) (b : Signed) → rule_at p n ≡ Some r
+      → HoldsSum q (charges (charge_each one_form (copies_of q o n))) (signed_val b) → HoldsOf p (Time n b)
+  time-holds n r b there sum = record {
     each = λ start steps c run.
-        let sum = sum_bound-holds q facts hold (charge_each one_form (copies_of q o n)) m b stated in
         let counted = count-is p n (numbered-above p n r there) start steps in
         let most = below-sum (once_for n) (charges (charge_each one_form (copies_of q o n))) (signed_val b) weight sum
         start steps c run in
@@ -115,11 +101,10 @@ module _ (p q : Program) (o : Projection) (HasFacts : Config → Type 0) (simula
           go (inl (test, e)) = rw test (charged n one_form t copy env h e)
           go (inr (test, other)) = rw test (omega arith)
 
-  cost-holds : (n m : ℕ) (r : Rule) (k : Term) (b : Signed) → rule_at p n ≡ Some r → r.cost ≡ Some k
-      → sum_bound facts (charge_each (expanded k) (copies_of q o n)) m ≡ Some b → HoldsOf p (Cost n b)
-  cost-holds n m r k b there written stated = record {
+  pub cost-holds : (n : ℕ) (r : Rule) (k : Term) (b : Signed) → rule_at p n ≡ Some r → r.cost ≡ Some k
+      → HoldsSum q (charges (charge_each (expanded k) (copies_of q o n))) (signed_val b) → HoldsOf p (Cost n b)
+  cost-holds n r k b there written sum = record {
     each = λ start steps c run.
-        let sum = sum_bound-holds q facts hold (charge_each (expanded k) (copies_of q o n)) m b stated in
         let paid = spent-is p n start steps in
         let most = below-sum (cost_for p n) (charges (charge_each (expanded k) (copies_of q o n))) (signed_val b) weight
         sum start steps c run in
@@ -142,10 +127,9 @@ module _ (p q : Program) (o : Projection) (HasFacts : Config → Type 0) (simula
               let value = value-is e in let all = charged n (expanded k) t copy env h e in rw test (omega (arith, value, all))
           go (inr (test, other)) = rw test (omega arith)
 
-  total-holds : (m : ℕ) (b : Signed) → sum_bound facts (cost_charges 1 q.rules) m ≡ Some b → HoldsOf p (Total b)
-  total-holds m b stated = record {
+  pub total-holds : (b : Signed) → HoldsSum q (charges (cost_charges 1 q.rules)) (signed_val b) → HoldsOf p (Total b)
+  total-holds b sum = record {
     each = λ start steps c run.
-        let sum = sum_bound-holds q facts hold (cost_charges 1 q.rules) m b stated in
         let paid = spent-all-is p start steps in
         let most = below-sum (cost_of_each p) (charges (cost_charges 1 q.rules)) (signed_val b) weight sum start steps c
         run in
@@ -227,7 +211,7 @@ module _ (p q : Program) (o : Projection) (HasFacts : Config → Type 0) (simula
             (size.each start (s ∷ earlier) end (b, run, step) refl) in
             omega (arith, ints, low, most)
 
-    above-holds : are_heads_within facts (expanded u) (suc i) bound (copies_of q o n) ns ≡ true
+    pub above-holds : are_heads_within facts (expanded u) (suc i) bound (copies_of q o n) ns ≡ true
         → HoldsOf p (Above n (suc i) bound)
     above-holds stated = record {
       each = λ start steps c run last.
@@ -244,7 +228,7 @@ module _ (p q : Program) (o : Projection) (HasFacts : Config → Type 0) (simula
             (update-below n i u r there at s.rule step.rule step.numbered last)
             (headed (expanded u) stated s.rule step.rule step.numbered last)
 
-    below-holds : are_heads_within facts (expanded (Negation u)) (suc i) bound (copies_of q o n) ns ≡ true
+    pub below-holds : are_heads_within facts (expanded (Negation u)) (suc i) bound (copies_of q o n) ns ≡ true
         → HoldsOf p (Below n (suc i) bound)
     below-holds stated = record {
       each = λ start steps c run last.
@@ -261,118 +245,3 @@ module _ (p q : Program) (o : Projection) (HasFacts : Config → Type 0) (simula
             below-end start s earlier end (b, run, step) last
             (update-below n i u r there at s.rule step.rule step.numbered last)
             (headed (expanded (Negation u)) stated s.rule step.rule step.numbered last)
-
-  -- each kind of claim
-  time-claim : (n m : ℕ) (x : Option Rule) → rule_at p n ≡ x → (s : Stated)
-      → time_stated x n (sum_bound facts (charge_each one_form (copies_of q o n)) m) ≡ Some s → HoldsOf p s
-  time-claim n m None e s h = absurd (none_some s h)
-  time-claim n m (Some r) e s h =
-      let (b, stated, is) = mapped (Time n) (sum_bound facts (charge_each one_form (copies_of q o n)) m) s h in
-      subst (λ (x : Stated). HoldsOf p x) (sym is) (time-holds n m r b e stated)
-
-  cost-claim : (n m : ℕ) (x : Option Rule) → rule_at p n ≡ x → (y : Option Term) → written_cost x ≡ y → (s : Stated)
-      → cost_stated q o facts n m y ≡ Some s → HoldsOf p s
-  cost-claim n m x e None w s h = absurd (none_some s h)
-  cost-claim n m None e (Some k) w s h = absurd (none_some k w)
-  cost-claim n m (Some r) e (Some k) w s h =
-      let (b, stated, is) = mapped (Cost n) (sum_bound facts (charge_each (expanded k) (copies_of q o n)) m) s h in
-      subst (λ (x : Stated). HoldsOf p x) (sym is) (cost-holds n m r k b e w stated)
-
-  total-claim : (m : ℕ) (s : Stated) → option_map Total (sum_bound facts (cost_charges 1 q.rules) m) ≡ Some s
-      → HoldsOf p s
-  total-claim m s h =
-      let (b, stated, is) = mapped Total (sum_bound facts (cost_charges 1 q.rules) m) s h in
-      subst (λ (x : Stated). HoldsOf p x) (sym is) (total-holds m b stated)
-
-  module _ (within_holds : WithinHolds) (safe : IsSafe expands_to_squares) where
-    above-claim : (n place : ℕ) (ns : List ℕ) (bound : Signed) (y : Option Term) → update_at (rule_at p n) place ≡ y
-        → (s : Stated) → above_stated q o facts n place ns bound y ≡ Some s → HoldsOf p s
-    above-claim n place ns bound None e s h = absurd (none_some s h)
-    above-claim n place ns bound (Some u) e s h =
-        go (are_heads_within facts (expanded u) place bound (copies_of q o n) ns) refl h (of-rule p n place u e)
-      where
-        go : (v : Bool) → are_heads_within facts (expanded u) place bound (copies_of q o n) ns ≡ v
-            → (if v then Some (Above n place bound) else None) ≡ Some s
-            → (r : Rule) × (i : ℕ) × (rule_at p n ≡ Some r) × (place ≡ suc i) × (slice_get r.updates i ≡ Some u)
-            → HoldsOf p s
-        go false stated k at = absurd (none_some s k)
-        go true stated k (r, i, there, same, at) =
-            let fits : are_heads_within facts (expanded u) (suc i) bound (copies_of q o n) ns ≡ true =
-            subst (λ (j : ℕ). are_heads_within facts (expanded u) j bound (copies_of q o n) ns ≡ true) same stated in
-            subst (λ (x : Stated). HoldsOf p x) (ap (λ (j : ℕ). Above n j bound) (sym same) ∙ some_same (Above n place bound) s k)
-            (above-holds within_holds safe n i u r ns bound there at fits)
-
-    below-claim : (n place : ℕ) (ns : List ℕ) (bound : Signed) (y : Option Term) → update_at (rule_at p n) place ≡ y
-        → (s : Stated) → below_stated q o facts n place ns bound y ≡ Some s → HoldsOf p s
-    below-claim n place ns bound None e s h = absurd (none_some s h)
-    below-claim n place ns bound (Some u) e s h =
-        go (are_heads_within facts (expanded (Negation u)) place bound (copies_of q o n) ns) refl h (of-rule p n place u e)
-      where
-        go : (v : Bool) → are_heads_within facts (expanded (Negation u)) place bound (copies_of q o n) ns ≡ v
-            → (if v then Some (Below n place bound) else None) ≡ Some s
-            → (r : Rule) × (i : ℕ) × (rule_at p n ≡ Some r) × (place ≡ suc i) × (slice_get r.updates i ≡ Some u)
-            → HoldsOf p s
-        go false stated k at = absurd (none_some s k)
-        go true stated k (r, i, there, same, at) =
-            let fits : are_heads_within facts (expanded (Negation u)) (suc i) bound (copies_of q o n) ns ≡ true =
-            subst (λ (j : ℕ). are_heads_within facts (expanded (Negation u)) j bound (copies_of q o n) ns ≡ true) same
-            stated in
-            subst (λ (x : Stated). HoldsOf p x) (ap (λ (j : ℕ). Below n j bound) (sym same) ∙ some_same (Below n place bound) s k)
-            (below-holds within_holds safe n i u r ns bound there at fits)
-
-    claim-holds : (claim : Claim) (s : Stated) → stated_by p q o facts claim ≡ Some s → HoldsOf p s
-    claim-holds (OnTime n m) s h = time-claim n m (rule_at p n) refl s h
-    claim-holds (OnCost n m) s h = cost-claim n m (rule_at p n) refl (written_cost (rule_at p n)) refl s h
-    claim-holds (OnTotal m) s h = total-claim m s h
-    claim-holds (OnAbove n place ns bound) s h = above-claim n place ns bound (update_at (rule_at p n) place) refl s h
-    claim-holds (OnBelow n place ns bound) s h = below-claim n place ns bound (update_at (rule_at p n) place) refl s h
-
-    claims-hold : (claims : List Claim) → AllHoldOf p (all_stated p q o facts claims)
-    claims-hold [] = tt
-    claims-hold (claim ∷ claims) = go (stated_by p q o facts claim) refl (claims-hold claims)
-      where
-        go : (x : Option Stated) → stated_by p q o facts claim ≡ x → AllHoldOf p (all_stated p q o facts claims)
-            → AllHoldOf p (with_stated x (all_stated p q o facts claims))
-        go None e ih = ih
-        go (Some s) e ih = (claim-holds claim s e, ih)
-
-pub claims_hold : WithinHolds → IsSafe expands_to_squares → AcceptedClaimsHold
-claims_hold within_holds safe = record {
-  one = λ p s runs facts hold. claim-holds p (spelled p s) (projection_of p s) (HasFactsOf s) runs.simulates facts hold
-      within_holds safe;
-  all = λ p s runs facts hold. claims-hold p (spelled p s) (projection_of p s) (HasFactsOf s) runs.simulates facts hold
-      within_holds safe;
-}
-
--- a program simulates itself
-itself : (p : Program) → Simulates p p same_numbers (λ c. ⊤)
-itself p = record {
-  start = refl;
-  places = refl;
-  entry = refl;
-  first = λ c at. tt;
-  copies = λ t copy h. record {
-    rule = copy;
-    numbered = h;
-    copies = record { left = refl; free = refl; updates = refl; cost = refl; source = refl; target = refl };
-  };
-  covered = λ t r c free facts h enabled. record {
-    number = t;
-    rule = r;
-    numbered = h;
-    above = refl;
-    enabled = record {
-      source = enabled.source;
-      left = enabled.left;
-      free_ones = enabled.free_ones;
-      guard = enabled.guard;
-    };
-  };
-  kept = λ t r copy c d free facts h below guard leads. tt;
-}
-
-pub own_claims_hold : WithinHolds → IsSafe expands_to_squares → OwnClaimsHold
-own_claims_hold within_holds safe = record {
-  all = λ p facts hold claims.
-      claims-hold p p same_numbers (λ c. ⊤) (itself p) facts hold within_holds safe claims;
-}

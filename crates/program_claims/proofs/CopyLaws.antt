@@ -1,6 +1,6 @@
 -- The copies of a rule are charged what is charged at each of them, and each rule is charged its cost.
 use Rattle.std.proofs.Common.{◌≡◌, ◌≢◌, ◌⊎◌, inl, inr, ◌≤◌, ◌+◌, ℕ, zero, suc, ◌==◌, true, false, List, [], ◌∷◌}
-use Rattle.std.proofs.Common.{Option, Some, None, refl, sym, ap, ◌∙◌, arith}
+use Rattle.std.proofs.Common.{Option, Some, sym, ap, ◌∙◌, arith}
 use Rattle.std.specs.Prelude.{ℤ, slice_get}
 use Rattle.std.proofs.lemmas.Bool.Decides.{eqb_tells}
 use Rattle.model.specs.Terms.{Term}
@@ -8,10 +8,11 @@ use Rattle.model.specs.Programs.{Rule}
 use Rattle.model.specs.Polynomials.{Polynomial, polynomial_value}
 use Rattle.model.specs.Spending.{or_zero, cost_at}
 use Rattle.model.proofs.Cases.{none_some, some_same}
-use Rattle.poly_terms.proofs.Values.{expanded-value}
 use Rattle.refinement.specs.Simulation.{Projection}
 use Rattle.potentials.specs.Sums.{Charge, charges}
-use Rattle.program_claims.specs.Copies.{copies_from, charge_by, charge_each, cost_form, cost_charges}
+use Rattle.potential_nodes.specs.Costs.{cost_form}
+use Rattle.potential_nodes.proofs.CostLaws.{cost_form-value}
+use Rattle.program_claims.specs.Copies.{copies_from, charge_by, charge_each, cost_charges}
 
 -- what a rule is charged by its own charge in front of others
 pub charged-first : (form : Polynomial) (t u : ℕ) (cs : List Charge) (env : List ℤ) → u ≡ t
@@ -54,11 +55,6 @@ module _ (o : Projection) (n : ℕ) (form : Polynomial) (env : List ℤ) where
           (charge_each form (copies_from o n (suc t) rules)) u env ih)
       go (inr (test, other)) ih = rw test ih
 
--- the polynomial of a cost has its value
-pub cost-form : (cost : Option Term) (env : List ℤ) → cost_at cost env ≡ or_zero (polynomial_value (cost_form cost) env)
-cost-form None env = refl
-cost-form (Some c) env = ap or_zero (sym (expanded-value c env))
-
 -- each rule is charged its cost
 pub cost-charged : (t : ℕ) (rules : List Rule) (k u : ℕ) (r : Rule) (env : List ℤ) → slice_get rules k ≡ Some r
     → u ≡ t + k → cost_at r.cost env ≤ charges (cost_charges t rules) u env
@@ -66,7 +62,7 @@ cost-charged t [] k u r env h at = absurd (none_some r h)
 cost-charged t (r' ∷ rules) zero u r env h at =
     let same : r'.cost ≡ r.cost = ap (λ (x : Rule). x.cost) (some_same r' r h) in
     let value : cost_at r.cost env ≡ or_zero (polynomial_value (cost_form r'.cost) env) =
-    ap (λ (x : Option Term). cost_at x env) (sym same) ∙ cost-form r'.cost env in
+    ap (λ (x : Option Term). cost_at x env) (sym same) ∙ cost_form-value r'.cost env in
     let charged = charged-first (cost_form r'.cost) t u (cost_charges (suc t) rules) env (omega (arith, at)) in
     omega (arith, value, charged)
 cost-charged t (r' ∷ rules) (suc k) u r env h at =

@@ -1,6 +1,10 @@
 mod Weights
 mod CopyLaws
+mod VerdictLaws
+mod SumBounds
+mod SymbolLaws
 mod PeakBounds
 pub mod ClaimLaws
+mod AcceptedLaws
 mod ListLaws
 mod WorkedMeanings

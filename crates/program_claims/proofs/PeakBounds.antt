@@ -19,7 +19,7 @@ use Rattle.potential_nodes.specs.PlainPeaks.{size_in, first_of_two}
 use Rattle.potential_nodes.proofs.LookupLaws.{both-hold, all-numbered}
 use Rattle.potential_nodes.proofs.FactLaws.{peak_bound-holds}
 use Rattle.program_claims.specs.Copies.{copies_from}
-use Rattle.program_claims.specs.Acceptance.{head_bound, is_head_within, are_heads_within}
+use Rattle.program_claims.specs.Heads.{head_bound, is_head_within, are_heads_within}
 
 -- a bound that is within another one, and why it holds of a copy: it never occurs, or the form has this peak there, or
 -- the place this size after it

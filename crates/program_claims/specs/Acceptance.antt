@@ -1,93 +1,111 @@
 -- When a claim is accepted, and what it states.
-use Rattle.std.specs.Prelude.{ℕ, zero, suc, Bool, true, false, ◌&&◌, if◌then◌else◌, List, [], ◌∷◌, Option, Some, None}
-use Rattle.std.specs.Option.{option_map}
+use Rattle.std.specs.Prelude.{ℕ, suc, Bool, true, false, if◌then◌else◌, List, [], ◌∷◌, Option, Some, None}
 use Rattle.model.specs.Terms.{Term, Negation}
-use Rattle.model.specs.Programs.{Program, Rule, rule_at}
+use Rattle.model.specs.Programs.{Rule, rule_at}
 use Rattle.model.specs.Polynomials.{Polynomial}
 use Rattle.poly_terms.specs.Expanding.{expanded}
-use Rattle.refinement.specs.Simulation.{Projection}
-use Rattle.signed_bounds.specs.Bounds.{Signed, Constant}
-use Rattle.signed_bounds.specs.Safe.{expands_to_squares}
-use Rattle.signed_bounds.specs.Within.{within}
-use Rattle.potential_nodes.specs.Lookup.{numbered}
-use Rattle.potential_nodes.specs.Facts.{SignedFact, sum_bound, peak_bound, one_form, is_never}
-use Rattle.potential_nodes.specs.PlainPeaks.{size_in, first_of_two}
-use Rattle.program_claims.specs.Claims.{Claim, OnTime, OnCost, OnTotal, OnAbove, OnBelow}
-use Rattle.program_claims.specs.Claims.{Stated, Time, Cost, Total, Above, Below}
-use Rattle.program_claims.specs.Copies.{copies_of, charge_each, cost_charges, update_at, written_cost}
+use Rattle.refinement.specs.Sections.{Copy}
+use Rattle.signed_bounds.specs.Bounds.{Signed}
+use Rattle.potential_nodes.specs.Facts.{one_form}
+use Rattle.program_claims.specs.Claims.{Support, Claim, OnTime, OnCost, OnTotal, OnAbove, OnBelow, OnSymbol}
+use Rattle.program_claims.specs.Claims.{Stated, Time, Cost, Total, Above, Below, AtSymbol}
+use Rattle.program_claims.specs.Copies.{copies_of, charge_each, cost_charges, update_at}
+use Rattle.program_claims.specs.Evidence.{Evidence}
+use Rattle.program_claims.specs.Verdicts.{ClaimReason, NoRule, NoCost, NoPlace, NoCopy, NoFact, BadLemma, LowBound}
+use Rattle.program_claims.specs.Verdicts.{Verdict, Accepted, Refused, verdict_map}
+use Rattle.program_claims.specs.Sums.{charges_bound}
+use Rattle.program_claims.specs.Heads.{are_heads_within, are_heads_there}
+use Rattle.program_claims.specs.SymbolFacts.{has_copy, have_facts_below}
 
--- What a form is at most at the steps of copy t, by the lemma with a number: by the peak of the form, or by the size of
--- the place after the copy, whose absolute value is at least the form's. A copy that never occurs needs no lemma, which
--- the number 0 says.
-abbrev pub head_bound : List SignedFact → Polynomial → ℕ → ℕ → ℕ → Option Signed
-head_bound facts form place t zero = if is_never facts t then Some (Constant 0) else None
-head_bound facts form place t (suc n) =
-    first_of_two (peak_bound facts t form (suc n)) (size_in t place (numbered facts (suc n)))
+-- the bound of a form's sum over the steps of all copies of a rule
+abbrev pub copies_bound : Evidence → ℕ → Support → Polynomial → Verdict Signed
+copies_bound e rule support form =
+    charges_bound e.facts (charge_each form (copies_of e.above e.projection rule)) support
 
--- whether a bound that is there is at most another one
-abbrev pub is_head_within : Signed → Option Signed → Bool
-is_head_within bound None = false
-is_head_within bound (Some b) = within expands_to_squares 1 b bound
+-- what a claim on the time of a rule states, where there is the rule: a bound on the sum of 1 over the steps of all copies
+abbrev pub time_stated : Evidence → ℕ → Support → Option Rule → Verdict Stated
+time_stated e rule support None = Refused NoRule
+time_stated e rule support (Some r) = verdict_map (Time rule) (copies_bound e rule support one_form)
 
--- whether the lemmas with these numbers bound a form by at most this bound at each of these rules, one lemma for each
-abbrev pub are_heads_within : List SignedFact → Polynomial → ℕ → Signed → List ℕ → List ℕ → Bool
-are_heads_within facts form place bound [] [] = true
-are_heads_within facts form place bound [] (n ∷ ns) = false
-are_heads_within facts form place bound (t ∷ ts) [] = false
-are_heads_within facts form place bound (t ∷ ts) (n ∷ ns) =
-    is_head_within bound (head_bound facts form place t n) && are_heads_within facts form place bound ts ns
+-- what a claim on the cost of a rule states, where one is written: a bound on the sum of the cost over the steps of all
+-- copies
+abbrev pub written_stated : Evidence → ℕ → Support → Option Term → Verdict Stated
+written_stated e rule support None = Refused NoCost
+written_stated e rule support (Some c) = verdict_map (Cost rule) (copies_bound e rule support (expanded c))
 
--- what a claim on the time of a rule states: its lemma bounds the sum of 1 over the steps of all copies of the rule
-abbrev pub time_stated : Option Rule → ℕ → Option Signed → Option Stated
-time_stated None rule bound = None
-time_stated (Some r) rule bound = option_map (Time rule) bound
+abbrev pub cost_stated : Evidence → ℕ → Support → Option Rule → Verdict Stated
+cost_stated e rule support None = Refused NoRule
+cost_stated e rule support (Some r) = written_stated e rule support r.cost
 
--- what a claim on the cost of a rule that has one states: its lemma bounds the sum of the cost over the steps of all copies
-abbrev pub cost_stated : Program → Projection → List SignedFact → ℕ → ℕ → Option Term → Option Stated
-cost_stated q o facts rule n None = None
-cost_stated q o facts rule n (Some c) =
-    option_map (Cost rule) (sum_bound facts (charge_each (expanded c) (copies_of q o rule)) n)
+-- why there is no update of a place
+abbrev pub no_update : Option Rule → ClaimReason
+no_update None = NoRule
+no_update (Some r) = NoPlace
+
+-- whether lemmas bound a form at the steps of each copy of a rule by at most the bound; what is stated where they do, and
+-- else the reason
+abbrev pub are_copies_within : Evidence → ℕ → ℕ → List ℕ → Signed → Polynomial → Bool
+are_copies_within e rule place ns bound form =
+    are_heads_within e.facts form place bound (copies_of e.above e.projection rule) ns
+
+abbrev pub head_reason : Bool → ClaimReason
+head_reason false = BadLemma
+head_reason true = LowBound
+
+abbrev pub copies_stated : Evidence → ℕ → ℕ → List ℕ → Signed → Polynomial → Stated → Verdict Stated
+copies_stated e rule place ns bound form stated =
+    if are_copies_within e rule place ns bound form then Accepted stated
+    else Refused (head_reason (are_heads_there e.facts form place (copies_of e.above e.projection rule) ns))
 
 -- What a claim on the value at a place states, from above and from below: its lemmas bound the new value, or its opposite,
 -- by at most the bound of the claim at the steps of each copy.
-abbrev pub above_stated : Program → Projection → List SignedFact → ℕ → ℕ → List ℕ → Signed → Option Term → Option Stated
-above_stated q o facts rule place ns bound None = None
-above_stated q o facts rule place ns bound (Some u) =
-    if are_heads_within facts (expanded u) place bound (copies_of q o rule) ns then Some (Above rule place bound) else None
+abbrev pub above_stated : Evidence → ℕ → ℕ → List ℕ → Signed → Option Term → Verdict Stated
+above_stated e rule place ns bound None = Refused (no_update (rule_at e.program rule))
+above_stated e rule place ns bound (Some u) =
+    copies_stated e rule place ns bound (expanded u) (Above rule place bound)
 
-abbrev pub below_stated : Program → Projection → List SignedFact → ℕ → ℕ → List ℕ → Signed → Option Term → Option Stated
-below_stated q o facts rule place ns bound None = None
-below_stated q o facts rule place ns bound (Some u) =
-    if are_heads_within facts (expanded (Negation u)) place bound (copies_of q o rule) ns
-    then Some (Below rule place bound) else None
+abbrev pub below_stated : Evidence → ℕ → ℕ → List ℕ → Signed → Option Term → Verdict Stated
+below_stated e rule place ns bound None = Refused (no_update (rule_at e.program rule))
+below_stated e rule place ns bound (Some u) =
+    copies_stated e rule place ns bound (expanded (Negation u)) (Below rule place bound)
 
--- What a claim on the program p states, over lemmas with these facts of the program q, which projects to p; none where
--- it isn't accepted: where there is no such rule, no cost or no place, or a lemma that it cites says something else or too little.
-abbrev pub stated_by : Program → Program → Projection → List SignedFact → Claim → Option Stated
-stated_by p q o facts (OnTime rule n) =
-    time_stated (rule_at p rule) rule (sum_bound facts (charge_each one_form (copies_of q o rule)) n)
-stated_by p q o facts (OnCost rule n) = cost_stated q o facts rule n (written_cost (rule_at p rule))
-stated_by p q o facts (OnTotal n) = option_map Total (sum_bound facts (cost_charges 1 q.rules) n)
-stated_by p q o facts (OnAbove rule place ns bound) =
-    above_stated q o facts rule place ns bound (update_at (rule_at p rule) place)
-stated_by p q o facts (OnBelow rule place ns bound) =
-    below_stated q o facts rule place ns bound (update_at (rule_at p rule) place)
+-- what a claim on a symbol states: it has a copy, and each of its copies a fact that is at most the expression
+abbrev pub symbol_stated : ℕ → Term → List Copy → Verdict Stated
+symbol_stated symbol f copies =
+    if has_copy symbol copies
+    then (if have_facts_below symbol f copies then Accepted (AtSymbol symbol f) else Refused NoFact)
+    else Refused NoCopy
 
--- the first claim of a list that isn't accepted, by its number, where the first has number k; none where all are
-abbrev pub refused_or : ℕ → Option Stated → Option ℕ → Option ℕ
-refused_or k None later = Some k
-refused_or k (Some s) later = later
+-- what a claim states by its evidence, or why it isn't accepted
+abbrev pub stated_by : Evidence → Claim → Verdict Stated
+stated_by e (OnTime rule support) = time_stated e rule support (rule_at e.program rule)
+stated_by e (OnCost rule support) = cost_stated e rule support (rule_at e.program rule)
+stated_by e (OnTotal support) = verdict_map Total (charges_bound e.facts (cost_charges 1 e.above.rules) support)
+stated_by e (OnAbove rule place ns bound) =
+    above_stated e rule place ns bound (update_at (rule_at e.program rule) place)
+stated_by e (OnBelow rule place ns bound) =
+    below_stated e rule place ns bound (update_at (rule_at e.program rule) place)
+stated_by e (OnSymbol symbol f) = symbol_stated symbol f e.copies
 
-abbrev pub first_refused : Program → Program → Projection → List SignedFact → ℕ → List Claim → Option ℕ
-first_refused p q o facts k [] = None
-first_refused p q o facts k (claim ∷ claims) =
-    refused_or k (stated_by p q o facts claim) (first_refused p q o facts (suc k) claims)
+-- a claim that isn't accepted, by its number, and why
+pub record ClaimRefusal : Type 0 where
+  pub number : ℕ
+  pub reason : ClaimReason
+
+-- the first claim of a list that isn't accepted, where the first has number k; none where all are
+abbrev pub refused_or : ℕ → Verdict Stated → Option ClaimRefusal → Option ClaimRefusal
+refused_or k (Refused reason) later = Some (record { number = k; reason = reason })
+refused_or k (Accepted s) later = later
+
+abbrev pub first_refused : Evidence → ℕ → List Claim → Option ClaimRefusal
+first_refused e k [] = None
+first_refused e k (claim ∷ claims) = refused_or k (stated_by e claim) (first_refused e (suc k) claims)
 
 -- what claims state, those that aren't accepted left out
-abbrev pub with_stated : Option Stated → List Stated → List Stated
-with_stated None stated = stated
-with_stated (Some s) stated = s ∷ stated
+abbrev pub with_stated : Verdict Stated → List Stated → List Stated
+with_stated (Refused reason) stated = stated
+with_stated (Accepted s) stated = s ∷ stated
 
-abbrev pub all_stated : Program → Program → Projection → List SignedFact → List Claim → List Stated
-all_stated p q o facts [] = []
-all_stated p q o facts (claim ∷ claims) = with_stated (stated_by p q o facts claim) (all_stated p q o facts claims)
+abbrev pub all_stated : Evidence → List Claim → List Stated
+all_stated e [] = []
+all_stated e (claim ∷ claims) = with_stated (stated_by e claim) (all_stated e claims)

@@ -3,10 +3,9 @@ use Rattle.std.specs.Prelude.{ℕ, zero, suc, ◌==◌, if◌then◌else◌, Lis
 use Rattle.model.specs.Terms.{Term}
 use Rattle.model.specs.Programs.{Program, Rule}
 use Rattle.model.specs.Polynomials.{Polynomial}
-use Rattle.poly_terms.specs.Expanding.{expanded}
 use Rattle.refinement.specs.Simulation.{Projection}
 use Rattle.potentials.specs.Sums.{Charge}
-use Rattle.potential_nodes.specs.Facts.{one_form}
+use Rattle.potential_nodes.specs.Costs.{cost_form}
 
 -- the numbers of the rules that have rule n below them, in order, where the first of the rules has number t
 abbrev pub copies_from : Projection → ℕ → ℕ → List Rule → List ℕ
@@ -25,11 +24,6 @@ charge_by form t = record { rule = t; form = form }
 abbrev pub charge_each : Polynomial → List ℕ → List Charge
 charge_each form ts = map (charge_by form) ts
 
--- the cost of a step as a polynomial over the variables of its rule: the written cost, or 1 where none is written
-abbrev pub cost_form : Option Term → Polynomial
-cost_form None = one_form
-cost_form (Some c) = expanded c
-
 -- the charge of each rule's cost, where the first of the rules has number t
 abbrev pub cost_charges : ℕ → List Rule → List Charge
 cost_charges t [] = []
@@ -40,8 +34,3 @@ abbrev pub update_at : Option Rule → ℕ → Option Term
 update_at None place = None
 update_at (Some r) zero = None
 update_at (Some r) (suc i) = slice_get r.updates i
-
--- the written cost of a rule, where there is one
-abbrev pub written_cost : Option Rule → Option Term
-written_cost None = None
-written_cost (Some r) = r.cost

@@ -1,17 +1,17 @@
-//! What lemmas over a program that simulates another say of the other: how often its rules occur, what they cost, and
-//! how large values are after them. The functions here have no code: the contract of each is the law, or values that
-//! were worked out by hand.
+//! What lemmas over a program that simulates another say of the other: how often its rules occur, what they cost, how
+//! large values are after them, and what holds at its symbols. The functions here have no code: the contract of each is
+//! the law, or values that were worked out by hand.
 //!
 //! Builds on `refinement` (programs that simulate others) and `potential_nodes` (facts over start values). Main
 //! guarantee: what an accepted claim states holds on all runs of the program that is simulated.
 #![tactic(auto)]
 
 ghost use Rattle.program_claims.specs.Laws.{AcceptedClaimsHold, OwnClaimsHold, RefusedClaimsAreFirst};
-ghost use Rattle.program_claims.specs.Worked.{CopiesAreWorkedOut, ClaimsAreAccepted, ClaimsAreRefused};
-ghost use Rattle.program_claims.specs.Worked.{MeaningsAreWorkedOut};
+ghost use Rattle.program_claims.specs.Worked.{CopiesAreWorkedOut, MeaningsAreWorkedOut};
+ghost use Rattle.program_claims.specs.WorkedClaims.{ClaimsAreAccepted, ClaimsAreRefused};
 
-/// Where a section spells the runs of a program, and lemmas hold on the runs of what it spells, what an accepted claim
-/// states holds on all runs of the program.
+/// Where a section spells the runs of a program, with the facts of its copies, and lemmas hold on the runs of what it
+/// spells, what an accepted claim states holds on all runs of the program.
 pub fn accepted_claims_hold()
     ensures { AcceptedClaimsHold }
 {
@@ -27,7 +27,8 @@ pub fn own_claims_hold()
     signed_bounds::squares_are_safe();
 }
 
-/// Where no claim of a list is refused each is accepted, and a refusal is that of the first claim that isn't.
+/// Where no claim of a list is refused each is accepted, and a refusal has the number and the reason of the first claim
+/// that isn't.
 pub fn refused_claims_are_first()
     ensures { RefusedClaimsAreFirst }
 {}
@@ -42,7 +43,7 @@ pub fn claims_are_accepted()
     ensures { ClaimsAreAccepted }
 {}
 
-/// Claims that aren't accepted.
+/// Claims that aren't accepted, each with its reason.
 pub fn claims_are_refused()
     ensures { ClaimsAreRefused }
 {}

@@ -18,7 +18,7 @@ use Rattle.simplex_core.specs.linear_forms.RuleQuestions.{move_group, floor_grou
 use Rattle.simplex_core.proofs.linear_forms.ElementLaws.{dual-refutes}
 use Rattle.simplex_core.proofs.linear_forms.ListLaws.{after-is, length-listed, listed-is}
 use Rattle.simplex_core.proofs.linear_forms.SolutionLaws.{All-listed}
-use Rattle.simplex_core.specs.Trips.{IsScaledDual}
+use Rattle.simplex_core.specs.HitsLimit.{IsScaledDual}
 use Rattle.cert_types.proofs.rule_forms.RankSolutions.{rank-shaped}
 use Rattle.poly_terms.specs.model.Programs.{Program, Rule, rule_at}
 use Rattle.poly_terms.specs.model.Entries.{is_in}

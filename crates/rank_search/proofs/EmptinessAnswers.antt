@@ -22,7 +22,7 @@ use Rattle.simplex_core.specs.declared.answers.Answer.{Answer}
 use Rattle.simplex_core.specs.declared.answers.Answer.TheVariants.{Solution, Dual, OutOfLimits}
 use Rattle.simplex_core.specs.linear_forms.declared.limit_cause.LimitCause.{LimitCause}
 use Rattle.simplex_core.specs.Problem.{program_of}
-use Rattle.simplex_core.specs.Trips.{Trips, IsWholeAnswer}
+use Rattle.simplex_core.specs.HitsLimit.{HitsLimit, IsWholeAnswer}
 use Rattle.simplex_core.proofs.Agreement.{whole-answers-agree}
 use Rattle.cert_types.specs.declared.proof.EmptyNode.{EmptyNode}
 use Rattle.cert_types.specs.declared.answer.LimitHit.{LimitHit}
@@ -32,7 +32,7 @@ use Rattle.rule_questions.specs.EmptyAnswers.{IsPrepared, IsEmptyAnswer, empty_p
 use Rattle.rule_questions.specs.ProgramQuestions.{forms_of}
 use Rattle.rule_questions.specs.Programs.{IsProblemOf}
 use Rattle.rule_questions.proofs.Lists.{listed-agree}
-use Rattle.rule_questions.proofs.Trips.{solution-untripped, dual-untripped}
+use Rattle.rule_questions.proofs.HitsLimit.{solution-hits_no_limit, dual-hits_no_limit}
 use Rattle.rule_questions.proofs.EmptyLaws.{prepared-shaped, solution-long, solution-shows, solution-limit, dual-long}
 use Rattle.rule_questions.proofs.EmptyLaws.{dual-nonneg, dual-point}
 
@@ -75,7 +75,7 @@ module _ (m : RuleRows) (is : IsPrepared m) (pivots : ℕ) (problem : Problem)
       shows = subst (λ (ms : List ℕ). Implies (prepared_of m).rows ms minus_one) (sym all)
           (solution-shows (prepared_of m) shaped pivots s.numbers.items s.den (moved (Solution s) h));
     },
-    solution-untripped (empty_program (prepared_of m)) pivots s (moved (Solution s) h),
+    solution-hits_no_limit (empty_program (prepared_of m)) pivots s (moved (Solution s) h),
     record {
       numbers = s.numbers.items;
       den = s.den;
@@ -115,7 +115,7 @@ module _ (m : RuleRows) (is : IsPrepared m) (pivots : ℕ) (problem : Problem)
         (f ∙ ap (λ (xs : List ℤ). listed m.unknowns (λ u. at xs (0 + u))) e)
         (ap pos g ∙ (whole (at ns (0 + m.unknowns)) (dual-denominator s ns h e) ∙ ap
         (λ (xs : List ℤ). at xs (0 + m.unknowns)) e)),
-    dual-untripped (empty_program (prepared_of m)) pivots s (moved (Dual s) h),
+    dual-hits_no_limit (empty_program (prepared_of m)) pivots s (moved (Dual s) h),
     record {
       numbers = s.numbers.items;
       den = s.den;
@@ -136,4 +136,4 @@ module _ (m : RuleRows) (is : IsPrepared m) (pivots : ℕ) (problem : Problem)
       → t.question ≡ asked.Empty rule → cause_of t.cause ≡ cause_of c
       → IsEmptyAnswer (prepared_of m) rule pivots (answers.OutOfLimits t)
   limit_hit-answer c rule t h e f =
-      (e, subst (λ (k : Cause). Trips (empty_program (prepared_of m)) pivots k) (sym f) (moved (OutOfLimits c) h))
+      (e, subst (λ (k : Cause). HitsLimit (empty_program (prepared_of m)) pivots k) (sym f) (moved (OutOfLimits c) h))

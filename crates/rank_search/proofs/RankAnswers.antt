@@ -21,7 +21,7 @@ use Rattle.simplex_core.specs.declared.answers.Answer.{Answer}
 use Rattle.simplex_core.specs.declared.answers.Answer.TheVariants.{Solution, Dual, OutOfLimits}
 use Rattle.simplex_core.specs.linear_forms.declared.limit_cause.LimitCause.{LimitCause}
 use Rattle.simplex_core.specs.Problem.{program_of}
-use Rattle.simplex_core.specs.Trips.{Trips, IsWholeAnswer, IsScaledSolution}
+use Rattle.simplex_core.specs.HitsLimit.{HitsLimit, IsWholeAnswer, IsScaledSolution}
 use Rattle.simplex_core.proofs.Agreement.{whole-answers-agree}
 use Rattle.simplex_core.proofs.Certificates.{dual-excludes}
 use Rattle.cert_types.specs.cert_rules.AcceptsPlain.{IsRule}
@@ -54,7 +54,7 @@ use Rattle.rank_search.proofs.OpenPlaces.{same-coefficients}
 use Rattle.rule_questions.proofs.Pairs.{double-is}
 use Rattle.rank_search.proofs.RankSets.{in-all, symbols-same}
 use Rattle.rank_search.proofs.FunctionReading.{function-read}
-use Rattle.rule_questions.proofs.Trips.{solution-untripped, dual-untripped}
+use Rattle.rule_questions.proofs.HitsLimit.{solution-hits_no_limit, dual-hits_no_limit}
 
 module _ (p : Program) (prepared_rules : List RuleRows) (set : List ℕ) (strict : ℕ) (shut : List SymbolPlace) (valid : IsValid p)
     (rows : AreRowsOf prepared_rules p) (rules : IsRuleSet p set strict) where
@@ -136,7 +136,7 @@ module _ (p : Program) (prepared_rules : List RuleRows) (set : List ℕ) (strict
               ∙ alike-multipliers (after (double (rank_question b).parameters) (at s.numbers.items))
               (shapes prepared_rules set strict) (rank_question b).groups
               (shapes-alike p prepared_rules rows set strict shut rules strict-rule));
-          untripped = solution-untripped (rank_program b) pivots s (moved (Solution s) h);
+          hits_no_limit = solution-hits_no_limit (rank_program b) pivots s (moved (Solution s) h);
         },
         n.unused,
       )
@@ -168,7 +168,7 @@ module _ (p : Program) (prepared_rules : List RuleRows) (set : List ℕ) (strict
           points = g.points ∙ alike-points (at s.numbers.items) (shapes prepared_rules set strict) (rank_question b).groups
               (shapes-alike p prepared_rules rows set strict shut rules strict-rule);
           kept = g.kept;
-          untripped = dual-untripped (rank_program b) pivots s (moved (Dual s) h);
+          hits_no_limit = dual-hits_no_limit (rank_program b) pivots s (moved (Dual s) h);
         },
         sym none,
       )
@@ -178,7 +178,7 @@ module _ (p : Program) (prepared_rules : List RuleRows) (set : List ℕ) (strict
           (Dual s)
           → Some t ≡ first_limit_hit empties set → IsRankAnswer b shut pivots empties (ranked.OutOfLimits t)
       empty-limit_hit empties s t h e = inr (record {
-        untripped = dual-untripped (rank_program b) pivots s (moved (Dual s) h);
+        hits_no_limit = dual-hits_no_limit (rank_program b) pivots s (moved (Dual s) h);
         unsolved = λ solution. dual-excludes (rank_program b) (at s.numbers.items)
             (moved (Dual s) h).certified solution;
         first = sym e;
@@ -191,7 +191,7 @@ module _ (p : Program) (prepared_rules : List RuleRows) (set : List ℕ) (strict
           (ranked.OutOfLimits t)
       own-limit_hit empties c t h e f = inl (record {
         question = e;
-        trips = subst (λ (k : Cause). Trips (rank_program b) pivots k) (sym f) (moved (OutOfLimits c) h);
+        hits_limit = subst (λ (k : Cause). HitsLimit (rank_program b) pivots k) (sym f) (moved (OutOfLimits c) h);
       })
 
   -- if no rule of the set hit a limit, and none is known to be infeasible, each has a point
@@ -213,7 +213,7 @@ module _ (p : Program) (prepared_rules : List RuleRows) (set : List ℕ) (strict
     has-points [] h m e = All-nil (HasPointFor empties)
     has-points (t ∷ ts) h m e =
         let a = answered t (All-head (IsRule p) t ts h) in
-        let both = untripped (limit_hit_in (answer_for empties t)) (first_limit_hit empties ts) e in
+        let both = hits_no_limit (limit_hit_in (answer_for empties t)) (first_limit_hit empties ts) e in
         All-cons (HasPointFor empties) t ts
         (one a.0 a.1 (All-head
         (λ t. (a : GuardFeasibility) → answer_for empties t ≡ Some a → ¬ (SaysEmpty a)) t ts m.each a.0 a.1)
@@ -224,9 +224,9 @@ module _ (p : Program) (prepared_rules : List RuleRows) (set : List ℕ) (strict
               (λ t. (a : GuardFeasibility) → answer_for empties t ≡ Some a → ¬ (SaysEmpty a)) t ts m.each;
         }) (sym both.1))
       where
-        untripped : (o q : Option LimitHit) → None ≡ first_of o q → (o ≡ None) × (q ≡ None)
-        untripped None q e = (refl, sym e)
-        untripped (Some t) q e = absurd (none e)
+        hits_no_limit : (o q : Option LimitHit) → None ≡ first_of o q → (o ≡ None) × (q ≡ None)
+        hits_no_limit None q e = (refl, sym e)
+        hits_no_limit (Some t) q e = absurd (none e)
           where
             none : None ≡ Some t → ⊥
             none f = cc

@@ -30,10 +30,10 @@ use Rattle.rule_questions.proofs.EmptyLaws.{at-least-one}
 use Rattle.rank_search.specs.declared.answer.RankAnswer.{RankAnswer}
 use Rattle.rank_search.specs.declared.answer.RankAnswer.TheVariants.{Ranked, NoRank, OutOfLimits}
 use Rattle.rule_questions.specs.ProgramQuestions.{ranked_set, forms_in}
-use Rattle.rule_questions.specs.Programs.{NothingTrips}
+use Rattle.rule_questions.specs.Programs.{NothingHitsLimit}
 use Rattle.rank_search.specs.RankAnswers.{IsRuleSet, rank_program, IsRankNode}
 use Rattle.rule_questions.specs.RuleAnswers.{AreEmptyAnswers, answer_for, point_in}
-use Rattle.rank_search.specs.RankAnswers.{IsRankAnswer, first_limit_hit, SaysRanked, SaysNoRank, SaysTripped}
+use Rattle.rank_search.specs.RankAnswers.{IsRankAnswer, first_limit_hit, SaysRanked, SaysNoRank, SaysHitLimit}
 use Rattle.rank_search.specs.RankLaws.{function_of_node, RankAnswersAreExact}
 use Rattle.simplex_core.proofs.Certificates.{dual-excludes}
 use Rattle.rank_search.proofs.RankSets.{set-of}
@@ -106,7 +106,7 @@ module _ (p : Program) (set : List ℕ) (strict : ℕ) (shut : List SymbolPlace)
             ∙ get_or-map (λ (t : ℕ). point_in (answer_for empties t)) set k None d l))
 
     pub none-if : (a : RankAnswer) → IsRankAnswer b shut pivots empties a
-        → SaysNoRank a ↔ (NoneRanks b × NothingTrips (rank_program b) pivots × (first_limit_hit empties set ≡ None))
+        → SaysNoRank a ↔ (NoneRanks b × NothingHitsLimit (rank_program b) pivots × (first_limit_hit empties set ≡ None))
     none-if (Ranked node) h = (
       λ s. absurd s,
       λ g. g.0.each (function_of_node b pivots (rank_of node) h.0) (rank_of node).den (node-ranks pivots (rank_of node) h.0)
@@ -116,12 +116,12 @@ module _ (p : Program) (set : List ℕ) (strict : ℕ) (shut : List SymbolPlace)
       λ s. (
         dual-excludes_ranks b (at h.0.numbers) (set-of p set strict shut valid rules)
             (kept-points (gap_of gap).kept h.0.kept) h.0.dual.certified,
-        h.0.untripped,
+        h.0.hits_no_limit,
         h.1,
       ),
       λ g. tt,
     )
-    none-if (OutOfLimits t) (inl own) = (λ s. absurd s, λ g. g.1.each (cause_of t.cause) own.trips)
+    none-if (OutOfLimits t) (inl own) = (λ s. absurd s, λ g. g.1.each (cause_of t.cause) own.hits_limit)
     none-if (OutOfLimits t) (inr other) = (λ s. absurd s, λ g. differ (sym g.2 ∙ other.first))
       where
         differ : {y : LimitHit} → None ≡ Some y → ⊥
@@ -130,40 +130,40 @@ module _ (p : Program) (set : List ℕ) (strict : ℕ) (shut : List SymbolPlace)
 -- `Ranked` comes exactly if the linear program has a solution and hits no limit
 ranked-if : (b : RankedSet) (shut : List SymbolPlace) (pivots : ℕ) (empties : List GuardFeasibility) (a : RankAnswer)
     → IsRankAnswer b shut pivots empties a → SaysRanked a ↔
-    (HasSolution (rank_program b) × NothingTrips (rank_program b) pivots)
+    (HasSolution (rank_program b) × NothingHitsLimit (rank_program b) pivots)
 ranked-if b shut pivots empties (Ranked node) h = (
-  λ s. (record { x = at h.0.numbers; d = pos (rank_of node).den; solution = h.0.solution.solution }, h.0.untripped),
+  λ s. (record { x = at h.0.numbers; d = pos (rank_of node).den; solution = h.0.solution.solution }, h.0.hits_no_limit),
   λ g. tt,
 )
 ranked-if b shut pivots empties (NoRank gap) h =
     (λ s. absurd s, λ g. dual-excludes (rank_program b) (at h.0.numbers) h.0.dual.certified g.0)
-ranked-if b shut pivots empties (OutOfLimits t) (inl own) = (λ s. absurd s, λ g. g.1.each (cause_of t.cause) own.trips)
+ranked-if b shut pivots empties (OutOfLimits t) (inl own) = (λ s. absurd s, λ g. g.1.each (cause_of t.cause) own.hits_limit)
 ranked-if b shut pivots empties (OutOfLimits t) (inr other) = (λ s. absurd s, λ g. other.unsolved g.0)
 
 -- `OutOfLimits` comes exactly if the linear program hits a limit, or has no solution and the feasibility question of a
 -- rule of the set hit one
-tripped-if : (b : RankedSet) (shut : List SymbolPlace) (pivots : ℕ) (empties : List GuardFeasibility) (a : RankAnswer)
+hit_limit-if : (b : RankedSet) (shut : List SymbolPlace) (pivots : ℕ) (empties : List GuardFeasibility) (a : RankAnswer)
     → IsRankAnswer b shut pivots empties a
-    → SaysTripped a
-    ↔ ((¬ NothingTrips (rank_program b) pivots)
-    ⊎ (NothingTrips (rank_program b) pivots × (¬ HasSolution (rank_program b)) × ¬ (first_limit_hit empties b.set ≡ None)))
-tripped-if b shut pivots empties (Ranked node) h = (λ s. absurd s, λ g. go g)
+    → SaysHitLimit a
+    ↔ ((¬ NothingHitsLimit (rank_program b) pivots)
+    ⊎ (NothingHitsLimit (rank_program b) pivots × (¬ HasSolution (rank_program b)) × ¬ (first_limit_hit empties b.set ≡ None)))
+hit_limit-if b shut pivots empties (Ranked node) h = (λ s. absurd s, λ g. go g)
   where
-    go : ((¬ NothingTrips (rank_program b) pivots)
-        ⊎ (NothingTrips (rank_program b) pivots × (¬ HasSolution (rank_program b)) × ¬
+    go : ((¬ NothingHitsLimit (rank_program b) pivots)
+        ⊎ (NothingHitsLimit (rank_program b) pivots × (¬ HasSolution (rank_program b)) × ¬
         (first_limit_hit empties b.set ≡ None))) → ⊥
-    go (inl g) = g h.0.untripped
+    go (inl g) = g h.0.hits_no_limit
     go (inr g) = g.1 (record { x = at h.0.numbers; d = pos (rank_of node).den; solution = h.0.solution.solution })
-tripped-if b shut pivots empties (NoRank gap) h = (λ s. absurd s, λ g. go g)
+hit_limit-if b shut pivots empties (NoRank gap) h = (λ s. absurd s, λ g. go g)
   where
-    go : ((¬ NothingTrips (rank_program b) pivots)
-        ⊎ (NothingTrips (rank_program b) pivots × (¬ HasSolution (rank_program b)) × ¬
+    go : ((¬ NothingHitsLimit (rank_program b) pivots)
+        ⊎ (NothingHitsLimit (rank_program b) pivots × (¬ HasSolution (rank_program b)) × ¬
         (first_limit_hit empties b.set ≡ None))) → ⊥
-    go (inl g) = g h.0.untripped
+    go (inl g) = g h.0.hits_no_limit
     go (inr g) = g.2 h.1
-tripped-if b shut pivots empties (OutOfLimits t) (inl own) = (λ s. inl (λ n. n.each (cause_of t.cause) own.trips), λ g. tt)
-tripped-if b shut pivots empties (OutOfLimits t) (inr other) =
-    (λ s. inr (other.untripped, other.unsolved, λ e. differ (sym e ∙ other.first)), λ g. tt)
+hit_limit-if b shut pivots empties (OutOfLimits t) (inl own) = (λ s. inl (λ n. n.each (cause_of t.cause) own.hits_limit), λ g. tt)
+hit_limit-if b shut pivots empties (OutOfLimits t) (inr other) =
+    (λ s. inr (other.hits_no_limit, other.unsolved, λ e. differ (sym e ∙ other.first)), λ g. tt)
   where
     differ : {y : LimitHit} → None ≡ Some y → ⊥
     differ h = cc
@@ -174,5 +174,5 @@ answers-exact = record {
   ranked = ranked-if;
   none = λ p set strict shut pivots empties a valid rules known h. none-if p set strict shut valid rules pivots empties
       known a h;
-  tripped = tripped-if;
+  hit_limit = hit_limit-if;
 }

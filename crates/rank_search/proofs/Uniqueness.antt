@@ -109,7 +109,7 @@ module _ (b : RankedSet) (shut : List SymbolPlace) (pivots : ℕ) (xs ys : List 
       )
   ranks-once (ranked.Ranked n) (ranked.NoRank k) g h =
       apart (rank_program b) pivots g.0.numbers h.0.numbers (rank_of n).den h.0.den g.0.solution h.0.dual
-  ranks-once (ranked.Ranked n) (ranked.OutOfLimits t) g (inl own) = g.0.untripped.each (cause_of t.cause) own.trips
+  ranks-once (ranked.Ranked n) (ranked.OutOfLimits t) g (inl own) = g.0.hits_no_limit.each (cause_of t.cause) own.hits_limit
   ranks-once (ranked.Ranked n) (ranked.OutOfLimits t) g (inr other) =
       other.unsolved (record { x = at g.0.numbers; d = pos (rank_of n).den; solution = g.0.solution.solution })
   ranks-once (ranked.NoRank n) (ranked.Ranked k) g h =
@@ -120,24 +120,24 @@ module _ (b : RankedSet) (shut : List SymbolPlace) (pivots : ℕ) (xs ys : List 
       (g.0.same_shut ∙ sym h.0.same_shut)
       (g.0.points ∙ (ap (λ (ns : List ℤ). points_of (at ns) (rank_question b).groups) r.0 ∙ sym h.0.points))
       (g.0.kept ∙ (same.points ∙ sym h.0.kept))
-  ranks-once (ranked.NoRank n) (ranked.OutOfLimits t) g (inl own) = g.0.untripped.each (cause_of t.cause) own.trips
-  ranks-once (ranked.NoRank n) (ranked.OutOfLimits t) g (inr other) = no-limit_hit t (sym g.1 ∙ (same.trips ∙ other.first))
-  ranks-once (ranked.OutOfLimits t) (ranked.Ranked k) (inl own) h = h.0.untripped.each (cause_of t.cause) own.trips
+  ranks-once (ranked.NoRank n) (ranked.OutOfLimits t) g (inl own) = g.0.hits_no_limit.each (cause_of t.cause) own.hits_limit
+  ranks-once (ranked.NoRank n) (ranked.OutOfLimits t) g (inr other) = no-limit_hit t (sym g.1 ∙ (same.hits_limit ∙ other.first))
+  ranks-once (ranked.OutOfLimits t) (ranked.Ranked k) (inl own) h = h.0.hits_no_limit.each (cause_of t.cause) own.hits_limit
   ranks-once (ranked.OutOfLimits t) (ranked.Ranked k) (inr other) h =
       other.unsolved (record { x = at h.0.numbers; d = pos (rank_of k).den; solution = h.0.solution.solution })
-  ranks-once (ranked.OutOfLimits t) (ranked.NoRank k) (inl own) h = h.0.untripped.each (cause_of t.cause) own.trips
-  ranks-once (ranked.OutOfLimits t) (ranked.NoRank k) (inr other) h = no-limit_hit t (sym h.1 ∙ (sym same.trips ∙ other.first))
+  ranks-once (ranked.OutOfLimits t) (ranked.NoRank k) (inl own) h = h.0.hits_no_limit.each (cause_of t.cause) own.hits_limit
+  ranks-once (ranked.OutOfLimits t) (ranked.NoRank k) (inr other) h = no-limit_hit t (sym h.1 ∙ (sym same.hits_limit ∙ other.first))
   ranks-once (ranked.OutOfLimits t) (ranked.OutOfLimits u) (inl own) (inl other) = (
     own.question ∙ sym other.question,
     causes-same (rank_program b) pivots (cause_of t.cause)
-        (cause_of u.cause) own.trips other.trips,
+        (cause_of u.cause) own.hits_limit other.hits_limit,
   )
   ranks-once (ranked.OutOfLimits t) (ranked.OutOfLimits u) (inl own) (inr other) = absurd
-      (other.untripped.each (cause_of t.cause) own.trips)
+      (other.hits_no_limit.each (cause_of t.cause) own.hits_limit)
   ranks-once (ranked.OutOfLimits t) (ranked.OutOfLimits u) (inr own) (inl other) = absurd
-      (own.untripped.each (cause_of u.cause) other.trips)
+      (own.hits_no_limit.each (cause_of u.cause) other.hits_limit)
   ranks-once (ranked.OutOfLimits t) (ranked.OutOfLimits u) (inr own) (inr other) =
-      let e = some-limit_hit t u (sym own.first ∙ (same.trips ∙ other.first)) in
+      let e = some-limit_hit t u (sym own.first ∙ (same.hits_limit ∙ other.first)) in
       (ap (λ (v : LimitHit). v.question) e, ap (λ (v : LimitHit). cause_of v.cause) e)
 
 -- for a set, its shut places and a number of pivots there is one answer on ranking functions

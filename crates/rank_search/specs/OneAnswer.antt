@@ -14,7 +14,7 @@ use Rattle.rank_search.specs.RankAnswers.{first_limit_hit, IsRankAnswer}
 -- two lists of answers have the same points for the rules of a set, and the same first limit hit
 pub record SeeTheSame (xs ys : List GuardFeasibility) (set : List ℕ) : Type 0 where
   pub points : map (λ t. point_in (answer_for xs t)) set ≡ map (λ t. point_in (answer_for ys t)) set
-  pub trips : first_limit_hit xs set ≡ first_limit_hit ys set
+  pub hits_limit : first_limit_hit xs set ≡ first_limit_hit ys set
 
 -- the answers on ranking functions are the same
 abbrev pub IsSameRankAnswer : RankAnswer → RankAnswer → Type 0

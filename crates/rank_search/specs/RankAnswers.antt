@@ -11,7 +11,7 @@ use Rattle.simplex_core.specs.linear_forms.RuleQuestions.{RankedSet, symbols_of_
 use Rattle.cert_types.specs.rule_forms.Ranking.{Function}
 use Rattle.cert_types.specs.rule_forms.RankLaws.{function_of, rank_multipliers}
 use Rattle.poly_terms.specs.model.Programs.{Program}
-use Rattle.simplex_core.specs.Trips.{Trips, IsScaledSolution, IsScaledDual}
+use Rattle.simplex_core.specs.HitsLimit.{HitsLimit, IsScaledSolution, IsScaledDual}
 use Rattle.cert_types.specs.cert_rules.AcceptsPlain.{IsRule}
 use Rattle.cert_types.specs.cert_rules.Gaps.{ScaledPoint, SymbolPlace, Gap}
 use Rattle.cert_types.specs.cert_rules.Nodes.{RankNode, SymbolForm}
@@ -26,7 +26,7 @@ use Rattle.rule_questions.specs.RuleAnswers.{answer_for, point_in, limit_hit_in}
 use Rattle.rank_search.specs.declared.answer.RankAnswer.{RankAnswer}
 use Rattle.rank_search.specs.declared.answer.RankAnswer.TheVariants.{Ranked, NoRank, OutOfLimits}
 use Rattle.rule_questions.specs.EmptyAnswers.{SaysEmpty}
-use Rattle.rule_questions.specs.Programs.{NothingTrips}
+use Rattle.rule_questions.specs.Programs.{NothingHitsLimit}
 
 -- the set ascends, has numbers of rules alone, and holds the rule that has to decrease
 pub record IsRuleSet (p : Program) (set : List ℕ) (strict : ℕ) : Type 0 where
@@ -55,7 +55,7 @@ pub record IsRankNode (b : RankedSet) (pivots : ℕ) (node : RankNode) : Type 0 
   pub solution : IsScaledSolution (rank_program b) pivots numbers node.den
   pub forms : node.forms ≡ map (part_at (function_of b (parameters_of (at numbers)))) (symbols_of_set b)
   pub multipliers : node.moves ++ (node.floor ∷ []) ≡ rank_multipliers b (at numbers)
-  pub untripped : NothingTrips (rank_program b) pivots
+  pub hits_no_limit : NothingHitsLimit (rank_program b) pivots
 
 -- the points that numbers give for groups: a part for each unknown, and then the denominator
 abbrev pub points_of : (ℕ → ℤ) → List Group → List ScaledPoint
@@ -75,7 +75,7 @@ pub record IsReadOff (b : RankedSet) (shut : List SymbolPlace) (pivots : ℕ) (e
   pub dual : IsScaledDual (rank_program b) pivots numbers den
   pub points : g.moves ++ (g.floor ∷ []) ≡ points_of (at numbers) (rank_question b).groups
   pub kept : map (λ z. Some z) g.kept ≡ map (λ t. point_in (answer_for empties t)) b.set
-  pub untripped : NothingTrips (rank_program b) pivots
+  pub hits_no_limit : NothingHitsLimit (rank_program b) pivots
 
 -- the answer for a rule is a point
 pub record HasPointFor (empties : List GuardFeasibility) (t : ℕ) : Type 0 where
@@ -95,12 +95,12 @@ first_limit_hit empties (t ∷ ts) = first_of (limit_hit_in (answer_for empties 
 -- the linear program hits a limit, with the reported cause
 pub record IsOwnLimitHit (b : RankedSet) (pivots : ℕ) (t : LimitHit) : Type 0 where
   pub question : t.question ≡ asked.Rank b.strict
-  pub trips : Trips (rank_program b) pivots (cause_of t.cause)
+  pub hits_limit : HitsLimit (rank_program b) pivots (cause_of t.cause)
 
 -- the linear program hits no limit and has no solution, and the feasibility question of a rule of the set hit a limit:
 -- the first such limit hit
 pub record IsFeasibilityLimitHit (b : RankedSet) (pivots : ℕ) (empties : List GuardFeasibility) (t : LimitHit) : Type 0 where
-  pub untripped : NothingTrips (rank_program b) pivots
+  pub hits_no_limit : NothingHitsLimit (rank_program b) pivots
   pub unsolved : ¬ HasSolution (rank_program b)
   pub first : first_limit_hit empties b.set ≡ Some t
 
@@ -123,7 +123,7 @@ SaysNoRank (Ranked node) = ⊥
 SaysNoRank (NoRank gap) = Unit {0}
 SaysNoRank (OutOfLimits t) = ⊥
 
-abbrev pub SaysTripped : RankAnswer → Type 0
-SaysTripped (Ranked node) = ⊥
-SaysTripped (NoRank gap) = ⊥
-SaysTripped (OutOfLimits t) = Unit {0}
+abbrev pub SaysHitLimit : RankAnswer → Type 0
+SaysHitLimit (Ranked node) = ⊥
+SaysHitLimit (NoRank gap) = ⊥
+SaysHitLimit (OutOfLimits t) = Unit {0}

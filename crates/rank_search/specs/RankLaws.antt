@@ -24,10 +24,10 @@ use Rattle.cert_types.specs.declared.gap.Gap.{Gap}
 use Rattle.rank_search.specs.declared.answer.RankAnswer.{RankAnswer}
 use Rattle.rank_search.specs.declared.answer.RankAnswer.TheVariants as answers
 use Rattle.rule_questions.specs.ProgramQuestions.{ranked_set}
-use Rattle.rule_questions.specs.Programs.{NothingTrips}
+use Rattle.rule_questions.specs.Programs.{NothingHitsLimit}
 use Rattle.rank_search.specs.RankAnswers.{IsRuleSet, rank_program, IsRankNode, IsRankAnswer}
 use Rattle.rule_questions.specs.RuleAnswers.{AreEmptyAnswers}
-use Rattle.rank_search.specs.RankAnswers.{first_limit_hit, SaysRanked, SaysNoRank, SaysTripped}
+use Rattle.rank_search.specs.RankAnswers.{first_limit_hit, SaysRanked, SaysNoRank, SaysHitLimit}
 
 -- the function that a node is read off
 abbrev pub function_of_node : (b : RankedSet) (pivots : ℕ) (node : RankNode) → IsRankNode b pivots node → Function
@@ -86,19 +86,19 @@ pub record RankedNodesAreAccepted : Type 0 where
 pub record RankAnswersAreExact : Type 0 where
   pub ranked : (b : RankedSet) (shut : List SymbolPlace) (pivots : ℕ) (empties : List GuardFeasibility) (a : RankAnswer)
       → IsRankAnswer b shut pivots empties a
-      → SaysRanked a ↔ (HasSolution (rank_program b) × NothingTrips (rank_program b) pivots)
+      → SaysRanked a ↔ (HasSolution (rank_program b) × NothingHitsLimit (rank_program b) pivots)
   pub none : (p : Program) (set : List ℕ) (strict : ℕ) (shut : List SymbolPlace) (pivots : ℕ)
       (empties : List GuardFeasibility) (a : RankAnswer)
       → IsValid p → IsRuleSet p set strict → AreEmptyAnswers p pivots empties
       → IsRankAnswer (ranked_set p set strict shut) shut pivots empties a
       → SaysNoRank a
-      ↔ (NoRank (ranked_set p set strict shut) × NothingTrips (rank_program (ranked_set p set strict shut)) pivots
+      ↔ (NoRank (ranked_set p set strict shut) × NothingHitsLimit (rank_program (ranked_set p set strict shut)) pivots
       × (first_limit_hit empties set ≡ None))
-  pub tripped : (b : RankedSet) (shut : List SymbolPlace) (pivots : ℕ) (empties : List GuardFeasibility) (a : RankAnswer)
+  pub hit_limit : (b : RankedSet) (shut : List SymbolPlace) (pivots : ℕ) (empties : List GuardFeasibility) (a : RankAnswer)
       → IsRankAnswer b shut pivots empties a
-      → SaysTripped a
-      ↔ ((¬ NothingTrips (rank_program b) pivots)
-      ⊎ (NothingTrips (rank_program b) pivots × (¬ HasSolution (rank_program b)) × ¬ (first_limit_hit empties b.set ≡ None)))
+      → SaysHitLimit a
+      ↔ ((¬ NothingHitsLimit (rank_program b) pivots)
+      ⊎ (NothingHitsLimit (rank_program b) pivots × (¬ HasSolution (rank_program b)) × ¬ (first_limit_hit empties b.set ≡ None)))
 
 -- a `NoRank` answer has a gap with the given set, strict rule and shut places, and it holds
 pub record FoundGapsHold : Type 0 where

@@ -19,7 +19,7 @@ use rule_questions::element_from;
 use std::alloc::Global;
 
 /// The limit hit of the first rule of the set whose feasibility question hit one.
-pub(crate) fn first_tripped(set: &[u32], empties: &[GuardFeasibility]) -> Option<LimitHit>
+pub(crate) fn first_hit_limit(set: &[u32], empties: &[GuardFeasibility]) -> Option<LimitHit>
     ensures { result ≡ first_limit_hit empties.now set.now }
 {
     for rule in set {

@@ -11,7 +11,7 @@ ghost use Rattle.rule_questions.specs.RuleAnswers.{AreEmptyAnswers};
 use crate::answer::RankAnswer;
 use crate::coefficients::coefficients_of;
 use crate::found::rank_node;
-use crate::gap::{first_tripped, gap_of_dual};
+use crate::gap::{first_hit_limit, gap_of_dual};
 use crate::problem::rank_problem;
 use crate::symbols::symbols_of_set;
 use cert_types::{GuardFeasibility, LimitHit, Question};
@@ -67,7 +67,7 @@ pub fn find_rank(
             )?;
             Ok(RankAnswer::Ranked(node))
         }
-        Answer::Dual(dual) => match first_tripped(set, empties) {
+        Answer::Dual(dual) => match first_hit_limit(set, empties) {
             Some(limit_hit) => Ok(RankAnswer::OutOfLimits(limit_hit)),
             None => {
                 let gap = gap_of_dual(

@@ -2,11 +2,11 @@
 use Rattle.std.proofs.Common.{◌≡◌, Bool, true, false, not, List, [], ◌∷◌, ◌++◌, map, refl, sym, ◌∙◌, ap, subst}
 use Rattle.std.proofs.Common.{append_assoc}
 use Rattle.std.specs.List.{AllByRecursion, list_any}
-use Rattle.std.proofs.lemmas.Bool.{or_parts, true≢false}
+use Rattle.std.proofs.lemmas.Bool.{true≢false}
 use Rattle.indexmap.specs.IndexSet.{insert_key}
 use Rattle.refined_programs.specs.model.Programs.{Name}
 use Rattle.text_core.specs.Names.{IsName, is_same, is_among, AreDistinct}
-use Rattle.text_core.proofs.NameLaws.{same_equal, equal_same}
+use Rattle.text_core.proofs.NameLaws.{distinct_one_more}
 use Rattle.text_core.proofs.KeyLaws.{key_among, names-insert_key, not_before}
 use Rattle.refined_programs.specs.declared.section.SymbolCopy.{SymbolCopy}
 use Rattle.refined_programs.specs.declared.section.Section as declared
@@ -40,30 +40,6 @@ all-middle : {X : Type 0} (P : X → Type 0) (before : List X) (x : X) (behind :
     → AllByRecursion P (before ++ x ∷ behind) → P x
 all-middle P [] x behind h = h.0
 all-middle P (y ∷ before) x behind h = all-middle P before x behind h.1
-
--- names that differ do so both ways round
-differs-back : (n m : Name) → is_same n m ≡ false → is_same m n ≡ false
-differs-back n m h = go (is_same m n) refl
-  where
-    go : (v : Bool) → is_same m n ≡ v → is_same m n ≡ false
-    go false e = e
-    go true e = let same = equal_same n m (sym (same_equal m n e)) in cc
-
--- a name that isn't among some, nor one more, isn't among these
-among-push : (m n : Name) (names : List Name) → is_among m names ≡ false → is_same m n ≡ false
-    → is_among m (names ++ n ∷ []) ≡ false
-among-push m n [] h e = rw e refl
-among-push m n (k ∷ names) h e =
-    let x = or_parts (is_same m k) (is_among m names) h in
-    rw (x.0, among-push m n names x.1 e) refl
-
--- names that differ, and one more that isn't among them, differ
-pub distinct-push : (names : List Name) (n : Name) → AreDistinct names → is_among n names ≡ false
-    → AreDistinct (names ++ n ∷ [])
-distinct-push [] n h e = (refl, tt)
-distinct-push (m ∷ names) n h e =
-    let x = or_parts (is_same n m) (is_among n names) e in
-    (among-push m n names h.0 (differs-back n m x.0), distinct-push names n h.1 x.1)
 
 -- a section whose names are names and differ has distinct names
 pub named : (section : declared.Section) (names : List Name) → names ≡ names_of section.copies.items
@@ -116,5 +92,5 @@ one-more view eq ks new k n left rest all is_new same inserted added e here spli
           ∙ (ap (λ (ns : List Name). map view ks ++ ns) (sym split) ∙ so_far))),
       subst (AllByRecursion IsName) (sym grown)
           (all-push IsName (map view ks) (view k) are (subst IsName (sym here) is_one)),
-      subst AreDistinct (sym grown) (distinct-push (map view ks) (view k) distinct absent),
+      subst AreDistinct (sym grown) (distinct_one_more (map view ks) (view k) distinct absent),
     )

@@ -9,8 +9,8 @@ use Rattle.cert_types.specs.declared.answer.Question.{Question}
 use Rattle.cert_types.specs.declared.answer.Question.TheVariants as questions
 use Rattle.cert_types.specs.cert_rules.Gaps.{ScaledPoint}
 use Rattle.cert_types.specs.cert_rules.AcceptsSizes.{Side, Up, Low}
-use Rattle.outcome.specs.Reports.{NoTime, NoFunction, TimeTripped, TimeLarge}
-use Rattle.outcome.specs.Reports.{NoSize, SizeUnbounded, SizeTripped, SizeMissing, SizeNonlinear, SizeUntimed, SizeLarge}
+use Rattle.outcome.specs.Reports.{NoTime, NoFunction, TimeHitLimit, TimeLarge}
+use Rattle.outcome.specs.Reports.{NoSize, SizeUnbounded, SizeHitLimit, SizeMissing, SizeNonlinear, SizeUntimed, SizeLarge}
 use Rattle.report_text.specs.Pieces.{parts_text, point_text, result_variable_text}
 use Rattle.report_text.specs.Reasons.{question_text, cause_text, limit_hit_text, large_text, side_text, no_time_text}
 use Rattle.report_text.specs.Reasons.{no_size_text}
@@ -38,7 +38,7 @@ time_kind w = if get_or w 0 0 == 110 then 0 else if (get_or w 0 0 == 108) && (ge
 -- the kind of a reason why a time is missing, of the reason itself
 abbrev kind_of_time : NoTime → ℕ
 kind_of_time (NoFunction g) = 0
-kind_of_time (TimeTripped t) = 1
+kind_of_time (TimeHitLimit t) = 1
 kind_of_time (TimeLarge nodes) = 2
 
 -- the kind of a reason why a size is missing, by its first three bytes
@@ -54,7 +54,7 @@ size_kind w =
 -- the kind of a reason why a size is missing, of the reason itself
 abbrev kind_of_size : NoSize → ℕ
 kind_of_size (SizeUnbounded side ray kept) = 0
-kind_of_size (SizeTripped t) = 1
+kind_of_size (SizeHitLimit t) = 1
 kind_of_size (SizeMissing s) = 2
 kind_of_size (SizeNonlinear s) = 3
 kind_of_size (SizeUntimed rule) = 4
@@ -63,7 +63,7 @@ kind_of_size (SizeLarge nodes) = 5
 -- the text shows the kind of the reason why a time is missing
 time_kind_is : (symbols : List Symbol) (x : NoTime) (u : List ℕ) → time_kind (no_time_text symbols x ++ u) ≡ kind_of_time x
 time_kind_is symbols (NoFunction g) u = refl
-time_kind_is symbols (TimeTripped t) u = go t.question
+time_kind_is symbols (TimeHitLimit t) u = go t.question
   where
     go : (q : Question) → time_kind (((question_text q ++ (codes " " ++ cause_text t.cause)) ++ codes "\n") ++ u) ≡ 1
     go (questions.Empty rule) = refl
@@ -76,7 +76,7 @@ time_kind_is symbols (TimeLarge nodes) u = refl
 size_kind_is : (x : NoSize) (u : List ℕ) → size_kind (no_size_text x ++ u) ≡ kind_of_size x
 size_kind_is (SizeUnbounded Up ray kept) u = refl
 size_kind_is (SizeUnbounded Low ray kept) u = refl
-size_kind_is (SizeTripped t) u = go t.question
+size_kind_is (SizeHitLimit t) u = go t.question
   where
     go : (q : Question) → size_kind (((question_text q ++ (codes " " ++ cause_text t.cause)) ++ codes "\n") ++ u) ≡ 1
     go (questions.Empty rule) = refl
@@ -95,7 +95,7 @@ no_time_determined symbols are = record { each = λ x y u v p q s t e. go x y u 
     go : (x y : NoTime) (u v : List ℕ) → IsPrintableNoTime (length symbols) x → IsPrintableNoTime (length symbols) y → Whys u → Whys v → no_time_text symbols x ++ u ≡ no_time_text symbols y ++ v
         → kind_of_time x ≡ kind_of_time y → (x ≡ y) × (u ≡ v)
     go (NoFunction g) (NoFunction h) u v p q s t e k = let r = (gap_determined symbols are).each g h u v p q s t e in (ap NoFunction r.0, r.1)
-    go (TimeTripped a) (TimeTripped b) u v p q s t e k = let r = ended_limit_hit.each a b u v p q tt tt e in (ap TimeTripped r.0, r.1)
+    go (TimeHitLimit a) (TimeHitLimit b) u v p q s t e k = let r = ended_limit_hit.each a b u v p q tt tt e in (ap TimeHitLimit r.0, r.1)
     go (TimeLarge m) (TimeLarge n) u v p q s t e k = let r = ended_large.each m n u v p q tt tt e in (ap TimeLarge r.0, r.1)
     go x y u v p q s t e k = absurd (omega (arith, k))
 
@@ -131,7 +131,7 @@ no_size_determined = record { each = λ x y u v p q s t e. go x y u v p q e (sym
     go (SizeUnbounded a r k) (SizeUnbounded b o l) u v p q e same =
         let w = (determined_both side_determined unbounded_determined (λ z w fits after. tt)).each (a, (r, k)) (b, (o, l)) u v (tt, p) (tt, q) tt tt e in
         (ap (λ (z : Side × (List ℤ × ScaledPoint)). SizeUnbounded z.0 z.1.0 z.1.1) w.0, w.1)
-    go (SizeTripped a) (SizeTripped b) u v p q e same = let r = ended_limit_hit.each a b u v p q tt tt e in (ap SizeTripped r.0, r.1)
+    go (SizeHitLimit a) (SizeHitLimit b) u v p q e same = let r = ended_limit_hit.each a b u v p q tt tt e in (ap SizeHitLimit r.0, r.1)
     go (SizeMissing a) (SizeMissing b) u v p q e same = let r = (spotted (codes "missing ")).each a b u v p q tt tt e in (ap SizeMissing r.0, r.1)
     go (SizeNonlinear a) (SizeNonlinear b) u v p q e same = let r = (spotted (codes "bent ")).each a b u v p q tt tt e in (ap SizeNonlinear r.0, r.1)
     go (SizeUntimed m) (SizeUntimed n) u v p q e same = let r = (ruled (codes "untimed ")).each m n u v p q tt tt e in (ap SizeUntimed r.0, r.1)

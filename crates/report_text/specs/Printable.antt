@@ -17,8 +17,8 @@ use Rattle.cert_types.specs.declared.answer.Question.TheVariants as questions
 use Rattle.farkas_cert.specs.linear_forms.declared.limit_cause.LimitCause.{LimitCause}
 use Rattle.farkas_cert.specs.linear_forms.declared.limit_cause.LimitCause.TheVariants as causes
 use Rattle.cert_types.specs.declared.answer.LimitHit.{LimitHit}
-use Rattle.outcome.specs.Reports.{NoTime, NoFunction, TimeTripped, TimeLarge, Time, Timed, Untimed}
-use Rattle.outcome.specs.Reports.{NoSize, SizeUnbounded, SizeTripped, SizeMissing, SizeNonlinear, SizeUntimed, SizeLarge}
+use Rattle.outcome.specs.Reports.{NoTime, NoFunction, TimeHitLimit, TimeLarge, Time, Timed, Untimed}
+use Rattle.outcome.specs.Reports.{NoSize, SizeUnbounded, SizeHitLimit, SizeMissing, SizeNonlinear, SizeUntimed, SizeLarge}
 use Rattle.outcome.specs.Reports.{Size, Sized, Unsized, RuleCost, Costed, Uncosted, Report}
 
 -- a number has 64 bits
@@ -84,13 +84,13 @@ pub record IsPrintableResultVariable (s : ResultVariable) : Type 0 where
 -- a reason why a time is missing is printable, with this many symbols
 abbrev pub IsPrintableNoTime : ℕ → NoTime → Type 0
 IsPrintableNoTime n (NoFunction g) = IsPrintableGap n g
-IsPrintableNoTime n (TimeTripped t) = IsPrintableLimitHit t
+IsPrintableNoTime n (TimeHitLimit t) = IsPrintableLimitHit t
 IsPrintableNoTime n (TimeLarge nodes) = IsShort nodes
 
 -- a reason why a size is missing is printable
 abbrev pub IsPrintableNoSize : NoSize → Type 0
 IsPrintableNoSize (SizeUnbounded side ray kept) = AllByRecursion IsShortSigned ray × IsPrintablePoint kept
-IsPrintableNoSize (SizeTripped t) = IsPrintableLimitHit t
+IsPrintableNoSize (SizeHitLimit t) = IsPrintableLimitHit t
 IsPrintableNoSize (SizeMissing s) = IsPrintableResultVariable s
 IsPrintableNoSize (SizeNonlinear s) = IsPrintableResultVariable s
 IsPrintableNoSize (SizeUntimed rule) = IsShort rule

@@ -8,8 +8,8 @@ use Rattle.farkas_cert.specs.linear_forms.declared.limit_cause.LimitCause.TheVar
 use Rattle.cert_types.specs.declared.answer.LimitHit.{LimitHit}
 use Rattle.cert_types.specs.cert_rules.Gaps.{ScaledPoint, SymbolPlace, Gap}
 use Rattle.cert_types.specs.cert_rules.AcceptsSizes.{Side, Up, Low}
-use Rattle.outcome.specs.Reports.{NoTime, NoFunction, TimeTripped, TimeLarge}
-use Rattle.outcome.specs.Reports.{NoSize, SizeUnbounded, SizeTripped, SizeMissing, SizeNonlinear, SizeUntimed, SizeLarge}
+use Rattle.outcome.specs.Reports.{NoTime, NoFunction, TimeHitLimit, TimeLarge}
+use Rattle.outcome.specs.Reports.{NoSize, SizeUnbounded, SizeHitLimit, SizeMissing, SizeNonlinear, SizeUntimed, SizeLarge}
 use Rattle.report_text.specs.Pieces.{rules_text, parts_text, point_text, place_text, result_variable_text}
 
 -- the question of a linear program
@@ -72,7 +72,7 @@ gap_text symbols g =
 -- why a time is missing
 abbrev pub no_time_text : List Symbol → NoTime → List ℕ
 no_time_text symbols (NoFunction g) = gap_text symbols g
-no_time_text symbols (TimeTripped t) = limit_hit_text t ++ codes "\n"
+no_time_text symbols (TimeHitLimit t) = limit_hit_text t ++ codes "\n"
 no_time_text symbols (TimeLarge nodes) = large_text nodes ++ codes "\n"
 
 -- an unbounded side, with its ray and the point from which it starts
@@ -84,7 +84,7 @@ side_text Low = codes "loose low\n"
 abbrev pub no_size_text : NoSize → List ℕ
 no_size_text (SizeUnbounded side ray kept) =
     side_text side ++ (codes "  ray: " ++ (parts_text ray ++ (codes "\n  kept: " ++ (point_text kept ++ codes "\n"))))
-no_size_text (SizeTripped t) = limit_hit_text t ++ codes "\n"
+no_size_text (SizeHitLimit t) = limit_hit_text t ++ codes "\n"
 no_size_text (SizeMissing s) = codes "missing " ++ (result_variable_text s ++ codes "\n")
 no_size_text (SizeNonlinear s) = codes "bent " ++ (result_variable_text s ++ codes "\n")
 no_size_text (SizeUntimed rule) = codes "untimed " ++ (decimal rule ++ codes "\n")

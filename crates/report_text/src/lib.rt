@@ -7,10 +7,10 @@
 mod bounds;
 mod gaps;
 mod law;
+mod limits;
 mod numbers;
 mod reasons;
 mod report;
-mod trips;
 
 pub use law::{texts_are_worked_out, texts_state_one_report};
 pub use report::print;

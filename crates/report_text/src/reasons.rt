@@ -11,8 +11,8 @@ ghost use Rattle.report_text.specs.Conditions.{rule_cost_of};
 ghost use Rattle.outcome.specs.Printing.{HasItsGap};
 
 use crate::gaps::push_gap;
+use crate::limits::{push_large, push_limit_hit};
 use crate::numbers::{push_number, push_parts, push_place, push_point};
-use crate::trips::{push_large, push_limit_hit};
 use cert_types::{Gap, LimitHit, ResultVariable};
 use its_model::Symbol;
 use model::Memory;

@@ -76,22 +76,22 @@ why size 1.1: loose up\n  ray: (0, 1)\n  kept: (1, 1) / 1\n";
 }
 
 // A question that exceeded a limit.
-fn tripped(question: Question, cause: LimitCause) -> LimitHit {
+fn hit_limit(question: Question, cause: LimitCause) -> LimitHit {
     LimitHit { question, cause }
 }
 
 #[test]
 fn reasons_are_printed(rt: HostRuntime) -> Result<(), Fail> {
     let alloc = rt.alloc();
-    let rank = tripped(Question::Rank { rule: 1 }, LimitCause::Budget { pivots: 0 });
-    let empty = tripped(Question::Empty { rule: 2 }, LimitCause::Range { pivot: 3 });
-    let local = tripped(
+    let rank = hit_limit(Question::Rank { rule: 1 }, LimitCause::Budget { pivots: 0 });
+    let empty = hit_limit(Question::Empty { rule: 2 }, LimitCause::Range { pivot: 3 });
+    let local = hit_limit(
         Question::Local { rule: 1, place: 1 },
         LimitCause::Wide {
             entries: 16_000_001,
         },
     );
-    let cost = tripped(Question::Cost { rule: 4 }, LimitCause::Scale);
+    let cost = hit_limit(Question::Cost { rule: 4 }, LimitCause::Scale);
     let outcome = Outcome {
         times: vec![in alloc;
             TimeEntry::OutOfLimits(rank),
@@ -130,7 +130,7 @@ fn missing_costs_are_printed(rt: HostRuntime) -> Result<(), Fail> {
         ray: vec![in alloc; 0, 1]?,
         kept: point(alloc, &[1, 1], 1)?,
     };
-    let limit = tripped(
+    let limit = hit_limit(
         Question::Cost { rule: 4 },
         LimitCause::Budget { pivots: 10 },
     );

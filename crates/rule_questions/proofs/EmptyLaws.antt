@@ -22,7 +22,7 @@ use Rattle.poly_terms.specs.model.Programs.{Rule}
 use Rattle.cert_types.specs.guard_prep.Prepared.{Prepared, prepared, rows_of, unknowns_of, new_values_of}
 use Rattle.cert_types.specs.guard_prep.Laws.{IsPreparable, IsSmallForm}
 use Rattle.cert_types.proofs.guard_prep.SizeLaws.{rows-are-small}
-use Rattle.lp_builder.specs.simplex_core.Trips.{IsScaledSolution, IsScaledDual}
+use Rattle.lp_builder.specs.simplex_core.HitsLimit.{IsScaledSolution, IsScaledDual}
 use Rattle.rule_questions.specs.ProgramQuestions.{forms_of}
 pub use Rattle.cert_types.proofs.cert_program.RankedSets.{prepared-shaped}
 use Rattle.rule_questions.specs.EmptyAnswers.{empty_program, IsNearPoint}

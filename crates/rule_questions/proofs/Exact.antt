@@ -13,10 +13,10 @@ use Rattle.cert_types.specs.declared.answer.GuardFeasibility.{GuardFeasibility}
 use Rattle.cert_types.specs.declared.answer.GuardFeasibility.TheVariants.{Empty, Point, OutOfLimits}
 use Rattle.cert_types.specs.declared.proof.EmptyNode.{EmptyNode}
 use Rattle.cert_types.specs.AnswerViews.{scaled_of}
-use Rattle.rule_questions.specs.EmptyAnswers.{IsEmptyAnswer, IsEmptyNode, SaysEmpty, SaysPoint, SaysTripped}
+use Rattle.rule_questions.specs.EmptyAnswers.{IsEmptyAnswer, IsEmptyNode, SaysEmpty, SaysPoint, SaysHitLimit}
 use Rattle.rule_questions.specs.EmptyAnswers.{empty_program}
 use Rattle.rule_questions.specs.EmptyAnswers.{EmptyAnswersAreExact, EmptyNodesAreAccepted}
-use Rattle.rule_questions.specs.Programs.{NothingTrips}
+use Rattle.rule_questions.specs.Programs.{NothingHitsLimit}
 
 -- rows that multipliers show to have no point have none
 node-empty : (m : Prepared) (rule : ℕ) (n : EmptyNode) → IsEmptyNode m rule n → ¬ HasPoint m.rows
@@ -27,28 +27,28 @@ pub answers-exact : EmptyAnswersAreExact
 answers-exact = record {
   empty = λ m rule pivots a h. empty-if m rule pivots a h;
   point = λ m rule pivots a h. point-if m rule pivots a h;
-  tripped = λ m rule pivots a h. tripped-if m rule pivots a h;
+  hit_limit = λ m rule pivots a h. hit_limit-if m rule pivots a h;
 }
   where
     empty-if : (m : Prepared) (rule pivots : ℕ) (a : GuardFeasibility) → IsEmptyAnswer m rule pivots a
-        → SaysEmpty a ↔ ((¬ HasPoint m.rows) × NothingTrips (empty_program m) pivots)
+        → SaysEmpty a ↔ ((¬ HasPoint m.rows) × NothingHitsLimit (empty_program m) pivots)
     empty-if m rule pivots (Empty n) h = (λ _. (node-empty m rule n h.0, h.1), λ _. tt)
     empty-if m rule pivots (Point z) h =
         (λ s. absurd s, λ g. g.0 (record { z = at (scaled_of z).parts; d = pos (scaled_of z).den; point = h.0.point }))
     empty-if m rule pivots (OutOfLimits t) h = (λ s. absurd s, λ g. g.1.each (cause_of t.cause) h.1)
 
     point-if : (m : Prepared) (rule pivots : ℕ) (a : GuardFeasibility) → IsEmptyAnswer m rule pivots a
-        → SaysPoint a ↔ (HasPoint m.rows × NothingTrips (empty_program m) pivots)
+        → SaysPoint a ↔ (HasPoint m.rows × NothingHitsLimit (empty_program m) pivots)
     point-if m rule pivots (Empty n) h = (λ s. absurd s, λ g. node-empty m rule n h.0 g.0)
     point-if m rule pivots (Point z) h =
         (λ _. (record { z = at (scaled_of z).parts; d = pos (scaled_of z).den; point = h.0.point }, h.1), λ _. tt)
     point-if m rule pivots (OutOfLimits t) h = (λ s. absurd s, λ g. g.1.each (cause_of t.cause) h.1)
 
-    tripped-if : (m : Prepared) (rule pivots : ℕ) (a : GuardFeasibility) → IsEmptyAnswer m rule pivots a
-        → SaysTripped a ↔ (¬ NothingTrips (empty_program m) pivots)
-    tripped-if m rule pivots (Empty n) h = (λ s. absurd s, λ g. g h.1)
-    tripped-if m rule pivots (Point z) h = (λ s. absurd s, λ g. g h.1)
-    tripped-if m rule pivots (OutOfLimits t) h = (λ _ g. g.each (cause_of t.cause) h.1, λ _. tt)
+    hit_limit-if : (m : Prepared) (rule pivots : ℕ) (a : GuardFeasibility) → IsEmptyAnswer m rule pivots a
+        → SaysHitLimit a ↔ (¬ NothingHitsLimit (empty_program m) pivots)
+    hit_limit-if m rule pivots (Empty n) h = (λ s. absurd s, λ g. g h.1)
+    hit_limit-if m rule pivots (Point z) h = (λ s. absurd s, λ g. g h.1)
+    hit_limit-if m rule pivots (OutOfLimits t) h = (λ _ g. g.each (cause_of t.cause) h.1, λ _. tt)
 
 -- the node of a rule whose rows have no point is accepted
 pub nodes-accepted : EmptyNodesAreAccepted

@@ -6,7 +6,7 @@ pub mod Filters
 pub mod GroupLines
 pub mod GoalForms
 pub mod NewValues
-pub mod Trips
+pub mod HitsLimit
 pub mod EmptyLaws
 pub mod EmptyProblems
 pub mod Exact

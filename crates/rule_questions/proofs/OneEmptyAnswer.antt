@@ -6,7 +6,7 @@ use Rattle.poly_terms.specs.linear_forms.Forms.{at}
 use Rattle.poly_terms.specs.linear_forms.LinearProgram.{LinearProgram}
 use Rattle.poly_terms.specs.linear_forms.Questions.{listed}
 use Rattle.cert_types.specs.guard_prep.Prepared.{Prepared}
-use Rattle.lp_builder.specs.simplex_core.Trips.{IsScaledSolution, IsScaledDual}
+use Rattle.lp_builder.specs.simplex_core.HitsLimit.{IsScaledSolution, IsScaledDual}
 use Rattle.lp_builder.proofs.simplex_core.OneAnswer.{optimal-same, infeasible-same, ends-apart}
 use Rattle.lp_builder.proofs.simplex_core.OneWholeAnswer.{scaled-once, causes-same}
 use Rattle.cert_types.specs.cert_rules.Gaps.{ScaledPoint}

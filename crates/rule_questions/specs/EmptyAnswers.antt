@@ -15,7 +15,7 @@ use Rattle.cert_types.specs.guard_prep.declared.rule_rows.RuleRows.{RuleRows}
 use Rattle.cert_types.specs.guard_prep.Prepared.{Prepared, prepared}
 use Rattle.cert_types.specs.guard_prep.Laws.{IsPreparable}
 use Rattle.cert_types.specs.guard_prep.Views.{prepared_of}
-use Rattle.lp_builder.specs.simplex_core.Trips.{Trips, IsScaledSolution, IsScaledDual}
+use Rattle.lp_builder.specs.simplex_core.HitsLimit.{HitsLimit, IsScaledSolution, IsScaledDual}
 use Rattle.cert_types.specs.cert_rules.Gaps.{ScaledPoint}
 use Rattle.cert_types.specs.cert_rules.AcceptsPlain.{AcceptsEmpty}
 use Rattle.cert_types.specs.cert_program.Setting.{setting_of}
@@ -25,7 +25,7 @@ use Rattle.cert_types.specs.declared.answer.GuardFeasibility.{GuardFeasibility}
 use Rattle.cert_types.specs.declared.answer.GuardFeasibility.TheVariants.{Empty, Point, OutOfLimits}
 use Rattle.cert_types.specs.AnswerViews.{scaled_of}
 use Rattle.rule_questions.specs.ProgramQuestions.{forms_of}
-use Rattle.rule_questions.specs.Programs.{NothingTrips}
+use Rattle.rule_questions.specs.Programs.{NothingHitsLimit}
 
 -- the rows are those of a rule that has rows, as each rule of a valid program has
 pub record IsPrepared (m : RuleRows) : Type 0 where
@@ -70,11 +70,11 @@ pub record IsDualPoint (m : Prepared) (pivots : ℕ) (z : ScaledPoint) : Type 0 
 -- the sequence of tableaux ends
 abbrev pub IsEmptyAnswer : Prepared → ℕ → ℕ → GuardFeasibility → Type 0
 IsEmptyAnswer m rule pivots (Empty n) =
-    IsEmptyNode m rule n × NothingTrips (empty_program m) pivots × AreSolved m pivots n.multipliers.items
+    IsEmptyNode m rule n × NothingHitsLimit (empty_program m) pivots × AreSolved m pivots n.multipliers.items
 IsEmptyAnswer m rule pivots (Point z) =
-    IsNearPoint m (scaled_of z) × NothingTrips (empty_program m) pivots × IsDualPoint m pivots (scaled_of z)
+    IsNearPoint m (scaled_of z) × NothingHitsLimit (empty_program m) pivots × IsDualPoint m pivots (scaled_of z)
 IsEmptyAnswer m rule pivots (OutOfLimits t) =
-    (t.question ≡ asked.Empty rule) × Trips (empty_program m) pivots (cause_of t.cause)
+    (t.question ≡ asked.Empty rule) × HitsLimit (empty_program m) pivots (cause_of t.cause)
 
 -- which case an answer is
 abbrev pub SaysEmpty : GuardFeasibility → Type 0
@@ -87,19 +87,19 @@ SaysPoint (Empty n) = ⊥
 SaysPoint (Point z) = Unit {0}
 SaysPoint (OutOfLimits t) = ⊥
 
-abbrev pub SaysTripped : GuardFeasibility → Type 0
-SaysTripped (Empty n) = ⊥
-SaysTripped (Point z) = ⊥
-SaysTripped (OutOfLimits t) = Unit {0}
+abbrev pub SaysHitLimit : GuardFeasibility → Type 0
+SaysHitLimit (Empty n) = ⊥
+SaysHitLimit (Point z) = ⊥
+SaysHitLimit (OutOfLimits t) = Unit {0}
 
 -- each of the three answers comes exactly in its case
 pub record EmptyAnswersAreExact : Type 0 where
   pub empty : (m : Prepared) (rule pivots : ℕ) (a : GuardFeasibility) → IsEmptyAnswer m rule pivots a
-      → SaysEmpty a ↔ ((¬ HasPoint m.rows) × NothingTrips (empty_program m) pivots)
+      → SaysEmpty a ↔ ((¬ HasPoint m.rows) × NothingHitsLimit (empty_program m) pivots)
   pub point : (m : Prepared) (rule pivots : ℕ) (a : GuardFeasibility) → IsEmptyAnswer m rule pivots a
-      → SaysPoint a ↔ (HasPoint m.rows × NothingTrips (empty_program m) pivots)
-  pub tripped : (m : Prepared) (rule pivots : ℕ) (a : GuardFeasibility) → IsEmptyAnswer m rule pivots a
-      → SaysTripped a ↔ (¬ NothingTrips (empty_program m) pivots)
+      → SaysPoint a ↔ (HasPoint m.rows × NothingHitsLimit (empty_program m) pivots)
+  pub hit_limit : (m : Prepared) (rule pivots : ℕ) (a : GuardFeasibility) → IsEmptyAnswer m rule pivots a
+      → SaysHitLimit a ↔ (¬ NothingHitsLimit (empty_program m) pivots)
 
 -- the node of a rule of a program whose rows have no point is accepted
 pub record EmptyNodesAreAccepted : Type 0 where

@@ -6,7 +6,7 @@ use Rattle.poly_terms.specs.linear_forms.ProgramLaws.{Agree}
 use Rattle.poly_terms.specs.linear_forms.Questions.{Question, program_of_question}
 use Rattle.lp_builder.specs.simplex_core.declared.problem.Problem.{Problem}
 use Rattle.lp_builder.specs.simplex_core.Problem.{program_of, IsProper}
-use Rattle.lp_builder.specs.simplex_core.Trips.{Trips}
+use Rattle.lp_builder.specs.simplex_core.HitsLimit.{HitsLimit}
 
 -- a problem meets the condition of the solver, and its linear program agrees with that of a question
 pub record IsProblemOf (q : Question) (p : Problem) : Type 0 where
@@ -14,5 +14,5 @@ pub record IsProblemOf (q : Question) (p : Problem) : Type 0 where
   pub agrees : Agree (program_of p) (program_of_question q)
 
 -- a linear program hits no limit within a number of pivots
-pub record NothingTrips (p : LinearProgram) (pivots : ℕ) : Type 0 where
-  pub each : (c : Cause) → ¬ (Trips p pivots c)
+pub record NothingHitsLimit (p : LinearProgram) (pivots : ℕ) : Type 0 where
+  pub each : (c : Cause) → ¬ (HitsLimit p pivots c)

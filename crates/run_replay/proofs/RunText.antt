@@ -1,4 +1,4 @@
--- When nothing stands against run files, what they come to, and so which runs are answered.
+-- When run files have no fault, the states that they lead to, and so which runs are answered.
 use Rattle.std.proofs.Common.{◌≡◌, ℕ, ◌+◌, ◌-◌, ◌^◌, ◌<◌, ◌≤◌, min, Bool, false, cond, List, [], ◌∷◌, ◌++◌}
 use Rattle.std.proofs.Common.{length, refl, ap, sym, subst, ◌∙◌, arith, append_assoc, append-nil, length-append}
 use Rattle.std.specs.Prelude.{not, nat_le, ◌==◌, codes}
@@ -42,7 +42,7 @@ module _ (p : Program) where
   abbrev from : Run → ℕ → Spelling State
   from r rule = at (record { run = r; rule = rule })
 
-  -- nothing stands against parts from a state on, and what they come to
+  -- from this state the parts have no fault; and the state that they lead to
   abbrev StandsFrom : Spelling State → List (Part ℕ Numbered) → Type 0
   StandsFrom s xs = Stand (fold_of (run_bytes p)) (numbers_of (run_bytes p)) s xs
 

@@ -1,4 +1,4 @@
--- The texts of runs of a program: what is remembered of one, and what stands against it.
+-- The texts of runs of a program: the state of reading, and the faults of tokens.
 use Rattle.std.specs.Prelude.{ℕ, ◌-◌, ◌^◌, min, Bool, ◌||◌, not, ◌==◌, nat_lt, nat_le, if◌then◌else◌, ℤ}
 use Rattle.std.specs.Prelude.{List, [], ◌∷◌, ◌++◌, length, Option, Some, None}
 use Rattle.its_model.specs.model.Programs.{Program, Rule, rule_at, arity_of}

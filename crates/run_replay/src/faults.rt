@@ -1,4 +1,4 @@
-//! What stands against the number of a rule and against a line of values of a run file.
+//! The faults of the number of a rule and of a line of values of a run file.
 
 ghost use Rattle.std.specs.Prelude.{◌≡◌};
 ghost use Rattle.its_model.specs.Views.{program_of};

@@ -15,7 +15,7 @@ use Rattle.cert_types.specs.cert_rules.Nodes.{ResultVariable, SideBound}
 use Rattle.cert_types.specs.cert_rules.Setting.{Setting}
 use Rattle.cert_types.specs.cert_rules.ComposedSizes.{reads, poly_at}
 use Rattle.its_graph.proofs.Elements.{none_in_empty}
-use Rattle.local_size.specs.LocalAnswers.{Local, HasBound, IsUnboundedOn, HasTripped}
+use Rattle.local_size.specs.LocalAnswers.{Local, HasBound, IsUnboundedOn, HasHitLimit}
 use Rattle.rvg_components.specs.Flows.{local_reads}
 use Rattle.cert_types.specs.Reading.{places_read}
 use Rattle.rvg_components.specs.Reading.{answer_reads}
@@ -55,7 +55,7 @@ read-sound s result_variable (HasBound l) left j h =
     go (inl c) = let k = side_bound-sound (poly_at s result_variable) l.up left j c in (k.0, or_left (reads (poly_at s result_variable) l.up j) (reads (poly_at s result_variable) l.low j) k.1)
     go (inr c) = let k = side_bound-sound (poly_at s result_variable) l.low left j c in (k.0, or_right (reads (poly_at s result_variable) l.up j) (reads (poly_at s result_variable) l.low j) k.1)
 read-sound s result_variable (IsUnboundedOn side ray kept) left j h = absurd (none_in_empty j h)
-read-sound s result_variable (HasTripped t) left j h = absurd (none_in_empty j h)
+read-sound s result_variable (HasHitLimit t) left j h = absurd (none_in_empty j h)
 
 -- each place that the answer reads is listed
 pub read-listed : (s : Setting) (result_variable : ResultVariable) (a : Local) (left j : ℕ) → j < left → local_reads s result_variable a j ≡ true → Contains (answer_reads (poly_at s result_variable) a left) j
@@ -65,7 +65,7 @@ read-listed s result_variable (HasBound l) left j low h = go (either (reads (pol
     go (inl e) = Contains-append_left (places_read (poly_at s result_variable) l.up left) (places_read (poly_at s result_variable) l.low left) j (side_bound-listed (poly_at s result_variable) l.up left j low e)
     go (inr e) = Contains-append_right (places_read (poly_at s result_variable) l.up left) (places_read (poly_at s result_variable) l.low left) j (side_bound-listed (poly_at s result_variable) l.low left j low e)
 read-listed s result_variable (IsUnboundedOn side ray kept) left j low h = absurd (no_is_not_yes false refl h)
-read-listed s result_variable (HasTripped t) left j low h = absurd (no_is_not_yes false refl h)
+read-listed s result_variable (HasHitLimit t) left j low h = absurd (no_is_not_yes false refl h)
 
 -- the places among one more
 read_more : (poly : Option Polynomial) (side_bound : SideBound) (n : ℕ) → places_read poly side_bound (n + 1) ≡ places_read poly side_bound n ++ cond (reads poly side_bound n) (n ∷ []) []
@@ -93,4 +93,4 @@ read-few poly (HasBound l) left m low =
     few side_bound = All-from_get_or (λ j. j < m) (places_read poly side_bound left) 0
         (λ i inside. let k = side_bound-sound poly side_bound left (get_or (places_read poly side_bound left) i 0) (Contains-get_or (places_read poly side_bound left) i 0 inside) in omega (arith, low, k.0))
 read-few poly (IsUnboundedOn side ray kept) left m low = All-nil (λ j. j < m)
-read-few poly (HasTripped t) left m low = All-nil (λ j. j < m)
+read-few poly (HasHitLimit t) left m low = All-nil (λ j. j < m)

@@ -8,7 +8,7 @@ use Rattle.cert_types.specs.cert_rules.Nodes.{ResultVariable}
 use Rattle.cert_types.specs.cert_rules.AcceptsPlain.{places_at}
 use Rattle.cert_types.specs.cert_rules.ComposedSizes.{reads, poly_at}
 use Rattle.cert_types.specs.cert_rules.Setting.{Setting}
-use Rattle.local_size.specs.LocalAnswers.{Local, HasBound, IsUnboundedOn, HasTripped}
+use Rattle.local_size.specs.LocalAnswers.{Local, HasBound, IsUnboundedOn, HasHitLimit}
 
 -- the answer for each place of a rule
 abbrev pub Locals : Type 0
@@ -19,7 +19,7 @@ Locals = ℕ → ℕ → Local
 abbrev pub local_reads : Setting → ResultVariable → Local → ℕ → Bool
 local_reads s result_variable (HasBound l) j = reads (poly_at s result_variable) l.up j || reads (poly_at s result_variable) l.low j
 local_reads s result_variable (IsUnboundedOn side ray kept) j = false
-local_reads s result_variable (HasTripped t) j = false
+local_reads s result_variable (HasHitLimit t) j = false
 
 -- a value flows from one result variable into another: the rule of the first can come just before that of the second,
 -- and a side bound of the second reads the first; places count from 1

@@ -10,7 +10,7 @@ use Rattle.cert_types.specs.cert_rules.WorkedSettings.{counting, program_with, r
 use Rattle.cert_types.specs.cert_rules.Worked.{side_bound}
 use Rattle.cert_types.specs.declared.answer.Question.TheVariants as asked
 use Rattle.poly_terms.specs.linear_forms.declared.limit_cause.LimitCause.TheVariants as causes
-use Rattle.local_size.specs.LocalAnswers.{Local, HasBound, IsUnboundedOn, HasTripped}
+use Rattle.local_size.specs.LocalAnswers.{Local, HasBound, IsUnboundedOn, HasHitLimit}
 use Rattle.rvg_components.specs.Flows.{Locals, value_flows, live_result_variables, loops}
 use Rattle.rvg_components.specs.Listing.{AreComponents}
 
@@ -39,8 +39,8 @@ reads_poly = HasBound (record { up = Poly; low = Poly })
 abbrev pub is_unbounded : Local
 is_unbounded = IsUnboundedOn Up (pos 1 ∷ []) (record { parts = []; den = 0 })
 
-abbrev pub has_tripped : Local
-has_tripped = HasTripped (record { question = asked.Local 2 1; cause = causes.Scale })
+abbrev pub has_hit_limit : Local
+has_hit_limit = HasHitLimit (record { question = asked.Local 2 1; cause = causes.Scale })
 
 -- this answer for rule 2, and for all others one that reads the place before
 abbrev pub after_2 : Local → Locals
@@ -72,7 +72,7 @@ pub record FlowsAreWorkedOut : Type 0 where
   pub other_place : value_flows counting all_read (result_variable 1 2) (result_variable 2 1) ≡ false
   pub other_place_by_poly : value_flows squared (after_2 reads_poly) (result_variable 1 2) (result_variable 2 1) ≡ false
   pub into_unbounded : value_flows counting (after_2 is_unbounded) (result_variable 1 1) (result_variable 2 1) ≡ false
-  pub into_tripped : value_flows counting (after_2 has_tripped) (result_variable 1 1) (result_variable 2 1) ≡ false
+  pub into_hit_limit : value_flows counting (after_2 has_hit_limit) (result_variable 1 1) (result_variable 2 1) ≡ false
 
 -- the places of live rules alone, in the order of rules and then of places
 pub record LivePlacesAreWorkedOut : Type 0 where

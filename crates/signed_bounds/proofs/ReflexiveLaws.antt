@@ -1,4 +1,4 @@
--- A bound that fits itself is within itself: each of its products is used up by the same one.
+-- A bound that fits itself is within itself: each of its products is covered by itself.
 use Rattle.std.proofs.Common.{◌≡◌, ℕ, ◌+◌, ◌-◌, ◌*◌, ◌≤◌, Bool, true, false, List, [], ◌∷◌, ◌++◌, map}
 use Rattle.std.proofs.Common.{Option, Some, None, refl, ap, ap₂, sym, ◌∙◌, subst, append_assoc, append-nil, arith}
 use Rattle.std.specs.Prelude.{◌==◌, ◌&&◌, ◌||◌, nat_le, if◌then◌else◌, option_map}
@@ -20,17 +20,17 @@ use Rattle.signed_bounds.specs.Within.{numerator, once_less, quotient_count, is_
 use Rattle.signed_bounds.specs.Within.{is_covered_by_quotient, is_covered_rounded, is_covered_by_some, within}
 use Rattle.signed_bounds.specs.Reflexive.{IsComparedWithItself, BoundsAreWithinThemselves}
 
--- what holds of all of two lists holds of all of both
+-- what holds of all elements of two lists holds of all elements of their append
 pub all-append : {A : Type 0} (P : A → Type 0) (xs ys : List A) → AllByRecursion P xs → AllByRecursion P ys
     → AllByRecursion P (xs ++ ys)
 all-append P [] ys h k = k
 all-append P (x ∷ xs) ys (first, others) k = (first, all-append P xs ys others k)
 
--- a product that isn't taken at all
+-- a product that occurs 0 times
 abbrev IsEmptied : Product → Type 0
 IsEmptied q = q.times ≡ 0
 
--- nothing is missing of nothing
+-- of a product that is needed 0 times nothing is missing
 missing_times-zero : (test : List Signed → List Signed → Bool) (fs : List Signed) (qs : List Product)
     → missing_times test 0 fs qs ≡ 0
 missing_times-zero test fs [] = refl
@@ -42,7 +42,7 @@ missing_times-zero test fs (q ∷ qs) = go (test fs q.factors) (missing_times-ze
         ap (λ (n : ℕ). missing_times test n fs qs) none ∙ ih
     go false ih = ih
 
--- nothing that is taken leaves all as it was
+-- taking a product 0 times leaves the list as it was
 used_up-zero : (test : List Signed → List Signed → Bool) (fs : List Signed) (qs : List Product)
     → used_up test 0 fs qs ≡ qs
 used_up-zero test fs [] = refl
@@ -58,7 +58,7 @@ used_up-zero test fs (q ∷ qs) = go (test fs q.factors) (used_up-zero test fs q
         (ap (λ (n : ℕ). used_up test n fs qs) none ∙ ih)
     go false ih = ap (λ (rest : List Product). q ∷ rest) ih
 
--- what isn't taken at all gives nothing
+-- products that occur 0 times cover nothing
 missing_times-emptied : (test : List Signed → List Signed → Bool) (n : ℕ) (fs : List Signed) (zs qs : List Product)
     → AllByRecursion IsEmptied zs → missing_times test n fs (zs ++ qs) ≡ missing_times test n fs qs
 missing_times-emptied test n fs [] qs h = refl
@@ -92,7 +92,7 @@ used_up-emptied test n fs (z ∷ zs) qs (first, others) =
         ∙ ap (λ (m : ℕ). used_up test m fs zs ++ used_up test n fs qs) (sym same))
     go false ih = ap (λ (rest : List Product). left false ∷ rest) ih
 
--- what isn't taken at all stays so
+-- products that occur 0 times still do after some are taken
 emptied-used_up : (test : List Signed → List Signed → Bool) (n : ℕ) (fs : List Signed) (zs : List Product)
     → AllByRecursion IsEmptied zs → AllByRecursion IsEmptied (used_up test n fs zs)
 emptied-used_up test n fs [] h = tt
@@ -105,7 +105,7 @@ emptied-used_up test n fs (z ∷ zs) (first, others) =
     go true ih = (omega (arith, first), ih (n - z.times))
     go false ih = (first, ih n)
 
--- a product takes all of the same one, and nothing of those behind it
+-- a product is covered by itself alone, and takes nothing of the products after it
 missing_times-same : (test : List Signed → List Signed → Bool) (p : Product) (qs : List Product)
     → test p.factors p.factors ≡ true → missing_times test p.times p.factors (p ∷ qs) ≡ 0
 missing_times-same test p qs e =
@@ -127,7 +127,7 @@ used_up-same test p qs e =
 abbrev PassesWithItself : (List Signed → List Signed → Bool) → Product → Type 0
 PassesWithItself test p = test p.factors p.factors ≡ true
 
--- products take all of the same ones, whatever is emptied before them or is behind them
+-- products are covered by themselves, whatever follows, and if those before occur 0 times
 missing_products-same : (test : List Signed → List Signed → Bool) (ps zs more : List Product)
     → AllByRecursion (PassesWithItself test) ps → AllByRecursion IsEmptied zs
     → AllByRecursion IsEmptied (missing_products test ps (zs ++ (ps ++ more)))
@@ -149,7 +149,7 @@ missing_products-same test (p ∷ ps) zs more (first, others) k =
           (missing_products-same test ps before more others emptied_before),
     )
 
--- the sizes of two sums add up, and a sum that is taken more often has its size
+-- the sizes of two sums add up; scaling a sum keeps its size
 factor_total-append : (ps qs : List Product) → factor_total (ps ++ qs) ≡ factor_total ps + factor_total qs
 factor_total-append [] qs = omega arith
 factor_total-append (p ∷ ps) qs = omega (arith, factor_total-append ps qs)
@@ -185,7 +185,7 @@ module _ (is_safe : Term → Bool) where
       option_of : Bool → Option (List Signed)
       option_of t = option_map (λ rest. f ∷ rest) (without_first (is_equal is_safe f) fs)
 
-  -- so do all products
+  -- the test passes for all products whose factors fit themselves
   products-pass : (ps : List Product) → AllByRecursion FactorsFitThemselves ps
       → AllByRecursion (PassesWithItself (factors_equal is_safe)) ps
   products-pass [] h = tt
@@ -234,13 +234,13 @@ module _ (is_safe : Term → Bool) where
       all-append FactorsFitThemselves (map (joined p) qs) (multiplied ps qs) (joined-fit p qs first k)
       (multiplied-fit ps qs others k)
 
-  -- so do those of a positive part
+  -- the factors of the product of a positive part fit themselves
   part-fits : (p : Polynomial) (o : Option ℕ) → FitsItself (PositivePart p) → FactorsFitThemselves (part_or_number p o)
   part-fits p None h = (h, tt)
   part-fits p (Some n) h = tt
 
   mutual
-    -- so do those of a bound that fits itself
+    -- the factors of the products of a bound that fits itself fit themselves
     products_of-fit : (b : Signed) → FitsItself b → AllByRecursion FactorsFitThemselves (products_of b)
     products_of-fit (Constant c) h = (tt, tt)
     products_of-fit (PositivePart p) h = (part-fits p (constant_part p) h, tt)
@@ -293,7 +293,7 @@ module _ (is_safe : Term → Bool) where
           ap (λ (qs : List Product). covers is_safe ps qs) listed
           ∙ covers-same ps (number 0 ∷ []) [] (products_of-fit b h.fits_itself) (refl, tt) size
 
-  -- a bound is within its quotient by a number, that often
+  -- a bound, with the divisor den, is within its quotient by den
   within-quotient : (den : ℕ) (b : Signed) → IsComparedWithItself is_safe b
       → is_multipliable den (Quotient b den) ≡ true → within is_safe den b (Quotient b den) ≡ true
   within-quotient den b h limited =
@@ -336,7 +336,7 @@ module _ (is_safe : Term → Bool) where
           (ap (λ (o : Option Signed). is_covered_with_numerator is_safe den ps o (once_less (factor (Quotient b den)) ∷ [])) found
           ∙ covered))
 
--- the law
+-- every bound that fits itself is within itself and within its quotients
 pub bounds_are_within_themselves : BoundsAreWithinThemselves
 bounds_are_within_themselves = record {
   itself = λ is_safe b h. within-itself is_safe b h;

@@ -177,6 +177,10 @@ limits = record {
   largest = refl;
   larger = refl;
   too_large = refl;
+  heavy_in_limits = refl;
+  heavy_multiplied = refl;
+  heavy_size = refl;
+  heavy_refused = refl;
   sixteen = refl;
   seventeen = refl;
 }

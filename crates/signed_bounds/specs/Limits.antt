@@ -17,7 +17,7 @@ depth_limit = 200
 abbrev pub product_limit : ℕ
 product_limit = 4096
 
--- the maximum number of pairs of factors that a comparison of two sums of products looks at
+-- the maximum of the sizes of two sums of products, multiplied, that are compared
 abbrev pub comparison_limit : ℕ
 comparison_limit = 131072
 

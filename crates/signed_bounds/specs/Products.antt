@@ -1,10 +1,11 @@
 -- Bounds as sums of products.
-use Rattle.std.specs.Prelude.{ℕ, ◌+◌, ◌*◌, max, Bool, ◌&&◌, nat_le, List, [], ◌∷◌, ◌++◌, length, map, ℤ}
+use Rattle.std.specs.Prelude.{ℕ, ◌+◌, ◌*◌, max, Bool, ◌&&◌, nat_le, List, [], ◌∷◌, ◌++◌, map, ℤ}
 use Rattle.std.specs.Prelude.{Option, Some, None}
 use Rattle.poly_terms.specs.model.Polynomials.{Polynomial}
 use Rattle.signed_bounds.specs.Bounds.{Signed, Constant, PositivePart, SumOf, ProductOf, MaximumOf, MinimumOf, Quotient}
 use Rattle.signed_bounds.specs.Bounds.{Root, PowerOf, SignedParts, NoParts, Part, signed_val, positive_part}
 use Rattle.signed_bounds.specs.Limits.{constant_limit, product_limit, comparison_limit}
+use Rattle.signed_bounds.specs.Measure.{node_count}
 
 -- a product of bounds, taken a number of times
 pub record Product : Type 0 where
@@ -142,10 +143,15 @@ abbrev mutual
 abbrev pub is_multipliable : ℕ → Signed → Bool
 is_multipliable n b = nat_le (product_count b) product_limit && nat_le (n * number_sum b) constant_limit
 
--- the size of a sum of products: 1 for each product and for each factor
+-- the number of nodes of all factors
+abbrev pub factor_nodes : List Signed → ℕ
+factor_nodes [] = 0
+factor_nodes (f ∷ fs) = node_count f + factor_nodes fs
+
+-- the size of a sum of products: 1 for each product and for each node of its factors
 abbrev pub factor_total : List Product → ℕ
 factor_total [] = 0
-factor_total (p ∷ ps) = (1 + length p.factors) + factor_total ps
+factor_total (p ∷ ps) = (1 + factor_nodes p.factors) + factor_total ps
 
 -- whether two sums of products are compared: their sizes multiplied are at most 131,072
 abbrev pub is_comparable : List Product → List Product → Bool

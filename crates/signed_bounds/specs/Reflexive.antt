@@ -3,16 +3,17 @@ use Rattle.std.specs.Prelude.{◌≡◌, ℕ, ◌+◌, ◌*◌, ◌≤◌, Bool,
 use Rattle.poly_terms.specs.model.Terms.{Term}
 use Rattle.signed_bounds.specs.Bounds.{Signed, Quotient}
 use Rattle.signed_bounds.specs.Limits.{comparison_limit}
+use Rattle.signed_bounds.specs.Measure.{node_count}
 use Rattle.signed_bounds.specs.Fits.{fits}
 use Rattle.signed_bounds.specs.Products.{factor_total, products_of, is_multipliable}
 use Rattle.signed_bounds.specs.Within.{within}
 
--- the bound fits itself, is multiplied out within the limits, and its products are few enough to be compared with
--- themselves and one more
+-- the bound fits itself, is multiplied out within the limits, and its products are small enough to be compared with
+-- themselves and a quotient of the bound
 pub record IsComparedWithItself (is_safe : Term → Bool) (b : Signed) : Type 0 where
   pub fits_itself : fits is_safe b b ≡ true
   pub multiplied : is_multipliable 1 b ≡ true
-  pub size : factor_total (products_of b) * (factor_total (products_of b) + 2) ≤ comparison_limit
+  pub size : factor_total (products_of b) * (factor_total (products_of b) + (2 + node_count b)) ≤ comparison_limit
 
 -- such a bound is within itself, and divided by a number that isn't too large it is within its quotient
 pub record BoundsAreWithinThemselves : Type 0 where

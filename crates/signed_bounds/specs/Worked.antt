@@ -1,7 +1,7 @@
 -- Values of the definitions that were worked out by hand.
-use Rattle.std.specs.Prelude.{◌≡◌, ℕ, zero, suc, ◌+◌, ◌^◌, Bool, true, false, List, [], ◌∷◌, ℤ, pos, negsuc}
+use Rattle.std.specs.Prelude.{◌≡◌, ℕ, zero, suc, ◌+◌, ◌*◌, ◌^◌, Bool, true, false, List, [], ◌∷◌, ℤ, pos, negsuc}
 use Rattle.poly_terms.specs.model.Bounds as plain
-use Rattle.poly_terms.specs.model.Polynomials.{Monomial}
+use Rattle.poly_terms.specs.model.Polynomials.{Monomial, Polynomial}
 use Rattle.poly_terms.specs.model.Terms.{Literal, Variable, Addition, Subtraction, Multiplication, Exponentiation}
 use Rattle.signed_bounds.specs.Bounds.{Signed, Constant, PositivePart, SumOf, ProductOf, MaximumOf, MinimumOf, Quotient}
 use Rattle.signed_bounds.specs.Bounds.{Root, PowerOf, SignedParts, NoParts, Part, signed_val}
@@ -283,15 +283,30 @@ abbrev pub repeated : Signed → ℕ → SignedParts
 repeated b zero = NoParts
 repeated b (suc n) = Part b (repeated b n)
 
+-- the polynomial with n monomials x
+abbrev pub long_polynomial : ℕ → Polynomial
+long_polynomial zero = []
+long_polynomial (suc n) = times (pos 1) (0 ∷ []) ∷ long_polynomial n
+
+-- the bound ([x + .. + x] + 1)^6, where each polynomial has n monomials
+abbrev pub heavy : ℕ → Signed
+heavy n = ProductOf (repeated (SumOf (two_parts (PositivePart (long_polynomial n)) (Constant 1))) 6)
+
 -- what is compared, and what is too large to be
 pub record LimitsOfComparisons : Type 0 where
-  -- [x] + [x] has the size 4: two products of one factor each
-  pub size : factor_total (products_of (SumOf (two_parts x x))) ≡ 4
-  -- sums of size 256 and 512 are compared, and of 258 and 512 they aren't
-  pub largest : is_comparable (products_of (SumOf (repeated x 128))) (products_of (SumOf (repeated x 256))) ≡ true
-  pub larger : is_comparable (products_of (SumOf (repeated x 129))) (products_of (SumOf (repeated x 256))) ≡ false
-  -- so 200 times [x] isn't found within 400 times [x]
-  pub too_large : is_within 1 (SumOf (repeated x 200)) (SumOf (repeated x 400)) ≡ false
+  -- [x] + [x] has the size 8: two products of one factor each, which has three nodes
+  pub size : factor_total (products_of (SumOf (two_parts x x))) ≡ 8
+  -- sums of size 256 and 512 are compared, and of 260 and 512 they aren't
+  pub largest : is_comparable (products_of (SumOf (repeated x 64))) (products_of (SumOf (repeated x 128))) ≡ true
+  pub larger : is_comparable (products_of (SumOf (repeated x 65))) (products_of (SumOf (repeated x 128))) ≡ false
+  -- so 65 times [x] isn't found within 128 times [x]
+  pub too_large : is_within 1 (SumOf (repeated x 65)) (SumOf (repeated x 128)) ≡ false
+  -- ([x + .. + x] + 1)^6 is within the limits of a bound and is multiplied out, into 64 products with 192 factors in
+  -- all. Where each factor has 201 nodes these are too many to be compared with themselves.
+  pub heavy_in_limits : exceeds_limits (heavy 100) ≡ false
+  pub heavy_multiplied : is_multipliable 1 (heavy 100) ≡ true
+  pub heavy_size : factor_total (products_of (heavy 100)) ≡ 64 + 192 * 201
+  pub heavy_refused : is_within 1 (heavy 100) (heavy 100) ≡ false
   -- of 16 quotients each is taken apart, and of 17 none
   pub sixteen : is_within 2 x (SumOf (Part (Quotient x 2) (repeated (Quotient y 2) 15))) ≡ true
   pub seventeen : is_within 2 x (SumOf (Part (Quotient x 2) (repeated (Quotient y 2) 16))) ≡ false

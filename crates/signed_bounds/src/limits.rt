@@ -16,7 +16,8 @@ pub const DEPTH_LIMIT: u32 = 200;
 /// The maximum number of products that a comparison multiplies a bound out into.
 pub const PRODUCT_LIMIT: u64 = 4096;
 
-/// The maximum number of pairs of factors that a comparison of two sums of products looks at.
+/// The maximum of the sizes of two sums of products, multiplied, that are compared. The size of a sum of products is 1
+/// for each product and for each node of its factors.
 pub const COMPARISON_LIMIT: u64 = 131_072;
 
 /// The maximum number of quotients by the common denominator that a comparison takes apart.

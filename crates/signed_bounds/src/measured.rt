@@ -3,7 +3,8 @@
 ghost use Rattle.std.specs.Prelude.{◌≡◌, ◌+◌, ◌-◌, ◌^◌, min, length};
 ghost use Rattle.poly_terms.specs.Views.{monomials_of};
 ghost use Rattle.signed_bounds.specs.Views.{signed_of, signeds_of, parts_of};
-ghost use Rattle.signed_bounds.specs.Measure.{node_count, node_count_of_all, polynomial_nodes, depth_of, maximum_depth};
+ghost use Rattle.signed_bounds.specs.Measure.{node_count as nodes_of, node_count_of_all, polynomial_nodes};
+ghost use Rattle.signed_bounds.specs.Measure.{depth_of, maximum_depth};
 ghost use Rattle.signed_bounds.specs.Measure.{is_large as is_large_bound, exceeds_limits as is_beyond};
 ghost use Rattle.signed_bounds.specs.Measure.{has_large_constant as has_large, some_have_large_constant as some_have};
 
@@ -17,10 +18,17 @@ impl Signed {
     ///
     /// Each is the lesser of the exact number and the maximum number of its type.
     pub fn measure(&self) -> (u64, u32)
-        ensures nodes { result.0 ≡ min (node_count (signed_of self.now)) (2 ^ 64 - 1) }
+        ensures nodes { result.0 ≡ min (nodes_of (signed_of self.now)) (2 ^ 64 - 1) }
         ensures depth { result.1 ≡ min (depth_of (signed_of self.now)) (2 ^ 32 - 1) }
     {
-        (nodes_in(self), levels_in(self))
+        (self.node_count(), levels_in(self))
+    }
+
+    /// The number of nodes, or the maximum number of its type where there are more.
+    pub fn node_count(&self) -> u64
+        ensures { result ≡ min (nodes_of (signed_of self.now)) (2 ^ 64 - 1) }
+    {
+        nodes_in(self)
     }
 
     /// Whether this bound has more nodes than `NODE_LIMIT`, or more levels than `DEPTH_LIMIT`.
@@ -41,7 +49,7 @@ impl Signed {
 
 #[cycle(nodes)]
 fn nodes_in(bound: &Signed) -> u64
-    ensures { result ≡ min (node_count (signed_of bound.now)) (2 ^ 64 - 1) }
+    ensures { result ≡ min (nodes_of (signed_of bound.now)) (2 ^ 64 - 1) }
 {
     match bound {
         Signed::Const(_) => 1,

@@ -3,7 +3,7 @@ use Rattle.std.proofs.Common.{◌≡◌, ℕ, zero, suc, ◌+◌, ◌*◌, ◌-�
 use Rattle.std.proofs.Common.{length, refl, ap, sym, ◌∙◌, inl, inr, arith}
 use Rattle.std.specs.Prelude.{nat_le}
 use Rattle.std.proofs.Math.Nat.{mul-le-mul}
-use Rattle.std.proofs.lemmas.Bool.{cases_lt, leb-true, leb-false, le-leb}
+use Rattle.std.proofs.lemmas.Bool.{cases_lt, leb-true, leb-false}
 use Rattle.signed_bounds.specs.Bounds as plain
 use Rattle.signed_bounds.specs.Bounds.{SignedParts, NoParts, Part}
 use Rattle.signed_bounds.specs.declared.signed.Signed.{Signed}
@@ -122,20 +122,25 @@ pub count_test : (count capped : ℕ) → capped ≡ min count (2 ^ 64 - 1)
     → nat_le capped product_limit ≡ nat_le count product_limit
 count_test count capped e = tests_agree capped product_limit count product_limit (λ h. omega arith) (λ h. omega arith)
 
--- so is a product of two capped numbers
-pub pair_test : (a b capped other product : ℕ) → capped ≡ min a (2 ^ 64 - 1) → other ≡ min b (2 ^ 64 - 1)
-    → product ≡ min (capped * other) (2 ^ 64 - 1) → nat_le product comparison_limit ≡ nat_le (a * b) comparison_limit
+-- so is a product of two numbers that are capped behind the limit
+pub pair_test : (a b capped other product : ℕ) → capped ≡ min a (comparison_limit + 1)
+    → other ≡ min b (comparison_limit + 1) → product ≡ min (capped * other) (2 ^ 64 - 1)
+    → nat_le product comparison_limit ≡ nat_le (a * b) comparison_limit
 pair_test a b capped other product e f h =
     tests_agree product comparison_limit (a * b) comparison_limit
     (λ k. omega (arith, whole))
     (λ k. omega (arith, whole))
   where
-    whole : product ≡ min (a * b) (2 ^ 64 - 1)
+    capped_twice : (x y z : ℕ) → z ≡ min x (2 ^ 64 - 1) → min x (comparison_limit + 1) ≡ min y (comparison_limit + 1)
+        → min z (comparison_limit + 1) ≡ min y (comparison_limit + 1)
+    capped_twice x y z is same = omega arith
+
+    whole : min product (comparison_limit + 1) ≡ min (a * b) (comparison_limit + 1)
     whole =
-        h
-        ∙ ap (λ (v : ℕ). min (v * other) (2 ^ 64 - 1)) e
-        ∙ ap (λ (v : ℕ). min (min a (2 ^ 64 - 1) * v) (2 ^ 64 - 1)) f
-        ∙ min-mul a b (2 ^ 64 - 1)
+        capped_twice (capped * other) (a * b) product h
+        (ap (λ (v : ℕ). min (v * other) (comparison_limit + 1)) e
+        ∙ ap (λ (v : ℕ). min (min a (comparison_limit + 1) * v) (comparison_limit + 1)) f
+        ∙ min-mul a b (comparison_limit + 1))
 
 -- so is one that is multiplied up to the cap
 pub sum_test : (sum times capped product : ℕ) → capped ≡ min sum (2 ^ 128 - 1)

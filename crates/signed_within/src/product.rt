@@ -1,11 +1,12 @@
 //! Products of bounds.
 
-ghost use Rattle.std.specs.Prelude.{◌≡◌, ◌+◌, ◌*◌, ◌-◌, ◌^◌, ◌≤◌, min, length, IfOk};
+ghost use Rattle.std.specs.Prelude.{◌≡◌, ◌+◌, ◌*◌, ◌-◌, ◌^◌, ◌≤◌, min, IfOk};
 ghost use Rattle.signed_bounds.specs.Views.{signed_of};
-ghost use Rattle.signed_bounds.specs.Limits.{constant_limit};
+ghost use Rattle.signed_bounds.specs.Limits.{constant_limit, comparison_limit};
 ghost use Rattle.signed_bounds.specs.Products.{number as number_of, factor as factor_of, joined as joined_of};
-ghost use Rattle.signed_bounds.specs.Products.{factor_total as total_of, is_comparable as are_comparable};
-ghost use Rattle.signed_within.specs.Views.{product_of, products_at};
+ghost use Rattle.signed_bounds.specs.Products.{factor_nodes as nodes_of, factor_total as total_of};
+ghost use Rattle.signed_bounds.specs.Products.{is_comparable as are_comparable};
+ghost use Rattle.signed_within.specs.Views.{signed_at, product_of, products_at};
 ghost use Rattle.signed_within.specs.Numerators.{IsNumerator};
 
 use crate::whole::single;
@@ -102,28 +103,43 @@ pub(crate) fn numerator<'a>(den: u128, q: &Product<'a>) -> Option<&'a Signed>
     }
 }
 
-/// Whether two sums of products are compared: their sizes, 1 for each product and for each factor, multiplied are at
-/// most `COMPARISON_LIMIT`.
+/// Whether two sums of products are compared: their sizes, 1 for each product and for each node of its factors,
+/// multiplied are at most `COMPARISON_LIMIT`.
 pub(crate) fn is_comparable(ps: &[Product], qs: &[Product]) -> bool
     ensures { result ≡ are_comparable (products_at ps.now) (products_at qs.now) }
 {
     factor_total(ps).saturating_mul(factor_total(qs)) <= COMPARISON_LIMIT
 }
 
-// The size of a sum of products, or the maximum number of its type where it is greater.
+// The size of a sum of products, or `COMPARISON_LIMIT` + 1 where it is greater. It looks at no product behind the one
+// with which the size passes that limit.
 fn factor_total(products: &[Product]) -> u64
-    ensures { result ≡ min (total_of (products_at products.now)) (2 ^ 64 - 1) }
+    ensures { result ≡ min (total_of (products_at products.now)) (comparison_limit + 1) }
 {
     let mut total = 0u64;
     for product in products {
         total = total.saturating_add(product_size(product));
+        if total > COMPARISON_LIMIT {
+            return COMPARISON_LIMIT + 1;
+        }
     }
     total
 }
 
-// 1 and the number of factors, or the maximum number of its type where it is greater.
+// 1 and the number of nodes of the factors, or the maximum number of its type where that is greater.
 fn product_size(product: &Product) -> u64
-    ensures { result ≡ min (1 + length (product_of product.now).factors) (2 ^ 64 - 1) }
+    ensures { result ≡ min (1 + nodes_of (product_of product.now).factors) (2 ^ 64 - 1) }
 {
-    (product.factors.len() as u64).saturating_add(1)
+    factor_nodes(&product.factors).saturating_add(1)
+}
+
+// The number of nodes of all factors, or the maximum number of its type where there are more.
+fn factor_nodes(factors: &[&Signed]) -> u64
+    ensures { result ≡ min (nodes_of (signed_at factors.now)) (2 ^ 64 - 1) }
+{
+    let mut nodes = 0u64;
+    for i in 0..factors.len() {
+        nodes = nodes.saturating_add(factors[i].node_count());
+    }
+    nodes
 }

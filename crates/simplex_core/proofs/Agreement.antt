@@ -22,8 +22,8 @@ use Rattle.linear_forms.proofs.ProgramLaws.{agree-solutions, agree-least, agree-
 use Rattle.simplex_core.specs.Tableau.{Tableau, cost_row, artificial, sign_of, equation, cost, first_reduced_cost}
 use Rattle.simplex_core.specs.Tableau.{first_tableau}
 use Rattle.simplex_core.specs.Bland.{next_of, tableau_at}
-use Rattle.simplex_core.specs.Outcome.{ComesAfter, IsAnswer, EndsOptimally, EndsInfeasibly, TripsRange, TripsBudget}
-use Rattle.simplex_core.specs.Trips.{Trips, TripsSolution, TripsDual, IsWholeAnswer}
+use Rattle.simplex_core.specs.Outcome.{ComesAfter, IsAnswer, EndsOptimally, EndsInfeasibly, ExceedsNumberRange, ExceedsPivotLimit}
+use Rattle.simplex_core.specs.HitsLimit.{HitsLimit, ScaledSolutionExceeds, ScaledDualExceeds, IsWholeAnswer}
 
 -- functions with the same values are the same
 fun_ext : {A B : Type 0} (f g : A → B) → ((x : A) → f x ≡ g x) → f ≡ g
@@ -151,11 +151,11 @@ module _ (p : LinearProgram) (e : ℕ → ℕ → ℤ) (r f s : ℕ → ℤ) (a 
   }
 
   -- a number is out of range
-  range-same : (allowed k : ℕ) → TripsRange p allowed k → TripsRange other allowed k
+  range-same : (allowed k : ℕ) → ExceedsNumberRange p allowed k → ExceedsNumberRange other allowed k
   range-same allowed k h = record { within = h.within; last = h.last; reached = reached-same k h.last h.reached; out = λ i. h.out (record { each = i.each }) }
 
   -- the allowed pivots don't suffice
-  budget-same : (allowed : ℕ) → TripsBudget p allowed → TripsBudget other allowed
+  budget-same : (allowed : ℕ) → ExceedsPivotLimit p allowed → ExceedsPivotLimit other allowed
   budget-same allowed h = record {
     last = h.last;
     reached = reached-same allowed h.last h.reached;
@@ -174,13 +174,13 @@ module _ (p : LinearProgram) (e : ℕ → ℕ → ℤ) (r f s : ℕ → ℤ) (a 
   answer-same allowed (Err Memory) h = tt
 
   -- agreeing programs hit the same limits
-  limit_hit-same : (allowed : ℕ) (c : Cause) → Trips p allowed c → Trips other allowed c
+  limit_hit-same : (allowed : ℕ) (c : Cause) → HitsLimit p allowed c → HitsLimit other allowed c
   limit_hit-same allowed (range k) h = (h.0, range-same allowed k h.1)
   limit_hit-same allowed (budget n) h = (h.0, h.1, budget-same allowed h.2)
   limit_hit-same allowed (wide n) h = h
   limit_hit-same allowed scale h = (h.0, go h.1)
     where
-      go : TripsSolution p allowed ⊎ TripsDual p allowed → TripsSolution other allowed ⊎ TripsDual other allowed
+      go : ScaledSolutionExceeds p allowed ⊎ ScaledDualExceeds p allowed → ScaledSolutionExceeds other allowed ⊎ ScaledDualExceeds other allowed
       go (inl t) = inl (record { at = t.at; basis = t.basis; k = t.k; ends = optimal-same allowed t.k t.at t.basis t.ends; exceeds = t.exceeds })
       go (inr t) = inr (record { dual = t.dual; k = t.k; ends = infeasible-same allowed t.k t.dual t.ends; exceeds = t.exceeds })
 
@@ -225,8 +225,8 @@ pub answers-agree : (p q : LinearProgram) (allowed : ℕ) (x : Result Solved Sol
 answers-agree p q allowed x a h = of-agreeing (λ r. IsAnswer r allowed x) p q a (λ b. answer-same p q.entry q.right q.first q.second b allowed x h)
 
 -- agreeing programs hit limits of the same cause
-pub trips-agree : (p q : LinearProgram) (allowed : ℕ) (c : Cause) → Agree p q → Trips p allowed c → Trips q allowed c
-trips-agree p q allowed c a h = of-agreeing (λ r. Trips r allowed c) p q a (λ b. limit_hit-same p q.entry q.right q.first q.second b allowed c h)
+pub hits_limit-agree : (p q : LinearProgram) (allowed : ℕ) (c : Cause) → Agree p q → HitsLimit p allowed c → HitsLimit q allowed c
+hits_limit-agree p q allowed c a h = of-agreeing (λ r. HitsLimit r allowed c) p q a (λ b. limit_hit-same p q.entry q.right q.first q.second b allowed c h)
 
 -- they have the same answers in integers
 pub whole-answers-agree : (p q : LinearProgram) (allowed : ℕ) (x : Answer) → Agree p q → IsWholeAnswer p allowed x → IsWholeAnswer q allowed x

@@ -1,4 +1,4 @@
--- What a dual and prices say of every solution.
+-- A dual excludes every solution, and prices bound the cost of each from below.
 use Rattle.std.proofs.Common.{◌≡◌, ℕ, ◌<◌, ap, arith, refl, sym, ◌∙◌, subst, [], ◌∷◌}
 use Rattle.std.specs.Prelude.{ℤ, pos, ◌+ℤ◌, ◌*ℤ◌, ◌≤ℤ◌, ◌<ℤ◌}
 use Rattle.std.proofs.lemmas.Int.{ints}
@@ -54,11 +54,11 @@ priced-least p cost x d y e positive h s =
         (identity (q ∷ b ∷ d ∷ []) (variable 0 ⊗ (variable 1 ⊗ variable 2)) (variable 2 ⊗ (variable 0 ⊗ variable 1)) refl)
         (mul-le-mul_ℤ d (r *ℤ e) (q *ℤ b) (weak d positive) below))
 
--- what is least has the least first costs
+-- a point of least cost has first costs of at most those of any solution
 pub least-first : (p : LinearProgram) (x : ℕ → ℤ) (d : ℤ) (y : ℕ → ℤ) (e : ℤ) → pos 0 <ℤ d → IsLeast p x d → IsSolution p y e → CostsAtMost p.columns p.first x d y e
 least-first p x d y e positive h s = priced-least p p.first x d y e positive h.first s
 
--- what is least has the least second costs at the same first costs
+-- a point of least cost has second costs of at most those of any solution with the same first costs
 pub least-second : (p : LinearProgram) (x : ℕ → ℤ) (d : ℤ) (y : ℕ → ℤ) (e : ℤ) → pos 0 <ℤ d → IsLeast p x d → IsSolution p y e → CostsTheSame p.columns p.first x d y e
     → CostsAtMost p.columns p.second x d y e
 least-second p x d y e positive h s same =

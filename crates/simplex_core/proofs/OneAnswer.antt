@@ -20,7 +20,7 @@ use Rattle.simplex_core.specs.Tableau.{Tableau, unknowns, cost_row}
 use Rattle.simplex_core.specs.Bland.{dual_of, is_infeasible, entering, step_in, next, next_of, tableau_at}
 use Rattle.simplex_core.specs.Problem.{table_size, widest}
 use Rattle.simplex_core.specs.Outcome.{ComesAfter, IsInRange, IsBasicValue, HoldsPoint, EndsOptimally, EndsInfeasibly}
-use Rattle.simplex_core.specs.Outcome.{TripsRange, TripsBudget, IsEnd, IsStop, IsAnswer}
+use Rattle.simplex_core.specs.Outcome.{ExceedsNumberRange, ExceedsPivotLimit, IsEnd, IsStop, IsAnswer}
 use Rattle.simplex_core.specs.Agreement.{AreSameFractions, IsMemory, IsSameAnswer}
 use Rattle.simplex_core.proofs.Invariant.{IsTableauOf, same_or_other}
 use Rattle.simplex_core.proofs.SequenceLaws.{tableau_at-is_tableau}
@@ -81,11 +81,11 @@ pub infeasible-stops : (p : LinearProgram) (allowed k : ℕ) (dual : List Frac) 
 infeasible-stops p allowed k dual e = record { within = e.within; reached = e.reached; last = λ _. inl (infeasible-last p e.last e.infeasible) }
 
 -- a number out of range stops
-pub range-stops : (p : LinearProgram) (allowed k : ℕ) (e : TripsRange p allowed k) → Stops p allowed k e.last
+pub range-stops : (p : LinearProgram) (allowed k : ℕ) (e : ExceedsNumberRange p allowed k) → Stops p allowed k e.last
 range-stops p allowed k e = record { within = e.within; reached = e.reached; last = λ i. absurd (e.out i) }
 
 -- the allowed pivots stop
-pub budget-stops : (p : LinearProgram) (allowed : ℕ) (e : TripsBudget p allowed) → Stops p allowed allowed e.last
+pub budget-stops : (p : LinearProgram) (allowed : ℕ) (e : ExceedsPivotLimit p allowed) → Stops p allowed allowed e.last
 budget-stops p allowed e = record { within = omega arith; reached = e.reached; last = λ _. inr refl }
 
 -- fractions of one value are the same
@@ -170,13 +170,13 @@ ends-apart p allowed k m at basis dual a b =
     cc
 
 -- where the sequence ends in range, it isn't out of range
-pub range-apart : (p : LinearProgram) (allowed k m : ℕ) (t : Tableau) → IsInRange p t → Stops p allowed k t → TripsRange p allowed m → ⊥
+pub range-apart : (p : LinearProgram) (allowed k m : ℕ) (t : Tableau) → IsInRange p t → Stops p allowed k t → ExceedsNumberRange p allowed m → ⊥
 range-apart p allowed k m t range s r =
     let same = stops-same p allowed k m t r.last s (range-stops p allowed m r) in
     r.out (subst (λ (u : Tableau). IsInRange p u) same.1 range)
 
 -- where the sequence ends, no pivot is wanting
-pub budget-apart : (p : LinearProgram) (allowed k : ℕ) (t : Tableau) → next p t ≡ None → Stops p allowed k t → TripsBudget p allowed → ⊥
+pub budget-apart : (p : LinearProgram) (allowed k : ℕ) (t : Tableau) → next p t ≡ None → Stops p allowed k t → ExceedsPivotLimit p allowed → ⊥
 budget-apart p allowed k t none s r =
     let same = stops-same p allowed k allowed t r.last s (budget-stops p allowed r) in
     let e : next p r.last ≡ None = subst (λ (u : Tableau). next p u ≡ None) same.1 none in

@@ -16,8 +16,8 @@ use Rattle.simplex_core.specs.Problem.{table_size, widest}
 use Rattle.simplex_core.specs.Outcome.{EndsOptimally, EndsInfeasibly}
 use Rattle.simplex_core.specs.Scaling.{IsCommon, AreOver, AreScaled}
 use Rattle.simplex_core.specs.Agreement.{AreSameFractions}
-use Rattle.simplex_core.specs.Trips.{Trips, TripsSolution, TripsDual, IsWholeAnswer, IsScaledSolution, IsScaledDual}
-use Rattle.simplex_core.specs.Trips.{IsSameWholeAnswer}
+use Rattle.simplex_core.specs.HitsLimit.{HitsLimit, ScaledSolutionExceeds, ScaledDualExceeds, IsWholeAnswer, IsScaledSolution, IsScaledDual}
+use Rattle.simplex_core.specs.HitsLimit.{IsSameWholeAnswer}
 use Rattle.simplex_core.proofs.Positions.{slice_get-there}
 use Rattle.simplex_core.proofs.OneAnswer.{optimal-stops, infeasible-stops, range-stops, budget-stops, stops-same}
 use Rattle.simplex_core.proofs.OneAnswer.{optimal-same, infeasible-same, ends-apart, range-apart, budget-apart}
@@ -68,22 +68,22 @@ scaled-once fs gs xs ys d e same a b = (
     one v w f n l p q = mul-cancel_ℤ f v w l (mul_comm_ℤ f v ∙ (p ∙ (ap (λ (k : ℕ). n *ℤ pos k) dens ∙ (sym q ∙ mul_comm_ℤ w f))))
 
 -- a scaled solution isn't one that has no integers within the limits
-solution-trips : (p : LinearProgram) (allowed : ℕ) (numbers : List ℤ) (den : ℕ) → IsScaledSolution p allowed numbers den → TripsSolution p allowed → ⊥
-solution-trips p allowed numbers den s t =
+solution-hits_limit : (p : LinearProgram) (allowed : ℕ) (numbers : List ℤ) (den : ℕ) → IsScaledSolution p allowed numbers den → ScaledSolutionExceeds p allowed → ⊥
+solution-hits_limit p allowed numbers den s t =
     let same = (optimal-same p allowed s.k t.k s.point t.at s.basis t.basis s.ends t.ends).0 in
     t.exceeds numbers den (over-same s.point t.at numbers den same s.scaled.over)
     (record { each = λ j l. s.within.each j (let a = same.lengths in let b = s.scaled.lengths in omega (arith, l, a, b)) }) s.den_within
 
 -- a scaled dual isn't one that has no integers within the limit
-dual-trips : (p : LinearProgram) (allowed : ℕ) (numbers : List ℤ) (den : ℕ) → IsScaledDual p allowed numbers den → TripsDual p allowed → ⊥
-dual-trips p allowed numbers den s t =
+dual-hits_limit : (p : LinearProgram) (allowed : ℕ) (numbers : List ℤ) (den : ℕ) → IsScaledDual p allowed numbers den → ScaledDualExceeds p allowed → ⊥
+dual-hits_limit p allowed numbers den s t =
     let same = (infeasible-same p allowed s.k t.k s.dual t.dual s.ends t.ends).0 in
     t.exceeds numbers den (over-same s.dual t.dual numbers den same s.scaled.over)
     (record { each = λ j l. s.within.each j (let a = same.lengths in let b = s.scaled.lengths in omega (arith, l, a, b)) })
 
 -- if the sequence ends as optimal, the only limit that it can hit is the scale
-optimal-apart : (p : LinearProgram) (allowed k : ℕ) (fs : List Frac) (basis : List ℕ) → table_size p ≤ widest → EndsOptimally p allowed fs basis k → (c : Cause) → Trips p allowed c
-    → (c ≡ scale) × TripsSolution p allowed
+optimal-apart : (p : LinearProgram) (allowed k : ℕ) (fs : List Frac) (basis : List ℕ) → table_size p ≤ widest → EndsOptimally p allowed fs basis k → (c : Cause) → HitsLimit p allowed c
+    → (c ≡ scale) × ScaledSolutionExceeds p allowed
 optimal-apart p allowed k fs basis fits a (range m) t = absurd (range-apart p allowed k m a.last a.in_range (optimal-stops p allowed k fs basis a) t.1)
 optimal-apart p allowed k fs basis fits a (budget m) t = absurd (budget-apart p allowed k a.last (optimal-last p a.last a.feasible a.done) (optimal-stops p allowed k fs basis a) t.2)
 optimal-apart p allowed k fs basis fits a (wide n) t = absurd (let l = t.0 in omega arith)
@@ -91,8 +91,8 @@ optimal-apart p allowed k fs basis fits a scale (w, inl t) = (refl, t)
 optimal-apart p allowed k fs basis fits a scale (w, inr t) = absurd (ends-apart p allowed k t.k fs basis t.dual a t.ends)
 
 -- if the sequence ends as infeasible, the only limit that it can hit is the scale
-infeasible-apart : (p : LinearProgram) (allowed k : ℕ) (fs : List Frac) → table_size p ≤ widest → EndsInfeasibly p allowed fs k → (c : Cause) → Trips p allowed c
-    → (c ≡ scale) × TripsDual p allowed
+infeasible-apart : (p : LinearProgram) (allowed k : ℕ) (fs : List Frac) → table_size p ≤ widest → EndsInfeasibly p allowed fs k → (c : Cause) → HitsLimit p allowed c
+    → (c ≡ scale) × ScaledDualExceeds p allowed
 infeasible-apart p allowed k fs fits a (range m) t = absurd (range-apart p allowed k m a.last a.in_range (infeasible-stops p allowed k fs a) t.1)
 infeasible-apart p allowed k fs fits a (budget m) t = absurd (budget-apart p allowed k a.last (infeasible-last p a.last a.infeasible) (infeasible-stops p allowed k fs a) t.2)
 infeasible-apart p allowed k fs fits a (wide n) t = absurd (let l = t.0 in omega arith)
@@ -100,7 +100,7 @@ infeasible-apart p allowed k fs fits a scale (w, inl t) = absurd (ends-apart p a
 infeasible-apart p allowed k fs fits a scale (w, inr t) = (refl, t)
 
 -- a program hits limits of one cause only
-pub causes-same : (p : LinearProgram) (allowed : ℕ) (c d : Cause) → Trips p allowed c → Trips p allowed d → c ≡ d
+pub causes-same : (p : LinearProgram) (allowed : ℕ) (c d : Cause) → HitsLimit p allowed c → HitsLimit p allowed d → c ≡ d
 causes-same p allowed scale d (w, inl t) u = sym (optimal-apart p allowed t.k t.at t.basis w t.ends d u).0
 causes-same p allowed scale d (w, inr t) u = sym (infeasible-apart p allowed t.k t.dual w t.ends d u).0
 causes-same p allowed c scale t (w, inl u) = (optimal-apart p allowed u.k u.at u.basis w u.ends c t).0
@@ -121,12 +121,12 @@ whole-same p allowed (Solution s) (Solution t) a b =
     scaled-once a.point b.point s.numbers.items t.numbers.items s.den t.den (optimal-same p allowed a.k b.k a.point b.point a.basis b.basis a.ends b.ends).0 a.scaled b.scaled
 whole-same p allowed (Solution s) (Dual t) a b = ends-apart p allowed a.k b.k a.point a.basis b.dual a.ends b.ends
 whole-same p allowed (Solution s) (OutOfLimits c) a b =
-    solution-trips p allowed s.numbers.items s.den a (optimal-apart p allowed a.k a.point a.basis a.fits a.ends (cause_of c) b).1
+    solution-hits_limit p allowed s.numbers.items s.den a (optimal-apart p allowed a.k a.point a.basis a.fits a.ends (cause_of c) b).1
 whole-same p allowed (Dual s) (Solution t) a b = ends-apart p allowed b.k a.k b.point b.basis a.dual b.ends a.ends
 whole-same p allowed (Dual s) (Dual t) a b =
     scaled-once a.dual b.dual s.numbers.items t.numbers.items s.den t.den (infeasible-same p allowed a.k b.k a.dual b.dual a.ends b.ends).0 a.scaled b.scaled
-whole-same p allowed (Dual s) (OutOfLimits c) a b = dual-trips p allowed s.numbers.items s.den a (infeasible-apart p allowed a.k a.dual a.fits a.ends (cause_of c) b).1
+whole-same p allowed (Dual s) (OutOfLimits c) a b = dual-hits_limit p allowed s.numbers.items s.den a (infeasible-apart p allowed a.k a.dual a.fits a.ends (cause_of c) b).1
 whole-same p allowed (OutOfLimits c) (Solution t) a b =
-    solution-trips p allowed t.numbers.items t.den b (optimal-apart p allowed b.k b.point b.basis b.fits b.ends (cause_of c) a).1
-whole-same p allowed (OutOfLimits c) (Dual t) a b = dual-trips p allowed t.numbers.items t.den b (infeasible-apart p allowed b.k b.dual b.fits b.ends (cause_of c) a).1
+    solution-hits_limit p allowed t.numbers.items t.den b (optimal-apart p allowed b.k b.point b.basis b.fits b.ends (cause_of c) a).1
+whole-same p allowed (OutOfLimits c) (Dual t) a b = dual-hits_limit p allowed t.numbers.items t.den b (infeasible-apart p allowed b.k b.dual b.fits b.ends (cause_of c) a).1
 whole-same p allowed (OutOfLimits c) (OutOfLimits d) a b = causes-same p allowed (cause_of c) (cause_of d) a b

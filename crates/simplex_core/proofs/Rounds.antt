@@ -6,7 +6,7 @@ use Rattle.linear_forms.specs.LinearProgram.{LinearProgram, HasNonnegativeCosts}
 use Rattle.simplex_core.specs.Tableau.{Tableau, pivot}
 use Rattle.simplex_core.specs.Bland.{is_infeasible, entering, leaving, IsBest, is_candidate, step_in, pivot_at, next}
 use Rattle.simplex_core.specs.Bland.{next_of, tableau_at}
-use Rattle.simplex_core.specs.Outcome.{ComesAfter, IsInRange, TripsBudget}
+use Rattle.simplex_core.specs.Outcome.{ComesAfter, IsInRange, ExceedsPivotLimit}
 use Rattle.simplex_core.proofs.Searches.{last_or_before}
 use Rattle.simplex_core.proofs.Choices.{lt-int_lt}
 use Rattle.simplex_core.proofs.Rays.{has_candidate}
@@ -35,9 +35,9 @@ entering-candidate p t k c costs reached enters =
     record { column = e.column; row = found.0; within = found.1; candidate = lt-int_lt (pos 0) (t.entry found.0 c) found.2 }
 
 -- the allowed pivots are made, and another is needed
-pub budget-trips : (p : LinearProgram) (t : Tableau) (k c : ℕ) → HasNonnegativeCosts p → ComesAfter p k t → IsInRange p t → is_infeasible p t ≡ false → entering p t ≡ Some c
-    → TripsBudget p k
-budget-trips p t k c costs reached range feasible enters =
+pub budget-hits_limit : (p : LinearProgram) (t : Tableau) (k c : ℕ) → HasNonnegativeCosts p → ComesAfter p k t → IsInRange p t → is_infeasible p t ≡ false → entering p t ≡ Some c
+    → ExceedsPivotLimit p k
+budget-hits_limit p t k c costs reached range feasible enters =
     let found = entering-leaving p t c costs (tableau_at-is_tableau p k t reached.is) enters in
     record { last = t; reached = reached; in_range = range; following = pivot t found.0 c; goes_on = next-some p t c found.0 feasible enters found.1 }
 

@@ -24,7 +24,7 @@ use Rattle.simplex_core.specs.Tableau.{artificial, cost_row, sign_of}
 use Rattle.simplex_core.specs.Outcome.{HoldsPoint, EndsOptimally, EndsInfeasibly}
 use Rattle.simplex_core.specs.Scaling.{IsLeastCommon, HasNoCommonWithin, AreOver, AreWithin, AreScaled, HasNumberOver}
 use Rattle.simplex_core.specs.Scaling.{HasNoneScaled, ExceedsSolution, ExceedsDual}
-use Rattle.simplex_core.specs.Trips.{IsScaledSolution, IsScaledDual}
+use Rattle.simplex_core.specs.HitsLimit.{IsScaledSolution, IsScaledDual}
 use Rattle.simplex_core.proofs.Regions.{sign_of-square}
 use Rattle.simplex_core.proofs.Positions.{slice_get-there}
 use Rattle.simplex_core.proofs.Scalings.{over-common, passes-above}

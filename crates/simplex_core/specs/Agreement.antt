@@ -10,7 +10,7 @@ use Rattle.simplex_core.specs.declared.problem.SolveError.{SolveError}
 use Rattle.simplex_core.specs.declared.problem.SolveError.TheVariants.{Range, Budget, Wide, Memory}
 use Rattle.simplex_core.specs.declared.answers.Answer.{Answer}
 use Rattle.simplex_core.specs.Outcome.{IsAnswer}
-use Rattle.simplex_core.specs.Trips.{Trips, IsWholeAnswer}
+use Rattle.simplex_core.specs.HitsLimit.{HitsLimit, IsWholeAnswer}
 
 -- the lists have the same fractions
 pub record AreSameFractions (fs gs : List Frac) : Type 0 where
@@ -49,6 +49,6 @@ pub record AnswersAreOne : Type 0 where
 pub record AgreeingProgramsAnswerTheSame : Type 0 where
   pub each : (p q : LinearProgram) (allowed : ℕ) (a : Result Solved SolveError) → Agree p q → IsAnswer p allowed a
       → IsAnswer q allowed a
-  pub trips : (p q : LinearProgram) (allowed : ℕ) (c : Cause) → Agree p q → Trips p allowed c → Trips q allowed c
+  pub hits_limit : (p q : LinearProgram) (allowed : ℕ) (c : Cause) → Agree p q → HitsLimit p allowed c → HitsLimit q allowed c
   pub whole : (p q : LinearProgram) (allowed : ℕ) (a : Answer) → Agree p q → IsWholeAnswer p allowed a
       → IsWholeAnswer q allowed a

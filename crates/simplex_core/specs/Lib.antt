@@ -5,7 +5,7 @@ pub mod Problem
 pub mod Outcome
 pub mod Agreement
 pub mod Scaling
-pub mod Trips
+pub mod HitsLimit
 -- laws, and values that were worked out by hand
 pub mod Laws
 -- the machinery of the functions inside and of the proofs

@@ -75,14 +75,14 @@ pub record EndsInfeasibly (p : LinearProgram) (allowed : ℕ) (dual : List Frac)
   pub certified : IsDual p y
 
 -- after k pivots, within the allowed ones, a number of the tableau is out of range, and none was before
-pub record TripsRange (p : LinearProgram) (allowed k : ℕ) : Type 0 where
+pub record ExceedsNumberRange (p : LinearProgram) (allowed k : ℕ) : Type 0 where
   pub within : k ≤ allowed
   pub last : Tableau
   pub reached : ComesAfter p k last
   pub out : ¬ IsInRange p last
 
 -- the allowed pivots are made, and the sequence goes on
-pub record TripsBudget (p : LinearProgram) (allowed : ℕ) : Type 0 where
+pub record ExceedsPivotLimit (p : LinearProgram) (allowed : ℕ) : Type 0 where
   pub last : Tableau
   pub reached : ComesAfter p allowed last
   pub in_range : IsInRange p last
@@ -96,8 +96,8 @@ IsEnd p allowed (Infeasible dual k) = EndsInfeasibly p allowed dual.items k
 
 -- the limit that the sequence hits within the allowed pivots; running out of memory may come at any time
 abbrev pub IsLimitHit : LinearProgram → ℕ → SolveError → Type 0
-IsLimitHit p allowed (Range k) = TripsRange p allowed k
-IsLimitHit p allowed (Budget k) = (k ≡ allowed) × TripsBudget p allowed
+IsLimitHit p allowed (Range k) = ExceedsNumberRange p allowed k
+IsLimitHit p allowed (Budget k) = (k ≡ allowed) × ExceedsPivotLimit p allowed
 IsLimitHit p allowed (Wide n) = ⊥
 IsLimitHit p allowed Memory = Unit {0}
 

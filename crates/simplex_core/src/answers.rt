@@ -2,7 +2,7 @@
 
 ghost use Rattle.std.specs.Prelude.{ℕ, IfOk};
 ghost use Rattle.simplex_core.specs.Problem.{program_of, IsProper};
-ghost use Rattle.simplex_core.specs.Trips.{IsWholeAnswer};
+ghost use Rattle.simplex_core.specs.HitsLimit.{IsWholeAnswer};
 
 use crate::problem::{Problem, SolveError, Solved};
 use crate::scaling::{Numerators, scale_by_least};

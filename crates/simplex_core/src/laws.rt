@@ -3,7 +3,7 @@
 ghost use Rattle.simplex_core.specs.Laws.{ArtificialSumsAreWorkedOut, DualExcludesSolutions, LeastCostsLeast};
 ghost use Rattle.simplex_core.specs.Laws.{OutcomeTellsSolutions};
 ghost use Rattle.simplex_core.specs.Agreement.{AnswersAreOne, AgreeingProgramsAnswerTheSame};
-ghost use Rattle.simplex_core.specs.Trips.{WholeAnswersAreOne};
+ghost use Rattle.simplex_core.specs.HitsLimit.{WholeAnswersAreOne};
 
 /// A linear program with a dual, which gives every column at most 0 and the right sides more than 0,
 /// has no solution: the easy half of Farkas' lemma.

@@ -7,7 +7,7 @@ module _ {C : Type 0} (place_of : C → ℕ) where
   listed [] i = None
   listed (c ∷ cs) i = if nat_eq (place_of c) i then Some c else listed cs i
 
-  -- the places ascend strictly, from a place on, and each cell fits
+  -- the places ascend strictly and are at least `from`, and each cell fits
   abbrev pub Ascends : (C → Type 0) → ℕ → List C → Type 0
   Ascends fits from [] = Unit {0}
   Ascends fits from (c ∷ cs) = (from ≤ place_of c) × fits c × Ascends fits (suc (place_of c)) cs
@@ -16,7 +16,7 @@ module _ {C : Type 0} (place_of : C → ℕ) where
   pub record IsListing (fits : C → Type 0) (cs : List C) : Type 0 where
     pub ascends : Ascends fits 0 cs
 
-  -- the cells before index low are at places before place i, and those from index high on behind it
+  -- the cells before index low are at places below i, and those from index high on at places above it
   pub record LiesWithin (cs : List C) (i low high : ℕ) : Type 0 where
     pub order : low ≤ high
     pub within : high ≤ length cs
@@ -29,6 +29,6 @@ module _ {C : Type 0} (place_of : C → ℕ) where
     pub is : slice_get cs k ≡ Some cell
     pub place : place_of cell ≡ i
 
-  -- no cell is at place i; those before an index are before it, and the others behind
+  -- no cell is at place i: the cells before index k are at places below it, and the others above it
   abbrev pub LiesAt : List C → ℕ → ℕ → Type 0
   LiesAt cs i k = LiesWithin cs i k k

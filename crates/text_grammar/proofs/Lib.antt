@@ -5,6 +5,7 @@ pub mod LeadLaws
 mod RuleLaws
 pub mod TableLaws
 pub mod Readable
+pub mod ReadableParts
 pub mod Parsing
 pub mod Completing
 pub mod ReaderLaws

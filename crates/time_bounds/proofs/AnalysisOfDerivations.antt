@@ -19,7 +19,7 @@ use Rattle.time_bounds.specs.Analysis.{IsTimeOf, AreTimesOf, AreCostsOver, AreSi
 use Rattle.time_bounds.proofs.ReportEntries.{spendings_alike}
 use Rattle.time_bounds.proofs.RuleNumbers.{rule_within}
 
--- the entries over what is known with finds are those of the finds
+-- the entries over what is known with derivations are those of the derivations
 times-sound : (q : Searches) (p : Program) (fs : List Derivation) (k : ℕ) (times : List Time) → 1 ≤ k → length times + k ≤ length p.rules + 1
     → AreTimesOver q p (bounds_of p fs) k times → AreTimesOf q p fs k times
 times-sound q p fs k [] low high h = tt
@@ -35,11 +35,11 @@ times-sound q p fs k (x ∷ times) low high h =
       tells = e.1;
     }
 
--- an analysis over these finds
+-- an analysis over these derivations
 abbrev pub IsAnalysisWith : Program → ℕ → List Derivation → Report → Type 0
 IsAnalysisWith p pivots fs r = (h : IsAnalysis p pivots r) × (h.derivations ≡ fs)
 
--- the entries with the last finds, with those of costs and the total, are the program's analysis
+-- the entries with the last derivations, with those of costs and the total, are the program's analysis
 pub analysis_of : (p : Program) (pivots : ℕ) (fs : List Derivation) (o : Outcome)
     → IsLast (searches_of_program p pivots) (setting_of p) fs
     → length o.times.items ≡ length p.rules

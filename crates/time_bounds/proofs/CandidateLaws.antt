@@ -1,4 +1,4 @@
--- Components with the arms of their members are those of the program.
+-- Components with the side bounds of their members are those of the program.
 use Rattle.std.proofs.Common.{◌≡◌, inl, inr, ℕ, zero, suc, ◌≤◌, ◌==◌, ◌&&◌, ◌||◌, Bool, true, false, List, [], ◌∷◌}
 use Rattle.std.proofs.Common.{length, map, Some, refl, sym, ◌∙◌, ap, subst, arith}
 use Rattle.std.specs.List.{All}
@@ -80,7 +80,7 @@ module _ (p : Program) (pivots : ℕ) (valid : IsValid p) (is_live : ℕ → Boo
           All-cons (λ (c : Component). All P (members_of c)) c cs (of_all P (members_of c) (λ t i m. let x = g t i (inl m) in f t i x.0 x.1))
           (go cs (λ t i l. g t i (inr l)))
 
-  -- the arms of a place that is answered so are accepted
+  -- the side bounds of a place that is answered so are accepted
   accepted_at : (m : Member) → IsLocalOf p pivots m.result_variable.rule m.result_variable.place (HasBound m.local) → IsAccepted p m
   accepted_at m h =
       let is : IsResultVariableOf p m.result_variable h.rule = record {
@@ -139,7 +139,7 @@ module _ (p : Program) (pivots : ℕ) (valid : IsValid p) (is_live : ℕ → Boo
       some [] e = absurd (no_is_not_yes (loops (setting_of p) local result_variables) (ap (loops (setting_of p) local) e) turns)
       some (m ∷ members) e = omega arith
 
-  -- a component with its arms is a candidate
+  -- a component with its side bounds is a candidate
   candidate_of : (x : Component) (c : Candidate) → AreLocalsOf p pivots local (members_of x) → AreResultVariablesAscending (members_of x)
       → SaysWhetherItLoops (setting_of p) local x → IsArmed local x c → IsRightCandidate p pivots local c
   candidate_of x c answered up says armed = record {

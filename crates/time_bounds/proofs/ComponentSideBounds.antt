@@ -1,4 +1,4 @@
--- The components that are found of a program, and their arms.
+-- The components that are found of a program, and their side bounds.
 use Rattle.std.proofs.Common.{◌≡◌, ℕ, Bool, List, map, Vec, Some, sym, subst}
 use Rattle.std.specs.List.{All}
 use Rattle.std.specs.declared.alloc.Global.{Global}
@@ -74,7 +74,7 @@ module _ (p : Program) (pivots : ℕ) (rule_statuses : List RuleStatus) (g : Gra
         (λ t i l place. let x = answer_here p pivots rule_statuses (answer_lists lists) h.rule_statuses_are h.answers t i l place in (x.0, x.1)))
         looping
 
-    -- with their arms they are the program's
+    -- with their side bounds they are the program's
     pub found_candidates : (cs : List Candidate) → AreArmed (local_from (answer_lists lists)) found cs → AreCandidatesOf p pivots cs
     found_candidates cs armed =
         candidates_of p pivots h.valid (is_flagged (map is_live_rule_status rule_statuses)) (lives p pivots rule_statuses (answer_lists lists) h.rule_statuses_are h.answers)

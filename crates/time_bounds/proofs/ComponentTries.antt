@@ -62,7 +62,7 @@ Gives p pivots b c node (answers.Nonlinear m) = IsSized p pivots b c (Unsized (S
 Gives p pivots b c node (answers.Untimed t) = IsSized p pivots b c (Unsized (SizeUntimed t))
 Gives p pivots b c node (answers.Large n) = IsSized p pivots b c (Unsized (SizeLarge n))
 
--- the arms of a candidate that is looked at
+-- the side bounds of a candidate that is looked at
 pub side_bounds_seen : (p : Program) (pivots : ℕ) (local : Locals) (c : Candidate) (x : SideBounds) → IsRightCandidate p pivots local c → c.side_bounds ≡ x
     → AreSideBounds local (result_variables_in c) (loops (setting_of p) local (result_variables_in c)) x
 side_bounds_seen p pivots local c x h e = subst (λ (y : SideBounds). AreSideBounds local (result_variables_in c) (loops (setting_of p) local (result_variables_in c)) y) e h.side_bounds_are
@@ -70,7 +70,7 @@ side_bounds_seen p pivots local c x h e = subst (λ (y : SideBounds). AreSideBou
 accepted_seen : (p : Program) (pivots : ℕ) (local : Locals) (c : Candidate) (x : SideBounds) → IsRightCandidate p pivots local c → c.side_bounds ≡ x → HasAccepted p x
 accepted_seen p pivots local c x h e = subst (λ (y : SideBounds). HasAccepted p y) e h.accepted
 
--- with the members' arms a component is sized as they are judged
+-- with the members' side bounds a component is sized as they are judged
 pub judged : (p : Program) (pivots : ℕ) (local : Locals) (c : Candidate) (b : Bounds) (looping : Bool) (members : List Member)
     (answer : searches.SizeOutcome) → IsRightCandidate p pivots local c → lacks_side_bounds local (result_variables_in c) ≡ None
     → loops (setting_of p) local (result_variables_in c) ≡ looping → AreMembers local (result_variables_in c) members
@@ -163,7 +163,7 @@ failed_step p pivots old c a h = record {
   found = λ e. absurd (no_is_not_yes false refl e);
 }
 
--- and one with a member without arms
+-- and one with a member without side bounds
 pub armless : (p : Program) (pivots : ℕ) (local : Locals) (old : List Derivation) (c : Candidate) (entry : SizeEntry)
     → IsRightCandidate p pivots local c → c.side_bounds ≡ side_bounds.Lacking entry → are_open (bounds_of p (derivations_of old)) (result_variables_in c) ≡ true
     → IsSizeStep p pivots old c attempts.Armless old
@@ -202,7 +202,7 @@ closed_by b (k ∷ keys) f =
     join true w e g = absurd (no_is_not_yes true e refl)
     join false w e g = g
 
--- so no key of a find is missing behind it
+-- so no key of a derivation is missing behind it
 pub found_closed : (p : Program) (fs : List plain.Derivation) (f : plain.Derivation) → are_open (bounds_of p (fs ++ f ∷ [])) f.keys ≡ false
 found_closed p fs f =
     closed_by (bounds_of p (fs ++ f ∷ [])) f.keys
@@ -274,7 +274,7 @@ given_loop p pivots local c ms g prepared_rules valid graph rows h e =
     let k = accepted_seen p pivots local c (side_bounds.Loop ms) h e in
     record { valid = valid; graph = graph; rows = rows; shape = k.shape; up = k.up; low = k.low }
 
--- an attempt that was made, where the finds grew
+-- an attempt that was made, where the derivations grew
 pub all_taken : {T E : Type 0} (r : Result T E) (P R : T → Type 0) (Q : Type 0) → ((x : T) → P x → Q → R x) → IfOk r P → OnOk r Q → IfOk r R
 all_taken (Ok x) P R Q f p q = f x p q
 all_taken (Err e) P R Q f p q = tt

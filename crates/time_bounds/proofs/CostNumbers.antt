@@ -1,4 +1,4 @@
--- The numbers that the entries of costs carry are those of their lemmas, which come behind those of finds.
+-- The numbers that the entries of costs carry are those of their lemmas, which come behind those of derivations.
 use Rattle.std.proofs.Common.{◌≡◌, ℕ, zero, suc, ◌+◌, ◌≤◌, List, [], ◌∷◌, ◌++◌, length, map, All, Option, Some, None}
 use Rattle.std.proofs.Common.{slice_get, refl, sym, ◌∙◌, ap, subst, arith}
 use Rattle.std.specs.Option.{option_map}

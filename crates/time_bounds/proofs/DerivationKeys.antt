@@ -1,4 +1,4 @@
--- The keys of justified finds are those of rules and of the places after them, so nothing else is known.
+-- The keys of justified derivations are those of rules and of the places after them, so nothing else is known.
 use Rattle.std.proofs.Common.{◌≡◌, inl, inr, ℕ, zero, suc, true, List, [], ◌∷◌, ◌++◌, map, Option, Some, None}
 use Rattle.std.proofs.Common.{refl, ap, subst}
 use Rattle.std.specs.List.{Contains}
@@ -33,7 +33,7 @@ time_alone p u rule t i m =
       inl (ap (λ (k : ResultVariable). k.place) same),
     )
 
--- a spot is a place after its rule
+-- a result variable is a place after its rule
 result_variable_place : (p : Program) (k : ResultVariable) → IsResultVariable p k → IsPlace p k.rule k.place
 result_variable_place p k at = record {
   symbol = at.rule.target;
@@ -71,7 +71,7 @@ node_key s b (NeverBy u) premises ok t i m =
       inr (subst (λ (n : ℕ). IsPlace s.program n i) told.0 told.1),
     )
 
--- each find of a justified list is justified over some bounds
+-- each derivation of a justified list is justified over some bounds
 stands_there : (s : Setting) (earlier fs : List Derivation) → StandAfter s earlier fs → (f : Derivation) → Contains fs f
     → (b : Bounds) × Stands s b f
 stands_there s earlier [] h f m = absurd (contains-none f m)

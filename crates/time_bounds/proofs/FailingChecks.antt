@@ -38,7 +38,7 @@ module _ (r : Reason) (S : Type 0) where
   each_gives f (x ∷ xs) rest h all = (h.0, each_gives f xs rest h.1 all)
 
   module _ (s : Setting) (members : List Member) where
-    -- of both arms of a member after a rule, if one bends with the reason, this follows
+    -- of both side bounds of a member after a rule, if one bends with the reason, this follows
     abbrev pub BendGives : Member → ℕ → Type 0
     BendGives m e = ((IsStraightSideBound s members m e m.local.up → ⊥) → Nonlinear m.result_variable.rule m.result_variable.place ≡ r → S)
         × ((IsStraightSideBound s members m e m.local.low → ⊥) → Nonlinear m.result_variable.rule m.result_variable.place ≡ r → S)
@@ -55,7 +55,7 @@ module _ (r : Reason) (S : Type 0) where
     into_gives (m ∷ ms) rest h all =
         from_gives m (pre s.program m.result_variable.rule) (straight_into s members ms rest) h.0 (into_gives ms rest h.1 all)
 
-  -- where neither the shape nor an arm is what fails, and what is missing, bends or is large gives this
+  -- where neither the shape nor a side bound is what fails, and what is missing, bends or is large gives this
   module _ (s : Setting) (tab : Table) (shape : Shape ≡ r → ⊥) (up : (t i : ℕ) → SideBoundUp t i ≡ r → ⊥)
       (low : (t i : ℕ) → SideBoundLow t i ≡ r → ⊥) where
     abbrev pub SizeGives : ResultVariable → Type 0

@@ -1,4 +1,4 @@
--- The finds before the first round have keys of rules.
+-- The derivations before the first round have keys of rules.
 use Rattle.std.proofs.Common.{◌≡◌, inl, inr, ℕ, zero, suc, ◌≤◌, ◌==◌, true, List, [], ◌∷◌, length, map, filter}
 use Rattle.std.proofs.Common.{Option, Some, None, refl, sym, subst, arith, All}
 use Rattle.std.specs.Prelude.{nat_lt}

@@ -7,7 +7,7 @@ use Rattle.model.specs.Entries.{is_in}
 use Rattle.model.specs.Paths.{pre}
 use Rattle.model.specs.Programs.{Program}
 use Rattle.model.proofs.Membership.{filter-in}
-use Rattle.outcome.specs.Reports.{NoSize, SizeUnbounded, SizeTripped, SizeMissing, SizeNonlinear, SizeUntimed, SizeLarge}
+use Rattle.outcome.specs.Reports.{NoSize, SizeUnbounded, SizeHitLimit, SizeMissing, SizeNonlinear, SizeUntimed, SizeLarge}
 use Rattle.cert_types.specs.cert_rules.AcceptsSizes.{IsStraight, spread_size, cycle_size}
 use Rattle.cert_types.specs.cert_rules.Checks.{large_nodes, needed_into, needed_times, spread_checks, cycle_checks}
 use Rattle.cert_types.specs.cert_rules.ComposedSizes.{rules_of, flows, multiplies, adds}
@@ -43,7 +43,7 @@ each_member : {A : Type 0} (P Q : A → Type 0) (xs : List A) → ((x : A) → C
 each_member P Q xs f h =
     from_both (Contains xs) P Q f xs (recursion_from_All (Contains xs) xs (All-contains_itself xs)) h
 
--- spots with the same parts are the same
+-- result variables with the same parts are the same
 same_result_variable : (m n : ResultVariable) → m.rule ≡ n.rule → m.place ≡ n.place → m ≡ n
 same_result_variable m n rule place = λ i. record { rule = rule i; place = place i }
 
@@ -264,8 +264,8 @@ module _ (p : Program) (pivots : ℕ) where
         → AnswersMembers (do_loop s members) s (over b) members (Unsized why) → HasNoSize p pivots b t i why
     judged_so (SizeUnbounded side ray kept) members component h =
         absurd (never (SizeUnbounded side ray kept) (λ r k. k) members (do_loop s members) h)
-    judged_so (SizeTripped x) members component h =
-        absurd (never (SizeTripped x) (λ r k. k) members (do_loop s members) h)
+    judged_so (SizeHitLimit x) members component h =
+        absurd (never (SizeHitLimit x) (λ r k. k) members (do_loop s members) h)
     judged_so (SizeMissing m) members component h = size_so m members component (do_loop s members) refl h
     judged_so (SizeNonlinear m) members component h = nonlinear_so m members component (do_loop s members) refl h
     judged_so (SizeUntimed u) members component h = untimed_so u members component (do_loop s members) refl h

@@ -1,4 +1,4 @@
--- The finds before the first round, by fates, are those of the relation.
+-- The derivations before the first round, by statuses, are those of the relation.
 use Rattle.std.proofs.Common.{◌≡◌, ◌↔◌, inl, inr, ℕ, zero, suc, ◌+◌, Bool, true, false, not, List, [], ◌∷◌, ◌++◌}
 use Rattle.std.proofs.Common.{length, map, filter, Option, Some, refl, sym, ◌∙◌, ap, subst, arith}
 use Rattle.std.specs.Prelude.{slice_get, nat_lt}
@@ -67,7 +67,7 @@ module _ (ie iu : ℕ → Bool) where
       go Unreached a ih = rw a.0 ih
       go Live a ih = rw a.0 ih
 
-  -- the finds of unreached rules, by status, are those of the rules that the tests find cut off
+  -- the derivations of unreached rules, by status, are those of the rules that the tests find cut off
   pub unreached_are : (dead : List ResultVariable) (t : ℕ) (fs : List RuleStatus) → AreTold t fs
       → unreached_derivations dead t fs ≡ map (unreached_derivation dead) (filter (is_cut ie iu) (range_with_len t (length fs)))
   unreached_are dead t [] h = refl
@@ -80,7 +80,7 @@ module _ (ie iu : ℕ → Bool) where
       go Unreached a ih = rw (a.0, a.1) (ap (λ (gs : List Derivation). unreached_derivation dead t ∷ gs) ih)
       go Live a ih = rw (a.0, a.1) ih
 
-  -- the finds of sizes, by status, are those of the rules found dead whose targets have places
+  -- the derivations of sizes, by status, are those of the rules found dead whose targets have places
   pub never_are : (p : Program) (has : ℕ → Bool) (t : ℕ) (fs : List RuleStatus) (rs : List Rule) → length fs ≡ length rs
       → AreTold t fs → ((i : ℕ) (r : Rule) → slice_get rs i ≡ Some r
       → (has (t + i) ≡ some_places (arity_of p r.target)) × (never_derivation p (t + i) ≡ sized_derivation (t + i) (arity_of p r.target)))
@@ -113,7 +113,7 @@ Tells q t (answers.Empty n) = q.Empties t (NoPoint n.multipliers.items)
 Tells q t (answers.Point z) = Unit {0}
 Tells q t (answers.OutOfLimits x) = Unit {0}
 
--- the finds of empty rules by their answers
+-- the derivations of empty rules by their answers
 pub empties_are : (q : Searches) (test : ℕ → Bool) (t : ℕ) (xs : List GuardFeasibility)
     → ((i : ℕ) (a : GuardFeasibility) → slice_get xs i ≡ Some a → (test (t + i) ≡ says_empty a) × Tells q (t + i) a)
     → AreEmptyDerivations q (filter test (range_with_len t (length xs))) (empty_derivations t xs)
@@ -130,7 +130,7 @@ empties_are q test t (a ∷ xs) h =
     go (answers.Point z) k ih = rw k.0 ih
     go (answers.OutOfLimits x) k ih = rw k.0 ih
 
--- a fate is at the number of its rule
+-- a status is at the number of its rule
 rule_status_there : (fs : List RuleStatus) (i : ℕ) (f : RuleStatus) → slice_get fs i ≡ Some f → rule_status_at fs (suc i) ≡ f
 rule_status_there [] i f e = absurd (none_some f e)
 rule_status_there (g ∷ fs) zero f e = some_same g f e
@@ -181,7 +181,7 @@ module _ (p : Program) (pivots : ℕ) (rule_statuses : List RuleStatus) (are : A
         }) e,
       )
 
-  -- a rule is empty by its fate where its answer says so
+  -- a rule is empty by its status where its answer says so
   rule_status_tells : (i : ℕ) (a : GuardFeasibility) → slice_get empties i ≡ Some a → is_empty_rule_status (rule_status_at rule_statuses (suc i)) ≡ says_empty a
   rule_status_tells i a e =
       let rule = rule_there p i (omega (arith, slice_get-below empties i a e, answered.one_each)) in
@@ -223,7 +223,7 @@ module _ (p : Program) (pivots : ℕ) (rule_statuses : List RuleStatus) (are : A
       by (inl e) = absurd (no_is_not_yes (ie t) live e)
       by (inr u) = u
 
-  -- the finds by fates are those before the first round
+  -- the derivations by statuses are those before the first round
   pub first_of_rule_statuses : (fs : List Derivation)
       → fs ≡ empty_derivations 1 empties ++ (unreached_derivations (empty_keys 1 rule_statuses) 1 rule_statuses ++ never_derivations p 1 rule_statuses p.rules)
       → AreFirst (searches_of_program p pivots) p fs

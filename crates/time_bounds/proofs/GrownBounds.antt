@@ -81,7 +81,7 @@ polynomial-agrees : (o : Option Polynomial) (a b : ℕ → Bound) → ((j : ℕ)
 polynomial-agrees None a b h = refl
 polynomial-agrees (Some q) a b h = ap SumOf (monomials-agree q a b h)
 
--- the same for an arm's where those of the places that it reads do
+-- the same for a side bound's where those of the places that it reads do
 side_bound-agrees : (o : Option Polynomial) (side_bound : SideBound) (a b : ℕ → Bound) → ((j : ℕ) → reads o side_bound j ≡ true → a j ≡ b j)
     → composed_side_bound o side_bound a ≡ composed_side_bound o side_bound b
 side_bound-agrees o (Linear den form multipliers) a b h =
@@ -113,11 +113,11 @@ module _ (s : Setting) (old new : Table) (grown : TableHasGrown old new) where
           λ i. MaximumOf (both_parts (up i) (low i))
 
   module _ (members : List Member) where
-    -- neither arm of a member is bent after a rule
+    -- neither side bound of a member is nonlinear after a rule
     abbrev pub AreStraight : Member → ℕ → Type 0
     AreStraight m e = IsStraightSideBound s members m e m.local.up × IsStraightSideBound s members m e m.local.low
 
-    -- what an arm adds stays, and so does what flows by it
+    -- what a side bound adds stays, and so does what flows by it
     offset-stays : (m : Member) (side_bound : SideBound) (e : ℕ) → SideBoundHasSizes s old members m.result_variable side_bound e → IsStraightSideBound s members m e side_bound
         → offset_of (poly_at s m.result_variable) side_bound (is_member members e) (sizes_after old.size e)
         ≡ offset_of (poly_at s m.result_variable) side_bound (is_member members e) (sizes_after new.size e)

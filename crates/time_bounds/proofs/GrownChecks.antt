@@ -105,7 +105,7 @@ module _ (s : Setting) (old new : Table) (grown : TableHasGrown old new) (r : Re
     from-still m (e ∷ es) rest later (inr (up, inr (low, h))) k =
         inr (up, inr (low, from-still m es rest later h (λ all first. k ((up, low), all) first)))
 
-    -- the checks that no arm is bent are the same
+    -- the checks that no side bound is nonlinear are the same
     into-still : (ns : List Member) (rest later : List Check) → IsFirstAmong (straight_into s ms ns rest) r
         → (AllByRecursion (IsStraight s ms) ns → IsFirstAmong rest r → IsFirstAmong later r)
         → IsFirstAmong (straight_into s ms ns later) r

@@ -6,7 +6,7 @@ pub mod SetLaws
 pub mod ShutBySymbol
 pub mod PartSets
 pub mod ShutByPlace
--- rules, their ends and their fates
+-- rules, their ends and their statuses
 pub mod RuleNumbers
 pub mod RuleSymbols
 pub mod RuleStatusLaws
@@ -28,11 +28,11 @@ pub mod OneAnalysis
 pub mod OneOutcome
 -- a table by key
 pub mod TablesOver
--- the finds before the first round
+-- the derivations before the first round
 pub mod StartLists
 pub mod FirstOrder
 pub mod FirstKeys
--- finds that are taken one after the other
+-- derivations that are taken one after the other
 pub mod OpenDerivations
 pub mod TriedDerivations
 pub mod NeedLists

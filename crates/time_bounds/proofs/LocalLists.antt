@@ -217,7 +217,7 @@ module _ (p : Program) (pivots : ℕ) (rule_statuses : List RuleStatus) (lists :
       places zero r n h = absurd (no_is_not_yes false refl h)
       places (suc u) r n h = let x = here u h in ap (λ (xs : List LocalAnswer). length xs) (got_is lists u x.0 x.1) ∙ x.2.long r n refl
 
--- the fate of the rule at a position
+-- the status of the rule at a position
 pub rule_status_read : (rule_statuses : List RuleStatus) (i : ℕ) (d : RuleStatus) → i < length rule_statuses → rule_status_at rule_statuses (suc i) ≡ slice_index_or rule_statuses i d
 rule_status_read [] i d l = absurd (omega (arith, l))
 rule_status_read (x ∷ rule_statuses) zero d l = refl

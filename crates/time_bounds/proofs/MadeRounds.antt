@@ -1,4 +1,4 @@
--- What a round makes of finds.
+-- What a round makes of derivations.
 use Rattle.std.proofs.Common.{◌≡◌, ◌⊎◌, inl, inr, ℕ, ◌+◌, ◌<◌, List, [], ◌∷◌, ◌++◌, length, refl, sym, ◌∙◌, ap, subst, arith}
 use Rattle.std.proofs.lemmas.List.{append-nil, length-append, length-map}
 use Rattle.cert_types.specs.cert_program.Setting.{setting_of}
@@ -20,7 +20,7 @@ use Rattle.time_bounds.specs.TriedRules.{AreAskedOver}
 use Rattle.time_bounds.proofs.TriedDerivations.{kept_asked}
 
 module _ (cx : Context) (cs : List Candidate) (old new : List Derivation) (kept : LastRound) where
-  -- the finds after a round are made by rounds
+  -- the derivations after a round are made by rounds
   pub round_made : AreMade cx old → IsRoundMade cx cs old new kept → AreMade cx new
   round_made made h =
       subst (λ (fs : List plain.Derivation). IsMade (searches_of_program (program_in cx) cx.pivots) (setting_of (program_in cx)) fs) (sym h.grown)
@@ -42,7 +42,7 @@ module _ (cx : Context) (cs : List Candidate) (old new : List Derivation) (kept 
       ∙ (ap (λ (fs : List plain.Derivation). length fs) h.grown
       ∙ (length-append (derivations_of old) h.more ∙ ap (λ (n : ℕ). n + length h.more) (length-map old derivation_of)))
 
-  -- where there are no more finds than before, none was found
+  -- where there are no more derivations than before, none was found
   nothing_more : (h : IsRoundMade cx cs old new kept) → length new ≡ length old → h.more ≡ []
   nothing_more h e = none h.more (omega (arith, count h, e))
     where
@@ -50,7 +50,7 @@ module _ (cx : Context) (cs : List Candidate) (old new : List Derivation) (kept 
       none [] l = refl
       none (f ∷ fs) l = absurd (omega (arith, l))
 
-  -- so a round that finds nothing is one over the finds that it leaves
+  -- so a round that finds nothing is one over the derivations that it leaves
   pub same_derivations : (h : IsRoundMade cx cs old new kept) → length new ≡ length old → IsRoundMade cx cs new new kept
   same_derivations h e =
       let same : derivations_of new ≡ derivations_of old =
@@ -86,7 +86,7 @@ module _ (cx : Context) (cs : List Candidate) (old new : List Derivation) (kept 
           let found : length h.more ≡ 0 = ap (λ (fs : List plain.Derivation). length fs) none in
           absurd (more (omega (arith, count h, found)))
 
--- finds over which a round finds nothing are the last
+-- derivations over which a round finds nothing are the last
 pub round_closed : (cx : Context) (cs : List Candidate) (fs : List Derivation) (kept : LastRound) → AreMade cx fs → IsRoundMade cx cs fs fs kept
     → IsLast (searches_of_program (program_in cx) cx.pivots) (setting_of (program_in cx)) (derivations_of fs)
 round_closed cx cs fs kept made h = record {

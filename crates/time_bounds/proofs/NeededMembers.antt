@@ -32,7 +32,7 @@ module _ (s : Setting) (inside all : List Member) where
     pub outside : is_member inside m.rule (m.place - 1) ≡ false
 
   module _ (n : Member) (among : Contains all n) (e : ℕ) (before : is_in e (pre s.program n.result_variable.rule) ≡ true) where
-    -- a place that one of its arms reads, where it isn't inside
+    -- a place that one of its side bounds reads, where it isn't inside
     read_needed : (side_bound : SideBound) (j : ℕ)
         → (reads (poly_at s n.result_variable) side_bound j ≡ true
         → (reads (poly_at s n.result_variable) n.local.up j || reads (poly_at s n.result_variable) n.local.low j) ≡ true)

@@ -5,7 +5,7 @@ use Rattle.std.specs.Option.{option_map}
 use Rattle.std.specs.declared.alloc.Global.{Global}
 use Rattle.std.specs.declared.vec.Vec.{Vec}
 use Rattle.model.specs.Programs.{Program}
-use Rattle.outcome.specs.Reports.{Time, Timed, Untimed, NoFunction, TimeTripped, TimeLarge, Size, Sized, Unsized, Report}
+use Rattle.outcome.specs.Reports.{Time, Timed, Untimed, NoFunction, TimeHitLimit, TimeLarge, Size, Sized, Unsized, Report}
 use Rattle.outcome.specs.Reports.{RuleCost, Costed, Uncosted}
 use Rattle.outcome.specs.Views.{numbered_gap, time_of, cost_of, size_of, report_of}
 use Rattle.outcome.specs.declared.entry.CostEntry.{CostEntry}
@@ -37,7 +37,7 @@ abbrev time_numbers : (ℕ → ℕ → ℕ) → ℕ → ℕ → List Time → Li
 time_numbers number t n [] = []
 time_numbers number t n (Timed b ∷ told) = number t 0 ∷ time_numbers number (suc t) n told
 time_numbers number t n (Untimed (NoFunction g) ∷ told) = suc n ∷ time_numbers number (suc t) (suc n) told
-time_numbers number t n (Untimed (TimeTripped x) ∷ told) = 0 ∷ time_numbers number (suc t) n told
+time_numbers number t n (Untimed (TimeHitLimit x) ∷ told) = 0 ∷ time_numbers number (suc t) n told
 time_numbers number t n (Untimed (TimeLarge k) ∷ told) = 0 ∷ time_numbers number (suc t) n told
 
 -- entries that carry numbers carry those
@@ -61,7 +61,7 @@ abbrev gaps_in : List Time → List Gap
 gaps_in [] = []
 gaps_in (Timed b ∷ told) = gaps_in told
 gaps_in (Untimed (NoFunction g) ∷ told) = g ∷ gaps_in told
-gaps_in (Untimed (TimeTripped x) ∷ told) = gaps_in told
+gaps_in (Untimed (TimeHitLimit x) ∷ told) = gaps_in told
 gaps_in (Untimed (TimeLarge k) ∷ told) = gaps_in told
 
 -- the gaps behind the first n

@@ -18,8 +18,8 @@ use Rattle.rank_search.specs.rule_questions.RuleAnswers.{answer_for, AreEmptyAns
 use Rattle.rank_search.specs.RankAnswers.{first_of, first_limit_hit}
 use Rattle.rank_search.specs.rule_questions.OneEmptyAnswer.{IsSameLimitHit, IsSameEmptyAnswer, EmptyAnswersAreOne}
 use Rattle.rank_search.specs.OneAnswer.{SeeTheSame, IsSameRankAnswer, RankAnswersAreOne}
-use Rattle.bound_fixpoint.specs.Searches.{Emptiness, NoPoint, HasPoint, EmptyTripped, Ranking, Ranked, Unranked}
-use Rattle.bound_fixpoint.specs.Searches.{RankTripped}
+use Rattle.bound_fixpoint.specs.Searches.{Emptiness, NoPoint, HasPoint, EmptyHitLimit, Ranking, Ranked, Unranked}
+use Rattle.bound_fixpoint.specs.Searches.{RankHitLimit}
 use Rattle.time_bounds.specs.ProgramRules.{emptiness_of, ranking_of, IsEmptinessOf, IsRankingOf}
 use Rattle.model.proofs.Cases.{slice_get-there as at_some, some_none, some_same}
 
@@ -29,7 +29,7 @@ limit_hit_one t u h = together t u h.0 (names-same t.cause u.cause h.1)
     together : (x y : LimitHit) → x.question ≡ y.question → x.cause ≡ y.cause → x ≡ y
     together x y q c = λ i. record { question = q i; cause = c i }
 
--- answers that are the same have the same point, and the same trip
+-- answers that are the same have the same point, and the same limit hit
 parts_one : (a b : GuardFeasibility) → IsSameEmptyAnswer a b → (point_in (Some a) ≡ point_in (Some b)) × (limit_hit_in (Some a) ≡ limit_hit_in (Some b))
 parts_one (empties.Empty n) (empties.Empty k) h = (refl, refl)
 parts_one (empties.Empty n) (empties.Point z) h = absurd h
@@ -51,7 +51,7 @@ same_emptiness (empties.Point z) (empties.Point w) h = ap (λ (x : ScaledPoint).
 same_emptiness (empties.Point z) (empties.OutOfLimits t) h = absurd h
 same_emptiness (empties.OutOfLimits t) (empties.Empty k) h = absurd h
 same_emptiness (empties.OutOfLimits t) (empties.Point w) h = absurd h
-same_emptiness (empties.OutOfLimits t) (empties.OutOfLimits u) h = ap (λ (x : LimitHit). EmptyTripped x) (limit_hit_one t u h)
+same_emptiness (empties.OutOfLimits t) (empties.OutOfLimits u) h = ap (λ (x : LimitHit). EmptyHitLimit x) (limit_hit_one t u h)
 
 ranking_one : (a c : RankAnswer) → IsSameRankAnswer a c → ranking_of a ≡ ranking_of c
 ranking_one (ranks.Ranked n) (ranks.Ranked k) h = ap (λ (x : RankNode). Ranked x) h.0
@@ -62,7 +62,7 @@ ranking_one (ranks.NoRank g) (ranks.NoRank w) h = ap (λ (x : Gap). Unranked x) 
 ranking_one (ranks.NoRank g) (ranks.OutOfLimits t) h = absurd h
 ranking_one (ranks.OutOfLimits t) (ranks.Ranked k) h = absurd h
 ranking_one (ranks.OutOfLimits t) (ranks.NoRank g) h = absurd h
-ranking_one (ranks.OutOfLimits t) (ranks.OutOfLimits u) h = ap (λ (x : LimitHit). RankTripped x) (limit_hit_one t u h)
+ranking_one (ranks.OutOfLimits t) (ranks.OutOfLimits u) h = ap (λ (x : LimitHit). RankHitLimit x) (limit_hit_one t u h)
 
 past_end : {X : Type 0} (xs : List X) (k : ℕ) → length xs ≤ k → slice_get xs k ≡ None
 past_end [] k h = refl
@@ -103,14 +103,14 @@ module _ (empties_one : EmptyAnswersAreOne) (ranks_one : RankAnswersAreOne) (p :
         ap (λ (o : Option ScaledPoint). o ∷ map (λ u. point_in (answer_for xs u)) set) (same_parts t).0
         ∙ ap (λ (os : List (Option ScaledPoint)). point_in (answer_for ys t) ∷ os) (same_points set)
 
-    same_trips : (set : List ℕ) → first_limit_hit xs set ≡ first_limit_hit ys set
-    same_trips [] = refl
-    same_trips (t ∷ set) =
+    same_hits_limit : (set : List ℕ) → first_limit_hit xs set ≡ first_limit_hit ys set
+    same_hits_limit [] = refl
+    same_hits_limit (t ∷ set) =
         ap (λ (o : Option LimitHit). first_of o (first_limit_hit xs set)) (same_parts t).1
-        ∙ ap (λ (o : Option LimitHit). first_of (limit_hit_in (answer_for ys t)) o) (same_trips set)
+        ∙ ap (λ (o : Option LimitHit). first_of (limit_hit_in (answer_for ys t)) o) (same_hits_limit set)
 
     see_the_same : (set : List ℕ) → SeeTheSame xs ys set
-    see_the_same set = record { points = same_points set; trips = same_trips set }
+    see_the_same set = record { points = same_points set; hits_limit = same_hits_limit set }
 
   -- one thing is answered of the emptiness of a rule
   pub emptiness_one : (t : ℕ) (x y : Emptiness) → IsEmptinessOf p pivots t x → IsEmptinessOf p pivots t y → x ≡ y

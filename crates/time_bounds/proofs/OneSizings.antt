@@ -14,7 +14,7 @@ use Rattle.cert_types.specs.cert_rules.Reasons.{MissingTime, MissingSize, Nonlin
 use Rattle.cert_types.specs.cert_rules.Checks.{spread_checks, cycle_checks}
 use Rattle.cert_types.proofs.cert_rules.CheckLists.{passed_has_none, first_is_one}
 use Rattle.cert_types.proofs.cert_rules.SizeReasons.{spread-passes, cycle-passes}
-use Rattle.outcome.specs.Reports.{NoSize, SizeUnbounded, SizeTripped, SizeMissing, SizeNonlinear, SizeUntimed, SizeLarge}
+use Rattle.outcome.specs.Reports.{NoSize, SizeUnbounded, SizeHitLimit, SizeMissing, SizeNonlinear, SizeUntimed, SizeLarge}
 use Rattle.local_size.specs.LocalAnswers.{Local, HasBound}
 use Rattle.rvg_components.specs.Flows.{Locals, local_reads, value_flows, loops}
 use Rattle.bound_fixpoint.specs.Derivations.{Node}
@@ -48,7 +48,7 @@ size_reason_of NotWeaker = None
 
 size_reason_is : (why : NoSize) (r : Reason) → IsReasonFor why r → size_reason_of r ≡ Some why
 size_reason_is (SizeUnbounded side ray kept) r h = absurd h
-size_reason_is (SizeTripped t) r h = absurd h
+size_reason_is (SizeHitLimit t) r h = absurd h
 size_reason_is (SizeMissing m) r h = ap size_reason_of h
 size_reason_is (SizeNonlinear m) r h = ap size_reason_of h
 size_reason_is (SizeUntimed t) r h = ap size_reason_of h

@@ -17,7 +17,7 @@ pub map-same : {A : Type 0} (xs : List A) → map (λ x. x) xs ≡ xs
 map-same [] = refl
 map-same (x ∷ xs) = ap (λ (ys : List _). x ∷ ys) (map-same xs)
 
--- the find at a position is open after those before it
+-- the derivation at a position is open after those before it
 pub open_at : (p : Program) (earlier : List plain.Derivation) (xs : List Derivation) (i : ℕ) (d : Derivation) → AreOpenAfter p earlier (derivations_of xs)
     → i < length xs → AreOpen p (earlier ++ derivations_of (take i xs)) (derivation_of (get_or xs i d)).keys
 open_at p earlier [] i d h l = absurd (omega (arith, l))
@@ -28,7 +28,7 @@ open_at p earlier (x ∷ xs) (suc i) d h l =
     (append_assoc earlier (derivation_of x ∷ []) (derivations_of (take i xs)))
     (open_at p (earlier ++ derivation_of x ∷ []) xs i d h.1 (omega (arith, l)))
 
--- the same for a find that is read, after those that were taken
+-- the same for a derivation that is read, after those that were taken
 pub open_read : (p : Program) (earlier taken : List plain.Derivation) (xs yielded : List Derivation) (x : Derivation) → AreOpenAfter p earlier (derivations_of xs)
     → taken ≡ earlier ++ derivations_of yielded → yielded ≡ take (length yielded) xs → length yielded < length xs
     → x ≡ get_or xs (length yielded) x → AreOpen p taken (derivation_of x).keys
@@ -38,12 +38,12 @@ open_read p earlier taken xs yielded x h is so_far low e =
     (subst (λ (y : Derivation). AreOpen p (earlier ++ derivations_of (take (length yielded) xs)) (derivation_of y).keys) (sym e)
     (open_at p earlier xs (length yielded) x h low))
 
--- the keys of each of these finds are keys of rules, and there is one
+-- the keys of each of these derivations are keys of rules, and there is one
 pub record HasKeysOfRules (p : Program) (f : plain.Derivation) : Type 0 where
   pub some : 1 ≤ length f.keys
   pub each : All (λ k. IsKey p k.rule k.place) f.keys
 
--- finds that are justified one after the other are open
+-- derivations that are justified one after the other are open
 pub open_standing : (s : Setting) (earlier fs : List plain.Derivation) → All (HasKeysOfRules s.program) fs → StandAfter s earlier fs
     → AreOpenAfter s.program earlier fs
 open_standing s earlier [] keys h = tt

@@ -1,4 +1,4 @@
--- The lemmas of an analysis are those of its finds, and what is known carries their numbers.
+-- The lemmas of an analysis are those of its derivations, and what is known carries their numbers.
 use Rattle.std.proofs.Common.{◌≡◌, ℕ, List, [], ◌∷◌, ◌++◌, length, map, All, sym, ◌∙◌, ap, subst}
 use Rattle.std.proofs.lemmas.List.{length-map}
 use Rattle.std.specs.List.{Contains}
@@ -42,7 +42,7 @@ use Rattle.time_bounds.proofs.RightSizings.{program_searches_right}
 use Rattle.time_bounds.proofs.CostNumbers.{certified_bounded, costs_stated}
 use Rattle.time_bounds.proofs.TablesOver.{bounds_same, numbers_same}
 
--- an analysis over the finds of a book, with their lemmas, has lemmas
+-- an analysis over the derivations of a book, with their lemmas, has lemmas
 pub has_lemmas : (p : Program) (pivots : ℕ) (tab : Table) (derivations : List Derivation) (o : Outcome) → IsValid p → AreDerivedBounds p tab derivations
     → IsAnalysisWith p pivots (derivations_of derivations) (report_of o)
     → AreCostEntries p pivots (bounds_in tab) (number_at tab) (lemmas_of (derivations_of derivations)) o.costs.items
@@ -90,7 +90,7 @@ has_lemmas p pivots tab derivations o valid derived analysis entries times sizes
         all_stand (searches_of_program p pivots) (setting_of p) (program_searches_right.each p pivots valid)
         (program_searches_one.each p pivots) (derivations_of derivations) last.made
 
-    -- the table is what is known with the finds
+    -- the table is what is known with the derivations
     same : bounds_in tab ≡ bounds_of p (derivations_of derivations)
     same = bounds_same p tab derivations derived
 
@@ -115,7 +115,7 @@ has_lemmas p pivots tab derivations o valid derived analysis entries times sizes
     whole = ap (facts_of_lemmas (setting_of p)) lemmas
         ∙ bounded-accepted.stated p pivots (derivations_of derivations) entries.certified valid stand bounded
 
-    -- there is a lemma for each find
+    -- there is a lemma for each derivation
     count : length (lemmas_of (derivations_of derivations)) ≡ length (derivations_of derivations)
     count = length-map (derivations_of derivations)
         (λ f. lemma_by (number_in (derivations_of derivations)) f.node f.premises)

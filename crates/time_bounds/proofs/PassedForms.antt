@@ -1,4 +1,4 @@
--- Along a loose ray, from a point of the rows, the value passes every affine form in the left arguments.
+-- Along an unbounded ray, from a point of the rows, the value passes every affine form in the left arguments.
 use Rattle.std.proofs.Common.{◌≡◌, ◌⊎◌, inl, inr, ℕ, suc, ◌+◌, ◌<◌, ◌≤◌, List, [], ◌∷◌, refl, ◌∙◌, ap, arith}
 use Rattle.std.specs.Prelude.{ℤ, pos, negsuc, ◌+ℤ◌, ◌*ℤ◌, ◌≤ℤ◌, ◌<ℤ◌, nat_abs}
 use Rattle.std.proofs.lemmas.Bool.{cases_lt}

@@ -14,7 +14,7 @@ use Rattle.cert_types.specs.cert_rules.Gaps.{ScaledPoint}
 use Rattle.cert_types.specs.cert_rules.AcceptsSizes.{Side}
 use Rattle.rank_search.specs.rule_questions.EmptyAnswers.{IsEmptyAnswer}
 use Rattle.rank_search.specs.rule_questions.RuleAnswers.{point_in, limit_hit_in}
-use Rattle.local_size.specs.LocalAnswers.{Local, HasBound, IsUnboundedOn, HasTripped, IsLocal, IsUnboundedPlace}
+use Rattle.local_size.specs.LocalAnswers.{Local, HasBound, IsUnboundedOn, HasHitLimit, IsLocal, IsUnboundedPlace}
 use Rattle.bound_fixpoint.specs.Keys.{key}
 use Rattle.bound_fixpoint.specs.Searches.{HasPoint}
 use Rattle.time_bounds.specs.ProgramRules.{emptiness_of, IsEmptinessOf}
@@ -44,7 +44,7 @@ module _ (p : Program) (pivots : ℕ) (r : Rule) (t : ℕ) (numbered : rule_at p
       told (empties.Point z) e = let point : scaled_of z ≡ kept = cc in ap (λ (k : ScaledPoint). Some k) point
       told (empties.OutOfLimits x) e = absurd (let none : ⊥ = cc in none)
 
-  -- and each point of an answer of the code is answered, and each of its trips
+  -- and each point of an answer of the code is answered, and each of its limit hits
   answered_point : (a : GuardFeasibility) (kept : ScaledPoint) → IsEmptyAnswer (prepared r) t pivots a
       → point_in (Some a) ≡ Some kept → IsEmptinessOf p pivots t (HasPoint kept)
   answered_point (empties.Empty n) kept h e = absurd (none_some kept e)
@@ -66,15 +66,15 @@ module _ (p : Program) (pivots : ℕ) (r : Rule) (t : ℕ) (numbered : rule_at p
   answer_at i a (HasBound l) known h = h
   answer_at i a (IsUnboundedOn side ray kept) known h =
       (record { straight = h.asked; lacks = h.lacks }, answered_point a kept known h.point)
-  answer_at i a (HasTripped x) known (inl own) = inl own
-  answer_at i a (HasTripped x) known (inr h) = inr record {
+  answer_at i a (HasHitLimit x) known (inl own) = inl own
+  answer_at i a (HasHitLimit x) known (inr h) = inr record {
     side = h.lacks.0;
     ray = h.lacks.1.0;
     lacks = record { straight = h.asked; lacks = h.lacks.1.1 };
-    trips = record { rule = r; numbered = numbered; trips = answered_limit_hit a x known h.limit_hit };
+    hits_limit = record { rule = r; numbered = numbered; hits_limit = answered_limit_hit a x known h.limit_hit };
   }
 
-  -- a place that is answered to be loose is so by an answer of the code
+  -- a place that is answered to have an unbounded side is so by an answer of the code
   pub unbounded_answered : (i : ℕ) (side : Side) (ray : List ℤ) (kept : ScaledPoint)
       → IsAnswerAt p pivots (prepared r) (key t i) (IsUnboundedOn side ray kept)
       → (a : GuardFeasibility) × IsEmptyAnswer (prepared r) t pivots a
@@ -83,16 +83,16 @@ module _ (p : Program) (pivots : ℕ) (r : Rule) (t : ℕ) (numbered : rule_at p
       let known = point_answered kept h.1 in
       (known.0, known.1, record { asked = h.0.straight; lacks = h.0.lacks; point = known.2 })
 
-  -- whatever is answered of emptiness, a place has its bounds, and its own trips; else what is answered of it is that by
-  -- an answer of the code
+  -- whatever is answered of emptiness, a place has its bounds, and its own limit hits; else what is answered of it is
+  -- that by an answer of the code
   pub code_answered : (i : ℕ) (x : Local) → IsAnswerAt p pivots (prepared r) (key t i) x
       → AnyAnswers pivots t i r x ⊎ OneAnswers pivots t i r x
   code_answered i (HasBound l) h = inl (λ a. h)
   code_answered i (IsUnboundedOn side ray kept) h = inr (unbounded_answered i side ray kept h)
-  code_answered i (HasTripped x) (inl own) = inl (λ a. inl own)
-  code_answered i (HasTripped x) (inr h) = inr (
+  code_answered i (HasHitLimit x) (inl own) = inl (λ a. inl own)
+  code_answered i (HasHitLimit x) (inr h) = inr (
     empties.OutOfLimits x,
     subst (λ (y : Rule). IsEmptyAnswer (prepared y) t pivots (empties.OutOfLimits x))
-        (some_same h.trips.rule r (sym h.trips.numbered ∙ numbered)) h.trips.trips,
+        (some_same h.hits_limit.rule r (sym h.hits_limit.numbered ∙ numbered)) h.hits_limit.hits_limit,
     inr (record { asked = h.lacks.straight; lacks = (h.side, (h.ray, h.lacks.lacks)); limit_hit = refl }),
   )

@@ -32,7 +32,7 @@ left-complete left q h =
     pass-all (λ m. list_all (λ v. nat_lt v left) m.vars) (λ m. All (λ v. v < left) m.vars)
     (λ m k. pass-all (λ v. nat_lt v left) (λ v. v < left) (λ v l. less-complete v left l) m.vars k) q h
 
--- a bent update is read among all
+-- a nonlinear update is read among all
 nonlinear-read : (qs : List Polynomial) (i : ℕ) (q : Polynomial) → nonlinear_at qs i ≡ Some q
     → (slice_index_or (map is_nonlinear qs) i false ≡ true) × (slice_index_or qs i [] ≡ q)
 nonlinear-read [] i q e = absurd (none_some q e)

@@ -98,7 +98,7 @@ module _ (p : Program) (valid : IsValid p) (n : ℕ) where
     composed_printable (SpreadBy m) premises ok = spread_printable m ok.shape
     composed_printable (CycleBy ms) premises ok = cycle_printable ms ok.shape.each
 
-  -- a find more, whose bound is printable
+  -- one more derivation, whose bound is printable
   one_printable : (fs : List Derivation) (f : Derivation) → ArePrintableBounds n (bounds_of p fs) → IsPrintableBound n f.bound
       → ArePrintableBounds n (bounds_of p (fs ++ f ∷ []))
   one_printable fs f good own = record {
@@ -115,7 +115,7 @@ module _ (p : Program) (valid : IsValid p) (n : ℕ) where
       go t i x (inl e) = good.each t i x e
       go t i x (inr e) = here t i x (has_key f.keys t i) refl e.1
 
-  -- so with finds that are justified after those with which all is printable, all is printable
+  -- so with derivations that are justified after those with which all is printable, all is printable
   stand_printable : (earlier fs : List Derivation) → ArePrintableBounds n (bounds_of p earlier) → StandAfter (setting_of p) earlier fs
       → ArePrintableBounds n (bounds_of p (earlier ++ fs))
   stand_printable earlier [] good h =
@@ -150,7 +150,7 @@ module _ (p : Program) (valid : IsValid p) (n : ℕ) where
       first zero (suc j) x e = inside j x (nat_lt j (arity_of p p.start)) refl e
       first (suc t) i x e = absurd (no_bound None x refl e)
 
--- all that is known with the finds of a valid program
+-- all that is known with the derivations of a valid program
 pub derivations_printable : (p : Program) (pivots : ℕ) (fs : List Derivation) → IsValid p
     → IsMade (searches_of_program p pivots) (setting_of p) fs → ArePrintableBounds (length p.start_names) (bounds_of p fs)
 derivations_printable p pivots fs valid made =

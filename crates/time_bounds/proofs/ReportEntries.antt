@@ -202,7 +202,7 @@ module _ (p : Program) (pivots : ℕ) (valid : IsValid p) (r : Report) (h : IsAn
       all_stand (searches_of_program p pivots) (setting_of p) (program_searches_right.each p pivots valid)
       (program_searches_one.each p pivots) h.derivations h.last.made
 
-  -- what is known with the finds holds
+  -- what is known with the derivations holds
   known_holds : (t i : ℕ) (b : Bound) → bounds_of p h.derivations t i ≡ Some b → Holds p (place_fact t i b)
   known_holds t i b e = hold.each (setting_of p) (settings-faithful.each p valid) h.derivations stand t i b e
 

@@ -38,8 +38,8 @@ use Rattle.rank_search.proofs.NodeLaws.{nodes-rank}
 use Rattle.rank_search.proofs.Accepted.{nodes-accepted}
 use Rattle.rank_search.proofs.RankExact.{answers-exact}
 use Rattle.rank_search.proofs.DualGaps.{found-holds}
-use Rattle.bound_fixpoint.specs.Searches.{Emptiness, NoPoint, HasPoint, EmptyTripped, Ranking}
-use Rattle.bound_fixpoint.specs.Right.{EmptyTrips, NoneTrips, IsFirstLimitHit, IsRightEmptiness, IsRightRanking}
+use Rattle.bound_fixpoint.specs.Searches.{Emptiness, NoPoint, HasPoint, EmptyHitLimit, Ranking}
+use Rattle.bound_fixpoint.specs.Right.{EmptyHitsLimit, NoneHitsLimit, IsFirstLimitHit, IsRightEmptiness, IsRightRanking}
 use Rattle.bound_fixpoint.specs.Right.{IsQuestion}
 use Rattle.bound_fixpoint.proofs.Cases.{either}
 use Rattle.time_bounds.specs.ProgramRules.{emptiness_of, ranking_of}
@@ -79,25 +79,25 @@ module _ (accepted : EmptyNodesAreAccepted) (functions : RankedNodesRank) (nodes
     inside = q.inside;
   }
 
-  -- a rule whose answer isn't a trip doesn't trip
+  -- the question of a rule whose answer isn't a limit hit hits no limit
   no_limit_hit : (t : ℕ) (r : Rule) (a : GuardFeasibility) → rule_at p t ≡ Some r → IsEmptyAnswer (prepared r) t pivots a → limit_hit_in (Some a) ≡ None
-      → EmptyTrips (searches_of_program p pivots) t → ⊥
-  no_limit_hit t r a numbered is untripped (x, (s, there, (b, same, other))) = go a b is other untripped same
+      → EmptyHitsLimit (searches_of_program p pivots) t → ⊥
+  no_limit_hit t r a numbered is hits_no_limit (x, (s, there, (b, same, other))) = go a b is other hits_no_limit same
     where
       one_rule : (u v : Rule) → Some u ≡ Some v → u ≡ v
       one_rule u v e = cc
 
-      not_empty : (m : List ℕ) → NoPoint m ≡ EmptyTripped x → ⊥
+      not_empty : (m : List ℕ) → NoPoint m ≡ EmptyHitLimit x → ⊥
       not_empty m e = cc
 
-      no_point : (z : ScaledPoint) → HasPoint z ≡ EmptyTripped x → ⊥
+      no_point : (z : ScaledPoint) → HasPoint z ≡ EmptyHitLimit x → ⊥
       no_point z e = cc
 
       same_rule : s ≡ r
       same_rule = one_rule s r (sym there ∙ numbered)
 
       go : (c d : GuardFeasibility) → IsEmptyAnswer (prepared r) t pivots c → IsEmptyAnswer (prepared s) t pivots d → limit_hit_in (Some c) ≡ None
-          → emptiness_of d ≡ EmptyTripped x → ⊥
+          → emptiness_of d ≡ EmptyHitLimit x → ⊥
       go c (empties.Empty n) h k e f = not_empty n.multipliers.items f
       go c (empties.Point z) h k e f = no_point (scaled_of z) f
       go (empties.Empty n) (empties.OutOfLimits y) h k e f =
@@ -115,13 +115,13 @@ module _ (accepted : EmptyNodesAreAccepted) (functions : RankedNodesRank) (nodes
         none e = cc
     answered (suc k) rule = at_some answers k (omega (arith, slice_get-below p.rules k rule.rule rule.numbered, are.one_each))
 
-    -- where the search finds no rule of a set that trips, none does
-    none_trips : (ts : List ℕ) → ((u : ℕ) → is_in u ts ≡ true → IsRule p u) → first_limit_hit answers ts ≡ None
-        → NoneTrips (searches_of_program p pivots) ts
-    none_trips [] rules e u m trips = no_is_not_yes false refl m
-    none_trips (t ∷ ts) rules e u m trips =
-        either (is_in-cases u t ts m) (λ same. here (subst (λ (n : ℕ). EmptyTrips (searches_of_program p pivots) n) same trips))
-        (λ later. none_trips ts (λ v k. rules v (or_right (v == t) (is_in v ts) k)) (rest (answered t rule).0 (answered t rule).1) u later trips)
+    -- if the search finds no rule of a set whose question hits a limit, none does
+    none_hits_limit : (ts : List ℕ) → ((u : ℕ) → is_in u ts ≡ true → IsRule p u) → first_limit_hit answers ts ≡ None
+        → NoneHitsLimit (searches_of_program p pivots) ts
+    none_hits_limit [] rules e u m hits_limit = no_is_not_yes false refl m
+    none_hits_limit (t ∷ ts) rules e u m hits_limit =
+        either (is_in-cases u t ts m) (λ same. here (subst (λ (n : ℕ). EmptyHitsLimit (searches_of_program p pivots) n) same hits_limit))
+        (λ later. none_hits_limit ts (λ v k. rules v (or_right (v == t) (is_in v ts) k)) (rest (answered t rule).0 (answered t rule).1) u later hits_limit)
       where
         rule : IsRule p t
         rule = rules t (or_left (t == t) (is_in t ts) (same_number t))
@@ -134,7 +134,7 @@ module _ (accepted : EmptyNodesAreAccepted) (functions : RankedNodesRank) (nodes
             by (empties.Point z) h = h
             by (empties.OutOfLimits x) h = absurd (limit_hit_none x h)
 
-        here : EmptyTrips (searches_of_program p pivots) t → ⊥
+        here : EmptyHitsLimit (searches_of_program p pivots) t → ⊥
         here x =
             let a = answered t rule in
             no_limit_hit t rule.rule a.0 rule.numbered (are.each t rule.rule a.0 rule.numbered a.1) (by a.0 (rw a.1 at e)) x
@@ -144,7 +144,7 @@ module _ (accepted : EmptyNodesAreAccepted) (functions : RankedNodesRank) (nodes
             by (empties.Point z) h = refl
             by (empties.OutOfLimits y) h = h
 
-    -- the trip that is reported is that of the first rule that trips
+    -- the limit hit that is reported is that of the first rule whose question hits one
     pub first_told : (x : LimitHit) (ts : List ℕ) → ((u : ℕ) → is_in u ts ≡ true → IsRule p u) → first_limit_hit answers ts ≡ Some x
         → IsFirstLimitHit (searches_of_program p pivots) ts x
     first_told x [] rules e = absurd (none_limit_hit x e)
@@ -164,7 +164,7 @@ module _ (accepted : EmptyNodesAreAccepted) (functions : RankedNodesRank) (nodes
             by (empties.Empty n) is h = inr (no_limit_hit t rule.rule (empties.Empty n) rule.numbered is refl, later h)
             by (empties.Point z) is h = inr (no_limit_hit t rule.rule (empties.Point z) rule.numbered is refl, later h)
             by (empties.OutOfLimits y) is h =
-                inl (rule.rule, rule.numbered, (empties.OutOfLimits y, ap (λ (w : LimitHit). EmptyTripped w) (some_limit_hit y x h), is))
+                inl (rule.rule, rule.numbered, (empties.OutOfLimits y, ap (λ (w : LimitHit). EmptyHitLimit w) (some_limit_hit y x h), is))
 
     -- what is right of an answer to a rank question
     rank_right : (set : List ℕ) (t : ℕ) (shut : List SymbolPlace) → IsQuestion p set t → (a : RankAnswer)
@@ -192,7 +192,7 @@ module _ (accepted : EmptyNodesAreAccepted) (functions : RankedNodesRank) (nodes
             holds = found-holds p set t shut pivots answers valid (rule_set set t q) are (gap_of gap) h.0;
             none = none.0;
           },
-          none_trips set q.rules h.1,
+          none_hits_limit set q.rules h.1,
         )
     rank_right set t shut q (ranks.OutOfLimits x) (inl own) = inl own.question
     rank_right set t shut q (ranks.OutOfLimits x) (inr first) = inr (first_told x set q.rules first.first)

@@ -23,9 +23,9 @@ use Rattle.cert_types.specs.cert_rules.Combined.{form_at}
 use Rattle.cert_types.specs.cert_rules.AcceptsSizes.{Side, Up, Low, left_in, new_value}
 use Rattle.cert_types.specs.cert_program.Setting.{setting_of, rows_in, new_values_in}
 use Rattle.cert_types.specs.declared.answer.Question.TheVariants as asked
-use Rattle.outcome.specs.Reports.{NoSize, SizeUnbounded, SizeTripped, SizeMissing, SizeNonlinear, SizeUntimed, SizeLarge}
+use Rattle.outcome.specs.Reports.{NoSize, SizeUnbounded, SizeHitLimit, SizeMissing, SizeNonlinear, SizeUntimed, SizeLarge}
 use Rattle.local_size.specs.Places.{is_polynomial_at, local_forms, value_on}
-use Rattle.local_size.specs.LocalAnswers.{Local, HasBound, IsUnboundedOn, HasTripped}
+use Rattle.local_size.specs.LocalAnswers.{Local, HasBound, IsUnboundedOn, HasHitLimit}
 use Rattle.local_size.specs.LocalLaws.{IsResultVariableOf, UnboundedAnswersAreUnbounded}
 use Rattle.local_size.proofs.UnboundedAnswers.{unbounded-answers}
 use Rattle.rvg_components.specs.Flows.{Locals, loops}
@@ -41,7 +41,7 @@ use Rattle.bound_fixpoint.proofs.Cases.{some_same, none_some}
 use Rattle.time_bounds.specs.ProgramSearches.{searches_of_program}
 use Rattle.time_bounds.specs.ProgramSizes.{IsLocalOf, AreLocalsOf, unbounded_reason, limit_hit_reason, or_else}
 use Rattle.time_bounds.specs.ProgramSizes.{first_reason, lacks_side_bounds, AnswersAlone, AnswersLoop, AnswersMembers}
-use Rattle.time_bounds.specs.ProgramSizes.{AnswersPlaces, TripsAt}
+use Rattle.time_bounds.specs.ProgramSizes.{AnswersPlaces, HitsLimitAt}
 use Rattle.time_bounds.proofs.PlaceAnswers.{unbounded_answered}
 use Rattle.time_bounds.specs.SearchLaws.{ProgramSearchesAreRight}
 use Rattle.time_bounds.proofs.MemberLoops.{loop_decided}
@@ -83,7 +83,7 @@ reason-sound P reason local (m ∷ result_variables) why h e =
           x.3,
         )
 
--- a place is a spot of its rule
+-- a place is a result variable of its rule
 pub result_variable_of_rule : (p : Program) (m : ResultVariable) (r : Rule) → rule_at p m.rule ≡ Some r → IsPlace p m.rule m.place
     → IsResultVariableOf p m r
 result_variable_of_rule p m r numbered place = record {
@@ -101,7 +101,7 @@ result_variable_of_rule p m r numbered place = record {
     symbol (suc k) q e a f = some_same a q.target (sym f ∙ ap target_in e)
 
 module _ (unbounded : UnboundedAnswersAreUnbounded) (p : Program) (pivots : ℕ) (valid : IsValid p) where
-  -- a loose answer is right
+  -- the answer that a side is unbounded is right
   module _ (m : ResultVariable) (r : Rule) (numbered : rule_at p m.rule ≡ Some r) (place : IsPlace p m.rule m.place) where
     rises : (side : Side) (z : ℕ → ℤ) → pos 0 <ℤ form_value (value_on side (prepared r) m.place) z (pos 0)
         → MovesTo side (form_value (new_value (setting_of p) m) z (pos 0))
@@ -144,7 +144,7 @@ module _ (unbounded : UnboundedAnswersAreUnbounded) (p : Program) (pivots : ℕ)
     abbrev Answered : ResultVariable → Local → Type 0
     Answered m x = IsLocalOf p pivots m.rule m.place x
 
-    -- a place that is loose is why there is no size
+    -- a place with an unbounded side is why there is no size
     unbounded_cause : (m : ResultVariable) → has_key result_variables m.rule m.place ≡ true → (x : Local) → Answered m x → (why : NoSize)
         → unbounded_reason x ≡ Some why → IsCause (setting_of p) b result_variables why
     unbounded_cause m has (HasBound l) is why e = absurd (none_some why e)
@@ -155,26 +155,26 @@ module _ (unbounded : UnboundedAnswersAreUnbounded) (p : Program) (pivots : ℕ)
         let shown = unbounded.ray p r m pivots found.0 side ray kept valid here found.1 found.2 in
         subst (λ (w : NoSize). IsCause (setting_of p) b result_variables w) (some_same (SizeUnbounded side ray kept) why e)
         (m, has, unbounded_at m r is.numbered is.place side ray kept shown.0 shown.1 is.local.0.straight)
-    unbounded_cause m has (HasTripped t) is why e = absurd (none_some why e)
+    unbounded_cause m has (HasHitLimit t) is why e = absurd (none_some why e)
 
-    -- and so is one that tripped
+    -- and so is one whose question hit a limit
     limit_cause : (m : ResultVariable) → has_key result_variables m.rule m.place ≡ true → (x : Local) → Answered m x → (why : NoSize)
         → limit_hit_reason x ≡ Some why → IsCause (setting_of p) b result_variables why
     limit_cause m has (HasBound l) is why e = absurd (none_some why e)
     limit_cause m has (IsUnboundedOn side ray kept) is why e = absurd (none_some why e)
-    limit_cause m has (HasTripped t) is why e =
-        subst (λ (w : NoSize). IsCause (setting_of p) b result_variables w) (some_same (SizeTripped t) why e)
+    limit_cause m has (HasHitLimit t) is why e =
+        subst (λ (w : NoSize). IsCause (setting_of p) b result_variables w) (some_same (SizeHitLimit t) why e)
         (m, has, question is.local)
       where
-        question : TripsAt p pivots (prepared is.rule) m t
+        question : HitsLimitAt p pivots (prepared is.rule) m t
             → (t.question ≡ asked.Local m.rule m.place) ⊎ (t.question ≡ asked.Empty m.rule)
         question (inl own) = inl own.question
-        question (inr point) = inr point.trips.trips.0
+        question (inr point) = inr point.hits_limit.hits_limit.0
 
     -- the first check that fails
     first_cause : (why : NoSize) → IsFirstCause (setting_of p) b result_variables why → IsCause (setting_of p) b result_variables why
     first_cause (SizeUnbounded side ray kept) h = absurd h.1
-    first_cause (SizeTripped t) h = absurd h.1
+    first_cause (SizeHitLimit t) h = absurd h.1
     first_cause (SizeMissing m) h = h
     first_cause (SizeNonlinear m) h = h
     first_cause (SizeUntimed t) h = h
@@ -185,7 +185,7 @@ module _ (unbounded : UnboundedAnswersAreUnbounded) (p : Program) (pivots : ℕ)
         → IsRightSizing (setting_of p) b result_variables (SizedBy other)
     node_right node other e h = subst (λ (n : Node). IsSizingOf (setting_of p) b result_variables n) (sym e) h
 
-    -- what is judged of members with arms is right
+    -- what is judged of members with side bounds is right
     spread_right : (ms : List Member) → result_variables ≡ map (λ m. m.result_variable) ms → do_loop (setting_of p) ms ≡ false
         → (answer : SizeOutcome) → AnswersAlone (setting_of p) (over b) ms answer
         → IsRightSizing (setting_of p) b result_variables answer

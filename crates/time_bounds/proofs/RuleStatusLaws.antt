@@ -1,4 +1,4 @@
--- The fates that are found are those of the program's rules.
+-- The statuses that are found are those of the program's rules.
 use Rattle.std.proofs.Common.{◌≡◌, ◌↔◌, inl, inr, ℕ, zero, suc, ◌<◌, ◌==◌, ◌||◌, Bool, true, false, not, cond, eqb}
 use Rattle.std.proofs.Common.{List, [], ◌∷◌, length, map, Option, Some, None, option_map, refl, sym, ◌∙◌, ap, subst}
 use Rattle.std.proofs.Common.{arith}

@@ -20,7 +20,7 @@ rule_statuses-append seen (x ∷ xs) (y ∷ ys) a r e =
     ap (λ (fs : List RuleStatus). rule_status_of x (slice_index_or seen y.source false) ∷ fs)
     (rule_statuses-append seen xs ys a r (let z : length xs ≡ length ys = omega (arith, e) in z))
 
--- the fate of the next rule
+-- the status of the next rule
 pub rule_statuses-more : (seen : List Bool) (xs : List GuardFeasibility) (ys : List Rule) (i : ℕ) (a : GuardFeasibility) (r : Rule) → length xs ≡ length ys
     → i < length ys → a ≡ slice_index_or xs i a → r ≡ slice_index_or ys i r
     → rule_statuses_by seen (take (i + 1) xs) (take (i + 1) ys)

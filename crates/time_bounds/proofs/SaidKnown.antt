@@ -1,4 +1,4 @@
--- The bounds that the report of an analysis says are those that are known with its finds.
+-- The bounds that the report of an analysis says are those that are known with its derivations.
 use Rattle.std.proofs.Common.{◌≡◌, inl, inr, ℕ, zero, suc, ◌+◌, ◌<◌, ◌≤◌, List, [], ◌∷◌, length, map, Option, Some, None}
 use Rattle.std.proofs.Common.{refl, sym, ◌∙◌, ap, subst, arith, slice_get}
 use Rattle.std.proofs.lemmas.List.{length-map}

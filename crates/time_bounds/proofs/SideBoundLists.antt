@@ -1,4 +1,4 @@
--- Members with their arms, one by one.
+-- Members with their side bounds, one by one.
 use Rattle.std.specs.Prelude.{slice_get, slice_index_or}
 use Rattle.std.specs.declared.alloc.Global.{Global}
 use Rattle.std.proofs.Common.{◌≡◌, ℕ, zero, suc, ◌-◌, ◌<◌, ◌≤◌, Bool, true, false, Vec, get_or, List, [], ◌∷◌}
@@ -96,14 +96,14 @@ each_none reason local (m ∷ result_variables) e =
     (left_none (reason (local m.rule m.place)) (first_reason reason local result_variables) e)
     (each_none reason local result_variables (right_none (reason (local m.rule m.place)) (first_reason reason local result_variables) e))
 
--- where places lack no arms, none of them is loose
+-- if all places have side bounds, no side of them is unbounded
 pub none_unbounded : (local : Locals) (result_variables : List ResultVariable) → lacks_side_bounds local result_variables ≡ None → All (λ m. unbounded_reason (local m.rule m.place) ≡ None) result_variables
 none_unbounded local result_variables e =
     each_none unbounded_reason local result_variables (left_none (first_reason unbounded_reason local result_variables) (first_reason limit_hit_reason local result_variables) e)
 
--- where places lack no arms, none of their questions tripped
-pub none_tripped : (local : Locals) (result_variables : List ResultVariable) → lacks_side_bounds local result_variables ≡ None → All (λ m. limit_hit_reason (local m.rule m.place) ≡ None) result_variables
-none_tripped local result_variables e =
+-- if all places have side bounds, none of their questions hit a limit
+pub none_hit_limit : (local : Locals) (result_variables : List ResultVariable) → lacks_side_bounds local result_variables ≡ None → All (λ m. limit_hit_reason (local m.rule m.place) ≡ None) result_variables
+none_hit_limit local result_variables e =
     each_none limit_hit_reason local result_variables (right_none (first_reason unbounded_reason local result_variables) (first_reason limit_hit_reason local result_variables) e)
 
 -- members that are alone, or loop

@@ -99,7 +99,7 @@ grown-itself b = record { each = λ t i x e. e }
 pub grown-on : (a b c : Bounds) → HasGrown a b → HasGrown b c → HasGrown a c
 grown-on a b c h k = record { each = λ t i x e. k.each t i x (h.each t i x e) }
 
--- it grows when finds are added
+-- it grows when derivations are added
 pub grown-derivations : (p : Program) (fs more : List plain.Derivation) → HasGrown (plain.bounds_of p fs) (plain.bounds_of p (fs ++ more))
 grown-derivations p fs more = record { each = λ t i x e. bounds_of-kept p fs more t i x e }
 

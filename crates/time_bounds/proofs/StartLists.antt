@@ -1,4 +1,4 @@
--- Lists of first finds, one rule more at a time.
+-- Lists of first derivations, one rule more at a time.
 use Rattle.std.proofs.Common.{◌≡◌, ℕ, ◌+◌, ◌<◌, List, [], ◌∷◌, ◌++◌, length, map, drop, get_or, sym, ◌∙◌, ap}
 use Rattle.std.proofs.Common.{append_assoc, arith}
 use Rattle.std.specs.List.{range_with_len}

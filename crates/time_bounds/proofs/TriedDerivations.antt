@@ -1,4 +1,4 @@
--- What was tried of the rules over what finds say is a round of times.
+-- What was tried of the rules over what derivations say is a round of times.
 use Rattle.std.proofs.Common.{◌≡◌, ℕ, suc, ◌+◌, ◌||◌, Bool, true, false, List, [], ◌∷◌, ◌++◌, length}
 use Rattle.std.proofs.Common.{map, Option, Some, None, refl, sym, ◌∙◌, ap, subst, append_assoc, arith}
 use Rattle.std.specs.List.{range_with_len}
@@ -97,7 +97,7 @@ kept_asked p b later pivots empties k (None ∷ asked) h = kept_asked p b later 
 kept_asked p b later pivots empties k (Some a ∷ asked) h =
     (h.0.1.answered, kept_asked p b later pivots empties (suc k) asked h.1)
 
--- the find of a time has the key of its rule
+-- the derivation of a time has the key of its rule
 own_time : (t : ℕ) (f : plain.Derivation) → f.keys ≡ time_key t ∷ [] → lacks (bound_found (f ∷ []) t 0) ≡ false
 own_time t f e =
     ap lacks (found-here f [] t 0 (subst (λ (ks : List ResultVariable). has_key ks t 0 ≡ true) (sym e) (has_key-first (time_key t) [])))

@@ -6,7 +6,7 @@ use Rattle.std.proofs.lemmas.List.Elements.{All-from_recursion, recursion_from_A
 use Rattle.model.specs.Programs.{Program, Rule}
 use Rattle.model.proofs.Cases.{none_some, some_same}
 use Rattle.its_model.specs.Valid.{IsValid}
-use Rattle.outcome.specs.Reports.{NoSize, SizeUnbounded, SizeTripped}
+use Rattle.outcome.specs.Reports.{NoSize, SizeUnbounded, SizeHitLimit}
 use Rattle.cert_types.specs.AnswerViews.{scaled_of}
 use Rattle.cert_types.specs.cert_rules.Gaps.{ScaledPoint}
 use Rattle.cert_types.specs.cert_rules.Known.{Table}
@@ -20,7 +20,7 @@ use Rattle.guard_prep.specs.Prepared.{prepared}
 use Rattle.rank_search.specs.rule_questions.EmptyAnswers.{IsEmptyAnswer}
 use Rattle.rank_search.specs.rule_questions.RuleAnswers.{point_in}
 use Rattle.local_size.specs.Places.{value_on}
-use Rattle.local_size.specs.LocalAnswers.{Local, HasBound, IsUnboundedOn, HasTripped}
+use Rattle.local_size.specs.LocalAnswers.{Local, HasBound, IsUnboundedOn, HasHitLimit}
 use Rattle.local_size.proofs.UnboundedAnswers.{unbounded-answers}
 use Rattle.rvg_components.specs.Flows.{Locals}
 use Rattle.bound_fixpoint.specs.Answers.{Lacks, TellsSizing, TellsSize}
@@ -53,11 +53,11 @@ module _ (p : Program) (pivots : ℕ) (valid : IsValid p) where
       subst (λ (k : ScaledPoint). length k.parts ≡ (prepared rule).unknowns) (some_same (scaled_of z) kept e) h.0.long
   kept_long rule t (empties.OutOfLimits x) kept h e = absurd (none_some kept e)
 
-  -- a loose answer is true of its place
+  -- the answer that a side is unbounded is true of its place
   unbounded_so : (m : ResultVariable) (x : Local) → IsLocalOf p pivots m.rule m.place x → (why : NoSize) → unbounded_reason x ≡ Some why
       → ReadsNothing p m x × ((b : Bounds) → HasNoSize p pivots b m.rule m.place why)
   unbounded_so m (HasBound l) is why e = absurd (none_some why e)
-  unbounded_so m (HasTripped t) is why e = absurd (none_some why e)
+  unbounded_so m (HasHitLimit t) is why e = absurd (none_some why e)
   unbounded_so m (IsUnboundedOn side ray kept) is why e =
       let here = result_variable_of_rule p m is.rule is.numbered is.place in
       let found = unbounded_answered p pivots is.rule m.rule is.numbered m.place side ray kept is.local in
@@ -78,15 +78,15 @@ module _ (p : Program) (pivots : ℕ) (valid : IsValid p) where
             },
       )
 
-  -- and so is one that tripped
+  -- and so is one of a limit hit
   limit_hit_so : (m : ResultVariable) (x : Local) → IsLocalOf p pivots m.rule m.place x → (why : NoSize) → limit_hit_reason x ≡ Some why
       → ReadsNothing p m x × ((b : Bounds) → HasNoSize p pivots b m.rule m.place why)
   limit_hit_so m (HasBound l) is why e = absurd (none_some why e)
   limit_hit_so m (IsUnboundedOn side ray kept) is why e = absurd (none_some why e)
-  limit_hit_so m (HasTripped x) is why e = (
+  limit_hit_so m (HasHitLimit x) is why e = (
     (λ j. refl),
-    λ b. subst (λ (w : NoSize). HasNoSize p pivots b m.rule m.place w) (some_same (SizeTripped x) why e)
-        record { rule = is.rule; numbered = is.numbered; trips = is.local },
+    λ b. subst (λ (w : NoSize). HasNoSize p pivots b m.rule m.place w) (some_same (SizeHitLimit x) why e)
+        record { rule = is.rule; numbered = is.numbered; hits_limit = is.local },
   )
 
   module _ (b : Bounds) (t i : ℕ) where
@@ -129,15 +129,15 @@ module _ (p : Program) (pivots : ℕ) (valid : IsValid p) where
 
       lacks_so : (why : NoSize) → lacks_side_bounds local keys ≡ Some why → HasNoSize p pivots b t i why
       lacks_so why e =
-          either (one_of (first_reason unbounded_reason local keys) (first_reason limit_hit_reason local keys) why e) unbounded trips
+          either (one_of (first_reason unbounded_reason local keys) (first_reason limit_hit_reason local keys) why e) unbounded hits_limit
         where
           unbounded : first_reason unbounded_reason local keys ≡ Some why → HasNoSize p pivots b t i why
           unbounded k =
               let x = reason-sound Place unbounded_reason local keys why places k in
               lacking_so x.0 x.1 (local x.0.rule x.0.place) x.2 why (unbounded_so x.0 (local x.0.rule x.0.place) x.2 why x.3)
 
-          trips : first_reason limit_hit_reason local keys ≡ Some why → HasNoSize p pivots b t i why
-          trips k =
+          hits_limit : first_reason limit_hit_reason local keys ≡ Some why → HasNoSize p pivots b t i why
+          hits_limit k =
               let x = reason-sound Place limit_hit_reason local keys why places k in
               lacking_so x.0 x.1 (local x.0.rule x.0.place) x.2 why (limit_hit_so x.0 (local x.0.rule x.0.place) x.2 why x.3)
 

@@ -3,7 +3,7 @@ use Rattle.std.proofs.Common.{◌≡◌, ◌⊎◌, inl, inr, ℕ, List, [], ◌
 use Rattle.model.specs.Programs.{Program}
 use Rattle.its_model.specs.Valid.{IsValid}
 use Rattle.guard_prep.specs.Prepared.{prepared}
-use Rattle.outcome.specs.Reports.{NoTime, NoFunction, TimeTripped, TimeLarge}
+use Rattle.outcome.specs.Reports.{NoTime, NoFunction, TimeHitLimit, TimeLarge}
 use Rattle.cert_types.specs.rule_forms.Ranking.{NoRank}
 use Rattle.cert_types.specs.cert_rules.AcceptsPlain.{IsRule}
 use Rattle.cert_types.specs.cert_rules.AcceptsRank.{rank_time}
@@ -28,13 +28,13 @@ use Rattle.rank_search.proofs.RankExact.{answers-exact}
 use Rattle.bound_fixpoint.specs.Answers.{Lacks, TellsRanking, TellsTime}
 use Rattle.bound_fixpoint.specs.Keys.{Bounds, over}
 use Rattle.bound_fixpoint.specs.Right.{IsFirstLimitHit, IsGapOf, IsQuestion}
-use Rattle.bound_fixpoint.specs.Searches.{EmptyTripped, Ranking, Ranked, Unranked}
-use Rattle.bound_fixpoint.specs.Searches.{RankTripped, OfTime}
+use Rattle.bound_fixpoint.specs.Searches.{EmptyHitLimit, Ranking, Ranked, Unranked}
+use Rattle.bound_fixpoint.specs.Searches.{RankHitLimit, OfTime}
 use Rattle.bound_fixpoint.specs.Sets.{IsSetOfRule, AreShutOf}
 use Rattle.bound_fixpoint.proofs.AcceptedRanks.{is_question}
-use Rattle.time_bounds.specs.ProgramRules.{emptiness_of, ranking_of, EmptyTripsSo}
+use Rattle.time_bounds.specs.ProgramRules.{emptiness_of, ranking_of, EmptyHitsLimitSo}
 use Rattle.time_bounds.specs.ProgramSearches.{searches_of_program}
-use Rattle.time_bounds.specs.TimeWhys.{FirstTripsSo, IsSought, NoFunctionRanks, PointsLimitHitSo, RankTripsSo}
+use Rattle.time_bounds.specs.TimeWhys.{FirstHitsLimitSo, IsSought, NoFunctionRanks, PointsLimitHitSo, RankHitsLimitSo}
 use Rattle.time_bounds.specs.TimeWhys.{HasNoTime}
 use Rattle.time_bounds.proofs.RightSearches.{first_told, ranking_right}
 
@@ -43,13 +43,13 @@ one_time : (v w : NoTime) → Lacks (OfTime v) ≡ Lacks (OfTime w) → v ≡ w
 one_time v w e = cc
 
 module _ (p : Program) (pivots : ℕ) where
-  -- an answer of emptiness that trips is the trip of the rule's own linear program
-  pub empty_limit_hit : (t : ℕ) (x : LimitHit) → (searches_of_program p pivots).Empties t (EmptyTripped x)
-      → EmptyTripsSo p pivots t x
+  -- a limit hit of a feasibility answer is that of the rule's own linear program
+  pub empty_limit_hit : (t : ℕ) (x : LimitHit) → (searches_of_program p pivots).Empties t (EmptyHitLimit x)
+      → EmptyHitsLimitSo p pivots t x
   empty_limit_hit t x (r, numbered, (a, same, is)) = go a same is
     where
-      go : (a : GuardFeasibility) → emptiness_of a ≡ EmptyTripped x → IsEmptyAnswer (prepared r) t pivots a
-          → EmptyTripsSo p pivots t x
+      go : (a : GuardFeasibility) → emptiness_of a ≡ EmptyHitLimit x → IsEmptyAnswer (prepared r) t pivots a
+          → EmptyHitsLimitSo p pivots t x
       go (empties.Empty n) e h = absurd (let none : ⊥ = cc in none)
       go (empties.Point z) e h = absurd (let none : ⊥ = cc in none)
       go (empties.OutOfLimits y) e h =
@@ -57,16 +57,16 @@ module _ (p : Program) (pivots : ℕ) where
           record {
             rule = r;
             numbered = numbered;
-            trips = subst (λ (z : LimitHit). IsEmptyAnswer (prepared r) t pivots (empties.OutOfLimits z)) same_limit_hit h;
+            hits_limit = subst (λ (z : LimitHit). IsEmptyAnswer (prepared r) t pivots (empties.OutOfLimits z)) same_limit_hit h;
           }
 
-  -- and such a trip is answered
-  limit_hit_answered : (t : ℕ) (x : LimitHit) → EmptyTripsSo p pivots t x
-      → (searches_of_program p pivots).Empties t (EmptyTripped x)
-  limit_hit_answered t x h = (h.rule, h.numbered, (empties.OutOfLimits x, refl, h.trips))
+  -- and such a limit hit is answered
+  limit_hit_answered : (t : ℕ) (x : LimitHit) → EmptyHitsLimitSo p pivots t x
+      → (searches_of_program p pivots).Empties t (EmptyHitLimit x)
+  limit_hit_answered t x h = (h.rule, h.numbered, (empties.OutOfLimits x, refl, h.hits_limit))
 
   -- the first rule that is answered so
-  first_limit_hit_so : (ts : List ℕ) (x : LimitHit) → IsFirstLimitHit (searches_of_program p pivots) ts x → FirstTripsSo p pivots ts x
+  first_limit_hit_so : (ts : List ℕ) (x : LimitHit) → IsFirstLimitHit (searches_of_program p pivots) ts x → FirstHitsLimitSo p pivots ts x
   first_limit_hit_so [] x h = absurd h
   first_limit_hit_so (t ∷ ts) x (inl h) = inl (empty_limit_hit t x h)
   first_limit_hit_so (t ∷ ts) x (inr h) = inr ((λ y k. h.0 (y, limit_hit_answered t y k)), first_limit_hit_so ts x h.1)
@@ -103,8 +103,8 @@ module _ (p : Program) (pivots : ℕ) where
         go (ranks.NoRank gap) e h = absurd (let none : ⊥ = cc in none)
         go (ranks.OutOfLimits y) e h = absurd (let none : ⊥ = cc in none)
 
-    -- the trip of an answer is that of the rank question
-    limit_hit_so : (x : LimitHit) → (searches_of_program p pivots).Ranks set t shut (RankTripped x) → RankTripsSo p pivots b t x
+    -- the limit hit of an answer is that of the rank question
+    limit_hit_so : (x : LimitHit) → (searches_of_program p pivots).Ranks set t shut (RankHitLimit x) → RankHitsLimitSo p pivots b t x
     limit_hit_so x (answers, are, (a, same, is)) = go a same is
       where
         cases : (y : LimitHit)
@@ -112,21 +112,21 @@ module _ (p : Program) (pivots : ℕ) where
             → IsOwnLimitHit (ranked_set p set t shut) pivots y ⊎ PointsLimitHitSo p pivots (ranked_set p set t shut) y
         cases y (inl own) = inl own
         cases y (inr h) = inr record {
-          untripped = h.untripped;
+          hits_no_limit = h.hits_no_limit;
           unsolved = h.unsolved;
           first = first_limit_hit_so set y
               (first_told empty_nodes-accepted nodes-rank nodes-accepted answers-exact p pivots valid answers are y set
               question.rules h.first);
         }
 
-        go : (a : RankAnswer) → ranking_of a ≡ RankTripped x
-            → IsRankAnswer (ranked_set p set t shut) shut pivots answers a → RankTripsSo p pivots b t x
+        go : (a : RankAnswer) → ranking_of a ≡ RankHitLimit x
+            → IsRankAnswer (ranked_set p set t shut) shut pivots answers a → RankHitsLimitSo p pivots b t x
         go (ranks.Ranked n) e h = absurd (let none : ⊥ = cc in none)
         go (ranks.NoRank gap) e h = absurd (let none : ⊥ = cc in none)
         go (ranks.OutOfLimits y) e h =
             let same_limit_hit : y ≡ x = cc in
-            subst (λ (z : LimitHit). RankTripsSo p pivots b t z) same_limit_hit
-            record { set = set; shut = shut; sought = sought; trips = cases y h }
+            subst (λ (z : LimitHit). RankHitsLimitSo p pivots b t z) same_limit_hit
+            record { set = set; shut = shut; sought = sought; hits_limit = cases y h }
 
     -- the reason that each answer gives
     told_so : (answer : Ranking) → (searches_of_program p pivots).Ranks set t shut answer → (why : NoTime)
@@ -134,8 +134,8 @@ module _ (p : Program) (pivots : ℕ) where
     told_so (Ranked node) h (NoFunction g) told =
         let e : OfTime (NoFunction g) ≡ OfTime (TimeLarge (large_nodes (setting_of p).rewrite
         (rank_time (setting_of p) node (over b)))) = told.1 in absurd (let none : ⊥ = cc in none)
-    told_so (Ranked node) h (TimeTripped x) told =
-        let e : OfTime (TimeTripped x) ≡ OfTime (TimeLarge (large_nodes (setting_of p).rewrite
+    told_so (Ranked node) h (TimeHitLimit x) told =
+        let e : OfTime (TimeHitLimit x) ≡ OfTime (TimeLarge (large_nodes (setting_of p).rewrite
         (rank_time (setting_of p) node (over b)))) = told.1 in absurd (let none : ⊥ = cc in none)
     told_so (Ranked node) h (TimeLarge n) told =
         let e : OfTime (TimeLarge n) ≡ OfTime (TimeLarge (large_nodes (setting_of p).rewrite
@@ -156,8 +156,8 @@ module _ (p : Program) (pivots : ℕ) where
     told_so (Unranked g) h why told =
         subst (λ (v : NoTime). HasNoTime p pivots b t v) (sym (one_time why (NoFunction g) told))
         (none_ranks g (ranking_right p pivots valid set t shut (Unranked g) question h).0)
-    told_so (RankTripped x) h why told =
-        subst (λ (v : NoTime). HasNoTime p pivots b t v) (sym (one_time why (TimeTripped x) told)) (limit_hit_so x h)
+    told_so (RankHitLimit x) h why told =
+        subst (λ (v : NoTime). HasNoTime p pivots b t v) (sym (one_time why (TimeHitLimit x) told)) (limit_hit_so x h)
 
   -- the same for the reason of a rule
   pub time_so : IsValid p → (b : Bounds) → IsKnown (b 0 0) → (t : ℕ) → IsRule p t → (why : NoTime)

@@ -5,7 +5,7 @@ use Rattle.model.specs.Programs.{Program}
 use Rattle.model.proofs.Cases.{none_some}
 use Rattle.its_model.specs.Valid.{IsValid}
 use Rattle.outcome.specs.Holding.{numbered_entry, place_entry}
-use Rattle.outcome.specs.Reports.{NoTime, Untimed, NoSize, SizeUnbounded, SizeTripped, SizeMissing, SizeNonlinear, SizeUntimed}
+use Rattle.outcome.specs.Reports.{NoTime, Untimed, NoSize, SizeUnbounded, SizeHitLimit, SizeMissing, SizeNonlinear, SizeUntimed}
 use Rattle.outcome.specs.Reports.{SizeLarge, Size, Unsized, Uncosted, Report}
 use Rattle.cert_types.specs.cert_rules.Known.{IsKnown}
 use Rattle.cert_types.specs.cert_program.Setting.{setting_of}
@@ -32,11 +32,11 @@ use Rattle.time_bounds.proofs.TrueSizeWhys.{place_so}
 use Rattle.time_bounds.proofs.TrueTimeWhys.{time_so}
 
 module _ (p : Program) (pivots : ℕ) (valid : IsValid p) (fs : List Derivation) where
-  -- the virtual entry has a time with any finds
+  -- the virtual entry has a time with any derivations
   begun : IsKnown (bounds_of p fs 0 0)
   begun = (Constant 1, refl)
 
-  -- why a rule has no time with the finds
+  -- why a rule has no time with the derivations
   no_time_so : (t : ℕ) (why : NoTime) → IsNoBound (searches_of_program p pivots) (setting_of p) fs t 0 (OfTime why)
       → HasNoTime p pivots (bounds_of p fs) t why
   no_time_so t why h = go h.target h.asked h.tells
@@ -74,7 +74,7 @@ cost_so p pivots valid b t why is = go why (reasons-true.each p pivots (over b) 
       passes = unbounded_passes (prepared_cost k.costs).rows (prepared_cost k.costs).left (value_on side (prepared_cost k.costs) 1)
           kept ray k.from k.along;
     }
-    go (SizeTripped x) k = k
+    go (SizeHitLimit x) k = k
     go (SizeMissing m) k = k
     go (SizeNonlinear m) k = k
     go (SizeUntimed u) k = k

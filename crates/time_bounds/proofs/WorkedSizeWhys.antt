@@ -29,10 +29,10 @@ use Rattle.bound_fixpoint.specs.Keys.{Bounds, key}
 use Rattle.bound_fixpoint.proofs.Cases.{either}
 use Rattle.time_bounds.specs.SaidBounds.{bounds_said}
 use Rattle.time_bounds.specs.CostWhys.{HasNoCost}
-use Rattle.time_bounds.specs.SizeWhys.{PassesEveryForm, PlaceTripsSo, RestsOnSize, BendsAt, GrowsUntimed, HasNoSize}
+use Rattle.time_bounds.specs.SizeWhys.{PassesEveryForm, PlaceHitsLimitSo, RestsOnSize, BendsAt, GrowsUntimed, HasNoSize}
 use Rattle.time_bounds.specs.TimeWhys.{HasNoTime}
 use Rattle.time_bounds.specs.WorkedReports.{along_free, from_one}
-use Rattle.time_bounds.specs.WorkedSizeWhys.{guessing_alone, tripped_by, SmallPlacesAreWorkedOut, alone_with}
+use Rattle.time_bounds.specs.WorkedSizeWhys.{guessing_alone, limit_hit_from, SmallPlacesAreWorkedOut, alone_with}
 use Rattle.time_bounds.specs.WorkedSizeWhys.{MissingSizesAreWorkedOut}
 use Rattle.time_bounds.proofs.FreeValue.{free_point, free_none, of_rule, bounded}
 use Rattle.time_bounds.proofs.LargeNodes.{large_many}
@@ -46,16 +46,16 @@ square_low : (b : Bounds) → (h : HasNoSize three_rules 10 b 2 1 (SizeUnbounded
 square_low b h =
     no_is_not_yes true (of_rule (λ r. is_polynomial_at (prepared r) 1 ≡ false) _ h.rule h.numbered h.straight) refl
 
--- the trips of the questions of other places and rules
-other_place : PlaceTripsSo guessed 10 1 1 (tripped_by (asked.Local 2 1)) → ⊥
+-- the limit hits of the questions of other places and rules
+other_place : PlaceHitsLimitSo guessed 10 1 1 (limit_hit_from (asked.Local 2 1)) → ⊥
 other_place h =
-    either h.trips (λ own. let e = own.question in (let none : ⊥ = cc in none))
-    (λ empty. let e = empty.trips.trips.0 in (let none : ⊥ = cc in none))
+    either h.hits_limit (λ own. let e = own.question in (let none : ⊥ = cc in none))
+    (λ empty. let e = empty.hits_limit.hits_limit.0 in (let none : ⊥ = cc in none))
 
-other_rule : PlaceTripsSo guessed 10 1 1 (tripped_by (asked.Empty 2)) → ⊥
+other_rule : PlaceHitsLimitSo guessed 10 1 1 (limit_hit_from (asked.Empty 2)) → ⊥
 other_rule h =
-    either h.trips (λ own. let e = own.question in (let none : ⊥ = cc in none))
-    (λ empty. let e = empty.trips.trips.0 in (let none : ⊥ = cc in none))
+    either h.hits_limit (λ own. let e = own.question in (let none : ⊥ = cc in none))
+    (λ empty. let e = empty.hits_limit.hits_limit.0 in (let none : ⊥ = cc in none))
 
 -- what is in a filtered list of the rules of the program that stays is no rule 2
 no_second : (test : ℕ → Bool) → is_in 2 (filter test (0 ∷ 1 ∷ [])) ≡ true → ⊥
@@ -67,7 +67,7 @@ from_nowhere b h = no_second (λ e. comes_before looping e h.member.result_varia
 for_itself : (b : Bounds) → RestsOnSize guessed 10 b 2 1 (key 2 1) → ⊥
 for_itself b h = no_is_not_yes _ h.outside h.component.inside
 
--- an arm of a place without a polynomial bends nothing
+-- a side bound of a place without a polynomial bends nothing
 side_bound_straight : (members : List Member) (m : Member) (e : ℕ) (poly : Option Polynomial) → poly_at (setting_of looping) m.result_variable ≡ poly
     → poly ≡ None → (a : SideBound) → IsStraightSideBound (setting_of looping) members m e a
 side_bound_straight members m e poly is none (Linear den form multipliers) = tt

@@ -27,7 +27,7 @@ use Rattle.bound_fixpoint.specs.Keys.{over}
 use Rattle.bound_fixpoint.proofs.Cases.{either}
 use Rattle.time_bounds.specs.CostWhys.{HasNoCost}
 use Rattle.time_bounds.specs.SizeWhys.{HasNoSize}
-use Rattle.time_bounds.specs.TimeWhys.{FirstTripsSo, RankTripsSo, HasNoTime}
+use Rattle.time_bounds.specs.TimeWhys.{FirstHitsLimitSo, RankHitsLimitSo, HasNoTime}
 use Rattle.time_bounds.specs.WorkedReports.{staying_gap, staying_report, staying_said}
 use Rattle.time_bounds.specs.WorkedTimeWhys.{twice, pair_gap, EachHasItsOwn, GapsSaySo, own_limit_hit, LimitsSaySo}
 use Rattle.time_bounds.specs.WorkedTimeWhys.{MissingTimesAreWorkedOut}
@@ -137,19 +137,19 @@ gaps = record {
 }
 
 -- no rule's emptiness question is a rank question
-never_first : (cause : LimitCause) (ts : List ℕ) → FirstTripsSo looping 10 ts (own_limit_hit cause) → ⊥
+never_first : (cause : LimitCause) (ts : List ℕ) → FirstHitsLimitSo looping 10 ts (own_limit_hit cause) → ⊥
 never_first cause [] h = h
-never_first cause (t ∷ ts) (inl h) = let e = h.trips.0 in (let none : ⊥ = cc in none)
+never_first cause (t ∷ ts) (inl h) = let e = h.hits_limit.0 in (let none : ⊥ = cc in none)
 never_first cause (t ∷ ts) (inr h) = never_first cause ts h.1
 
-other_budget : RankTripsSo looping 10 staying_said 1 (own_limit_hit (causes.Budget 9)) → ⊥
+other_budget : RankHitsLimitSo looping 10 staying_said 1 (own_limit_hit (causes.Budget 9)) → ⊥
 other_budget h =
-    either h.trips (λ own. let e : ◌≡◌ {A = ℕ} 9 10 = own.trips.1 in omega (arith, e))
+    either h.hits_limit (λ own. let e : ◌≡◌ {A = ℕ} 9 10 = own.hits_limit.1 in omega (arith, e))
     (λ points. never_first (causes.Budget 9) h.set points.first)
 
-not_wide : RankTripsSo looping 10 staying_said 1 (own_limit_hit (causes.Wide 5)) → ⊥
+not_wide : RankHitsLimitSo looping 10 staying_said 1 (own_limit_hit (causes.Wide 5)) → ⊥
 not_wide h =
-    either h.trips (λ own. wide _ own.trips.0 own.trips.1) (λ points. never_first (causes.Wide 5) h.set points.first)
+    either h.hits_limit (λ own. wide _ own.hits_limit.0 own.hits_limit.1) (λ points. never_first (causes.Wide 5) h.set points.first)
   where
     wide : (n : ℕ) → 40000000000 < n → 5 ≡ n → ⊥
     wide n l e = omega (arith, l, e)

@@ -14,7 +14,7 @@ use Rattle.cert_types.specs.cert_rules.AcceptsSizes.{Up, Low}
 use Rattle.cert_types.specs.cert_program.WorkedGaps.{first_place, looping}
 use Rattle.local_size.specs.Places.{value_on}
 use Rattle.bound_fixpoint.proofs.Cases.{either}
-use Rattle.time_bounds.specs.TimeWhys.{FirstTripsSo, RankTripsSo}
+use Rattle.time_bounds.specs.TimeWhys.{FirstHitsLimitSo, RankHitsLimitSo}
 use Rattle.time_bounds.proofs.FreeValue.{free_point, free_none, of_rule, bounded}
 use Rattle.time_bounds.proofs.PassedForms.{unbounded_passes}
 use Rattle.time_bounds.proofs.StayingRule.{none_shut, staying_so}
@@ -37,15 +37,15 @@ bounds = record {
   no_third = refl;
 }
 
--- no rule's own question trips by the question of a ranking function
-never_first : (ts : List ℕ) → FirstTripsSo looping 10 ts other_limit_hit → ⊥
+-- the limit hit of a ranking question is none of a rule's own question
+never_first : (ts : List ℕ) → FirstHitsLimitSo looping 10 ts other_limit_hit → ⊥
 never_first [] h = h
-never_first (t ∷ ts) (inl h) = let e = h.trips.0 in (let none : ⊥ = cc in none)
+never_first (t ∷ ts) (inl h) = let e = h.hits_limit.0 in (let none : ⊥ = cc in none)
 never_first (t ∷ ts) (inr h) = never_first ts h.1
 
-other_question : RankTripsSo looping 10 staying_said 1 other_limit_hit → ⊥
+other_question : RankHitsLimitSo looping 10 staying_said 1 other_limit_hit → ⊥
 other_question h =
-    either h.trips (λ own. let e = own.question in (let none : ⊥ = cc in none)) (λ points. never_first h.set points.first)
+    either h.hits_limit (λ own. let e = own.question in (let none : ⊥ = cc in none)) (λ points. never_first h.set points.first)
 
 times : TimeWhysAreWorkedOut
 times = record {

@@ -15,8 +15,8 @@ use Rattle.time_bounds.specs.Numbered.{EachNumbered}
 use Rattle.time_bounds.specs.ProgramSearches.{searches_of_program}
 use Rattle.time_bounds.specs.Totals.{total_of}
 
--- the entry of rule t's time follows from these finds of the program: a time that is known with them, or the reason why
--- none is
+-- the entry of rule t's time follows from these derivations of the program: a time that is known with them, or the
+-- reason why none is
 abbrev pub IsTimeOf : Searches → Program → List Derivation → ℕ → Time → Type 0
 IsTimeOf q p fs t (Timed b) = bounds_of p fs t 0 ≡ Some b
 IsTimeOf q p fs t (Untimed why) = IsNoBound q (setting_of p) fs t 0 (OfTime why)
@@ -25,8 +25,8 @@ IsTimeOf q p fs t (Untimed why) = IsNoBound q (setting_of p) fs t 0 (OfTime why)
 abbrev pub AreTimesOf : Searches → Program → List Derivation → ℕ → List Time → Type 0
 AreTimesOf q p fs k times = EachNumbered (IsTimeOf q p fs) k times
 
--- the entry of a place's size after a rule follows from these finds: a size that is known with them, or the reason why
--- none is
+-- the entry of a place's size after a rule follows from these derivations: a size that is known with them, or the
+-- reason why none is
 abbrev pub IsSizeOf : Searches → Program → List Derivation → ℕ → ℕ → Size → Type 0
 IsSizeOf q p fs t i (Sized b) = bounds_of p fs t i ≡ Some b
 IsSizeOf q p fs t i (Unsized why) = IsNoBound q (setting_of p) fs t i (OfSize why)
@@ -51,10 +51,10 @@ IsCostOver p pivots b t (Some (Uncosted why)) = IsCostOf p pivots (over b) t (No
 abbrev pub AreCostsOver : Program → ℕ → Bounds → ℕ → List (Option RuleCost) → Type 0
 AreCostsOver p pivots b t costs = EachNumbered (IsCostOver p pivots b) t costs
 
--- the report is that of the last finds of the rounds, over the searches of the program with this many pivots: of each
--- rule the time that is known with them, or why none is; of each rule with a cost the bound on it over what is known
--- with them, or why there is none; of each place of its target the size that is known, or why none is; and the rewritten
--- sum of what each rule spends at most, where all of this has a bound
+-- the report is that of the last derivations of the rounds, over the searches of the program with this many pivots: of
+-- each rule the time that is known with them, or why none is; of each rule with a cost the bound on it over what is
+-- known with them, or why there is none; of each place of its target the size that is known, or why none is; and the
+-- rewritten sum of what each rule spends at most, where all of this has a bound
 pub record IsAnalysis (p : Program) (pivots : ℕ) (r : Report) : Type 0 where
   pub derivations : List Derivation
   pub last : IsLast (searches_of_program p pivots) (setting_of p) derivations

@@ -78,10 +78,10 @@ abbrev pub StateCosts : Outcome → Program → Type 0
 StateCosts o p = (t : ℕ) (s : Stored) → numbered_entry o.costs.items t ≡ Some (Some (costs.Known s))
     → facts_of_lemma (facts_of_lemmas (setting_of p) (map proof_of o.lemmas.items)) s.lemma ≡ Cost t (bound_of s.bound) ∷ []
 
--- the lemmas are those of the last finds of the rounds, from which the report is made, in their order, and then those of
--- the costs that have a bound, in the order of rules; they are accepted; each bound that is known is a fact of the lemma
--- whose number its key has, each known cost is that of its lemma, and the entries carry these numbers; and the gaps are
--- numbered in the order of rules, and hold
+-- the lemmas are those of the last derivations of the rounds, from which the report is made, in their order, and then
+-- those of the costs that have a bound, in the order of rules; they are accepted; each bound that is known is a fact of
+-- the lemma whose number its key has, each known cost is that of its lemma, and the entries carry these numbers; and
+-- the gaps are numbered in the order of rules, and hold
 pub record HasLemmas (p : Program) (pivots : ℕ) (o : Outcome) : Type 0 where
   pub derivations : List Derivation
   pub last : IsLast (searches_of_program p pivots) (setting_of p) derivations

@@ -39,7 +39,7 @@ why_by (answers.Nonlinear m) = Some (SizeNonlinear (result_variable_of m))
 why_by (answers.Untimed t) = Some (SizeUntimed t)
 why_by (answers.Large n) = Some (SizeLarge n)
 
--- why members without arms have no size
+-- why members without side bounds have no size
 abbrev pub why_armless : SideBounds → Option NoSize
 why_armless (side_bounds.Lacking entry) = why_in (size_of entry)
 why_armless (side_bounds.Alone m) = None
@@ -88,19 +88,19 @@ attempt_by (answers.Nonlinear m) = Failed (answers.Nonlinear m)
 attempt_by (answers.Untimed t) = Failed (answers.Untimed t)
 attempt_by (answers.Large n) = Failed (answers.Large n)
 
--- whether members have arms
+-- whether members have side bounds
 abbrev pub has_side_bounds : SideBounds → Bool
 has_side_bounds (side_bounds.Lacking entry) = false
 has_side_bounds (side_bounds.Alone m) = true
 has_side_bounds (side_bounds.Loop members) = true
 
--- the node that arms give their places
+-- the node that side bounds give their places
 abbrev pub node_in : SideBounds → plain.Node
 node_in (side_bounds.Lacking entry) = plain.CycleBy []
 node_in (side_bounds.Alone m) = plain.SpreadBy (member_of m)
 node_in (side_bounds.Loop members) = plain.CycleBy (map member_of members.items)
 
--- the finds of an answer for places, by this node
+-- the derivations of an answer for places, by this node
 abbrev pub derivations_by : List ResultVariable → plain.Node → Sizing → List plain.Derivation
 derivations_by keys node (answers.Found premises bound) = record {
   keys = keys;
@@ -117,7 +117,7 @@ derivations_by keys node (answers.Large n) = []
 pub record ArePlacesOf (p : Program) (c : Candidate) : Type 0 where
   pub each : All (λ m. IsRule p m.rule × IsPlace p m.rule m.place) (result_variables_in c)
 
--- a candidate is tried over finds, which gives more
+-- a candidate is tried over derivations, which gives more
 pub record IsSizeStep (p : Program) (pivots : ℕ) (old : List Derivation) (c : Candidate) (x : ComponentAttempt) (new : List Derivation)
     : Type 0 where
   pub more : List plain.Derivation

@@ -1,4 +1,4 @@
--- The finds before the first round, rule by rule.
+-- The derivations before the first round, rule by rule.
 use Rattle.std.specs.Prelude.{ℕ, zero, suc, ◌+◌, List, [], ◌∷◌, ◌++◌, map}
 use Rattle.std.specs.List.{range_with_len}
 use Rattle.model.specs.Bounds.{Constant}
@@ -12,7 +12,7 @@ use Rattle.bound_fixpoint.specs.Beginning.{empty_derivation, unreached_derivatio
 use Rattle.time_bounds.specs.declared.rule_statuses.RuleStatus.{RuleStatus}
 use Rattle.time_bounds.specs.declared.rule_statuses.RuleStatus.TheVariants.{Empty, Unreached, Live}
 
--- the find of rule t by its answer, where it is empty; and those of these rules from t on
+-- the derivation that rule t never occurs, if its answer is that its guard is infeasible; and of the rules from t on
 abbrev pub empty_here : ℕ → GuardFeasibility → List Derivation
 empty_here t (answers.Empty n) = empty_derivation t n.multipliers.items ∷ []
 empty_here t (answers.Point z) = []
@@ -22,7 +22,7 @@ abbrev pub empty_derivations : ℕ → List GuardFeasibility → List Derivation
 empty_derivations t [] = []
 empty_derivations t (a ∷ empties) = empty_here t a ++ empty_derivations (t + 1) empties
 
--- the key of the time of rule t by its fate, where it is empty; and those of these rules from t on
+-- the key of the time of rule t, if its status is that its guard is infeasible; and of the rules from t on
 abbrev pub empty_key : ℕ → RuleStatus → List ResultVariable
 empty_key t Empty = time_key t ∷ []
 empty_key t Unreached = []
@@ -32,7 +32,7 @@ abbrev pub empty_keys : ℕ → List RuleStatus → List ResultVariable
 empty_keys t [] = []
 empty_keys t (f ∷ rule_statuses) = empty_key t f ++ empty_keys (t + 1) rule_statuses
 
--- the find of rule t by its status, where it is unreached, with these premises; and those of these rules from t on
+-- the derivation that rule t never occurs, if it is unreached, with these premises; and of the rules from t on
 abbrev pub unreached_here : List ResultVariable → ℕ → RuleStatus → List Derivation
 unreached_here dead t Empty = []
 unreached_here dead t Unreached = unreached_derivation dead t ∷ []
@@ -42,7 +42,7 @@ abbrev pub unreached_derivations : List ResultVariable → ℕ → List RuleStat
 unreached_derivations dead t [] = []
 unreached_derivations dead t (f ∷ rule_statuses) = unreached_here dead t f ++ unreached_derivations dead (t + 1) rule_statuses
 
--- the find of the sizes at so many places after rule t
+-- the derivation of the sizes at the first a places after rule t, which never occurs
 abbrev pub sized_derivation : ℕ → ℕ → Derivation
 sized_derivation t a = record {
   keys = map (λ i. key t i) (range_with_len 1 a);
@@ -51,7 +51,7 @@ sized_derivation t a = record {
   bound = Constant 0;
 }
 
--- it by the fate of the rule, where it never runs and there is a place; and those of these rules from t on
+-- this derivation, if rule t never occurs and its target has a place; and of the rules from t on
 abbrev pub never_here : ℕ → RuleStatus → ℕ → List Derivation
 never_here t Empty zero = []
 never_here t Empty (suc a) = sized_derivation t (suc a) ∷ []

@@ -45,7 +45,7 @@ pub record IsAnswered (locals : List (List LocalAnswer)) (c : Component) : Type 
   pub answered : AreAnswered locals (members_of c)
   pub lone : IsLone c.looping (members_of c)
 
--- what the answers for the places give: why a member has no arms, or the only member, or the members of a loop
+-- what the answers for the places give: why a member has no side bounds, or the only member, or the members of a loop
 abbrev pub AreSideBounds : Locals → List ResultVariable → Bool → SideBounds → Type 0
 AreSideBounds local result_variables looping (side_bounds.Lacking entry) =
     (why : NoSize) × (lacks_side_bounds local result_variables ≡ Some why) × (size_of entry ≡ Unsized why)
@@ -60,25 +60,25 @@ IsSideBoundsOf members looping (side_bounds.Lacking entry) = ⊥
 IsSideBoundsOf members looping (side_bounds.Alone m) = (looping ≡ false) × (members ≡ m ∷ [])
 IsSideBoundsOf members looping (side_bounds.Loop ms) = (looping ≡ true) × (ms.items ≡ members)
 
--- the candidate has the members of a component, with their arms
+-- the candidate has the members of a component, with their side bounds
 pub record IsArmed (local : Locals) (component : Component) (c : Candidate) : Type 0 where
   pub result_variables_are : result_variables_in c ≡ members_of component
   pub side_bounds_are : AreSideBounds local (members_of component) component.looping c.side_bounds
 
--- each of these has the arms of one of these components, in order
+-- each of these has the side bounds of one of these components, in order
 abbrev pub AreArmed : Locals → List Component → List Candidate → Type 0
 AreArmed local [] [] = ⊤
 AreArmed local [] (c ∷ cs) = ⊥
 AreArmed local (x ∷ found) [] = ⊥
 AreArmed local (x ∷ found) (c ∷ cs) = IsArmed local x c × AreArmed local found cs
 
--- a member's arms are accepted
+-- a member's side bounds are accepted
 pub record IsAccepted (p : Program) (m : Member) : Type 0 where
   pub shape : HasMemberShape (setting_of p) m
   pub up : AcceptsUp (setting_of p) m
   pub low : AcceptsLow (setting_of p) m
 
--- the arms of the members of a loop are accepted, too
+-- the side bounds of the members of a loop are accepted, too
 pub record AreAccepted (p : Program) (members : List Member) : Type 0 where
   pub shape : HasCycleShape (setting_of p) members
   pub up : All (AcceptsUp (setting_of p)) members
@@ -89,7 +89,7 @@ HasAccepted p (side_bounds.Lacking entry) = ⊤
 HasAccepted p (side_bounds.Alone m) = IsAccepted p (member_of m)
 HasAccepted p (side_bounds.Loop members) = AreAccepted p (map member_of members.items)
 
--- the places are answered so, and have these arms, which are accepted
+-- the places are answered so, and have these side bounds, which are accepted
 pub record IsRightCandidate (p : Program) (pivots : ℕ) (local : Locals) (c : Candidate) : Type 0 where
   pub answered : AreLocalsOf p pivots local (result_variables_in c)
   pub side_bounds_are : AreSideBounds local (result_variables_in c) (loops (setting_of p) local (result_variables_in c)) c.side_bounds

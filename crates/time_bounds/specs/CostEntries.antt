@@ -4,7 +4,7 @@ use Rattle.std.specs.Option.{option_map}
 use Rattle.model.specs.Costs.{HasCost}
 use Rattle.model.specs.Programs.{Program}
 use Rattle.bound_expr.specs.Views.{bound_of}
-use Rattle.outcome.specs.Reports.{SizeTripped, SizeMissing, SizeUntimed, SizeLarge}
+use Rattle.outcome.specs.Reports.{SizeHitLimit, SizeMissing, SizeUntimed, SizeLarge}
 use Rattle.outcome.specs.Views.{cost_of, unbounded_of}
 use Rattle.outcome.specs.declared.entry.CostEntry.{CostEntry}
 use Rattle.outcome.specs.declared.entry.CostEntry.TheVariants as costs
@@ -22,7 +22,7 @@ use Rattle.time_bounds.specs.AnalysisLemmas.{AreCertified, CarryCosts}
 abbrev pub AddsNone : Program → ℕ → Bounds → ℕ → CostEntry → List Proof → List Proof → Type 0
 AddsNone p pivots b t (costs.Known s) old new = ⊥
 AddsNone p pivots b t (costs.UnboundedSide l) old new = IsCostOf p pivots (over b) t (NotBounded (unbounded_of l)) × (new ≡ old)
-AddsNone p pivots b t (costs.OutOfLimits x) old new = IsCostOf p pivots (over b) t (NotBounded (SizeTripped x)) × (new ≡ old)
+AddsNone p pivots b t (costs.OutOfLimits x) old new = IsCostOf p pivots (over b) t (NotBounded (SizeHitLimit x)) × (new ≡ old)
 AddsNone p pivots b t (costs.Missing m) old new =
     IsCostOf p pivots (over b) t (NotBounded (SizeMissing (result_variable_of m))) × (new ≡ old)
 AddsNone p pivots b t (costs.Untimed u) old new = IsCostOf p pivots (over b) t (NotBounded (SizeUntimed u)) × (new ≡ old)

@@ -1,7 +1,7 @@
 -- Why a rule has no bound on its cost, as sentences about the program.
 use Rattle.std.specs.Prelude.{ℕ, List, ℤ}
 use Rattle.model.specs.Programs.{Program}
-use Rattle.outcome.specs.Reports.{NoSize, SizeUnbounded, SizeTripped, SizeMissing, SizeNonlinear, SizeUntimed, SizeLarge}
+use Rattle.outcome.specs.Reports.{NoSize, SizeUnbounded, SizeHitLimit, SizeMissing, SizeNonlinear, SizeUntimed, SizeLarge}
 use Rattle.cert_types.specs.cert_rules.AcceptsSizes.{Side}
 use Rattle.cert_types.specs.cert_rules.Gaps.{ScaledPoint}
 use Rattle.local_size.specs.Places.{value_on}
@@ -22,7 +22,7 @@ pub record CostPassesForms (p : Program) (t : ℕ) (side : Side) (ray : List ℤ
 -- rule has no time; or the composed bound is too large
 abbrev pub HasNoCost : Program → ℕ → Bounds → ℕ → NoSize → Type 0
 HasNoCost p pivots b t (SizeUnbounded side ray kept) = CostPassesForms p t side ray kept
-HasNoCost p pivots b t (SizeTripped x) = HasNoCostBound p pivots (over b) t (SizeTripped x)
+HasNoCost p pivots b t (SizeHitLimit x) = HasNoCostBound p pivots (over b) t (SizeHitLimit x)
 HasNoCost p pivots b t (SizeMissing m) = HasNoCostBound p pivots (over b) t (SizeMissing m)
 HasNoCost p pivots b t (SizeNonlinear m) = ⊥
 HasNoCost p pivots b t (SizeUntimed u) = HasNoCostBound p pivots (over b) t (SizeUntimed u)

@@ -17,8 +17,8 @@ use Rattle.time_bounds.specs.Candidates.{result_variables_in}
 pub record HasGrown (old new : Bounds) : Type 0 where
   pub each : (t i : ℕ) (b : Bound) → old t i ≡ Some b → new t i ≡ Some b
 
--- the reason of an answer remains true over a table: what was missing is missing; a bent arm and a large bound remain
--- reasons
+-- the reason of an answer remains true over a table: what was missing is missing; a nonlinear side bound and a large
+-- bound remain reasons
 abbrev pub ReasonStands : Table → Sizing → Type 0
 ReasonStands tab (Found premises bound) = ⊥
 ReasonStands tab (Missing m) = tab.size m.rule m.place ≡ None

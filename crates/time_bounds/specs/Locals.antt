@@ -14,7 +14,7 @@ use Rattle.time_bounds.specs.declared.rule_statuses.RuleStatus.TheVariants.{Empt
 use Rattle.time_bounds.specs.ProgramSizes.{IsLocalOf}
 use Rattle.bound_fixpoint.specs.Keys.{key}
 
--- whether a rule of this fate is live
+-- whether a rule of this status is live
 abbrev pub is_live_rule_status : RuleStatus → Bool
 is_live_rule_status Empty = false
 is_live_rule_status Unreached = false

@@ -4,7 +4,7 @@ use Rattle.model.specs.Programs.{Program}
 use Rattle.bound_fixpoint.specs.Derivations.{Derivation}
 use Rattle.bound_derivations.specs.Books.{AreOpen}
 
--- the keys of each are open with the finds before it
+-- the keys of each are open with the derivations before it
 abbrev pub AreOpenAfter : Program → List Derivation → List Derivation → Type 0
 AreOpenAfter p earlier [] = ⊤
 AreOpenAfter p earlier (f ∷ fs) = AreOpen p earlier f.keys × AreOpenAfter p (earlier ++ f ∷ []) fs

@@ -29,8 +29,8 @@ ArePrintable n [] = ⊤
 ArePrintable n (None ∷ os) = ArePrintable n os
 ArePrintable n (Some b ∷ os) = IsPrintableBound n b × ArePrintable n os
 
--- of a valid program, all bounds that are known with finds which rounds make are tidy, over the start arguments alone; so
--- is the bound on a cost over them, and the total of such bounds
+-- of a valid program, all bounds that are known with derivations which rounds make are tidy, over the start arguments
+-- alone; so is the bound on a cost over them, and the total of such bounds
 pub record FoundBoundsArePrintable : Type 0 where
   pub derivations : (p : Program) (pivots : ℕ) (fs : List Derivation) → IsValid p
       → IsMade (searches_of_program p pivots) (setting_of p) fs

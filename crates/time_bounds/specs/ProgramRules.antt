@@ -14,20 +14,20 @@ use Rattle.rank_search.specs.rule_questions.ProgramQuestions.{ranked_set}
 use Rattle.rank_search.specs.rule_questions.EmptyAnswers.{IsEmptyAnswer}
 use Rattle.rank_search.specs.rule_questions.RuleAnswers.{AreEmptyAnswers}
 use Rattle.rank_search.specs.RankAnswers.{IsRankAnswer}
-use Rattle.bound_fixpoint.specs.Searches.{Emptiness, NoPoint, HasPoint, EmptyTripped, Ranking, Ranked, Unranked}
-use Rattle.bound_fixpoint.specs.Searches.{RankTripped}
+use Rattle.bound_fixpoint.specs.Searches.{Emptiness, NoPoint, HasPoint, EmptyHitLimit, Ranking, Ranked, Unranked}
+use Rattle.bound_fixpoint.specs.Searches.{RankHitLimit}
 
 -- an answer whether a rule's rows have a point, as plain data
 abbrev pub emptiness_of : GuardFeasibility → Emptiness
 emptiness_of (empties.Empty n) = NoPoint n.multipliers.items
 emptiness_of (empties.Point z) = HasPoint (scaled_of z)
-emptiness_of (empties.OutOfLimits t) = EmptyTripped t
+emptiness_of (empties.OutOfLimits t) = EmptyHitLimit t
 
 -- an answer which function ranks a rule, as plain data
 abbrev pub ranking_of : RankAnswer → Ranking
 ranking_of (ranks.Ranked node) = Ranked (rank_of node)
 ranking_of (ranks.NoRank gap) = Unranked (gap_of gap)
-ranking_of (ranks.OutOfLimits t) = RankTripped t
+ranking_of (ranks.OutOfLimits t) = RankHitLimit t
 
 -- this is answered of the emptiness of rule t
 abbrev pub IsEmptinessOf : Program → ℕ → ℕ → Emptiness → Type 0
@@ -39,10 +39,10 @@ abbrev pub IsEmptyRule : Program → ℕ → ℕ → Type 0
 IsEmptyRule p pivots t = (multipliers : List ℕ) × IsEmptinessOf p pivots t (NoPoint multipliers)
 
 -- the linear program which asks whether the rows of a rule have a point exceeds this limit
-pub record EmptyTripsSo (p : Program) (pivots t : ℕ) (x : LimitHit) : Type 0 where
+pub record EmptyHitsLimitSo (p : Program) (pivots t : ℕ) (x : LimitHit) : Type 0 where
   pub rule : Rule
   pub numbered : rule_at p t ≡ Some rule
-  pub trips : IsEmptyAnswer (prepared rule) t pivots (empties.OutOfLimits x)
+  pub hits_limit : IsEmptyAnswer (prepared rule) t pivots (empties.OutOfLimits x)
 
 -- this is the answer to the rank question of a set, a rule of it and shut places
 abbrev pub IsRankingOf : Program → ℕ → List ℕ → ℕ → List SymbolPlace → Ranking → Type 0

@@ -3,7 +3,7 @@ use Rattle.std.specs.Prelude.{◌≡◌, ◌⊎◌, ◌↔◌, ℕ, Bool, true, 
 use Rattle.std.specs.List.{All}
 use Rattle.model.specs.Programs.{Program, Rule, rule_at}
 use Rattle.guard_prep.specs.Prepared.{Prepared, prepared}
-use Rattle.outcome.specs.Reports.{NoSize, SizeUnbounded, SizeTripped}
+use Rattle.outcome.specs.Reports.{NoSize, SizeUnbounded, SizeHitLimit}
 use Rattle.cert_types.specs.cert_rules.Nodes.{ResultVariable, LocalBound, Member}
 use Rattle.cert_types.specs.cert_rules.AcceptsPlain.{IsRule}
 use Rattle.cert_types.specs.cert_rules.AcceptsSizes.{AcceptsSpread, AcceptsCycle, Side}
@@ -12,7 +12,7 @@ use Rattle.cert_types.specs.cert_rules.Known.{Table}
 use Rattle.cert_types.specs.cert_rules.Reasons.{Reason, IsFirstAmong}
 use Rattle.cert_types.specs.cert_rules.Setting.{Setting}
 use Rattle.cert_types.specs.declared.answer.LimitHit.{LimitHit}
-use Rattle.local_size.specs.LocalAnswers.{Local, HasBound, IsUnboundedOn, HasTripped, both_polynomial, HasSideBounds, LacksForm}
+use Rattle.local_size.specs.LocalAnswers.{Local, HasBound, IsUnboundedOn, HasHitLimit, both_polynomial, HasSideBounds, LacksForm}
 use Rattle.local_size.specs.LocalAnswers.{IsOwnLimitHit}
 use Rattle.local_size.specs.Places.{is_polynomial_at}
 use Rattle.rvg_components.specs.Flows.{Locals, loops}
@@ -21,7 +21,7 @@ use Rattle.bound_fixpoint.specs.Derivations.{SpreadBy, CycleBy}
 use Rattle.bound_fixpoint.specs.Searches.{HasPoint, SizeOutcome, SizedBy, Unsized}
 use Rattle.bound_fixpoint.specs.Components.{IsDead}
 use Rattle.bound_fixpoint.specs.Right.{IsReasonFor}
-use Rattle.time_bounds.specs.ProgramRules.{IsEmptinessOf, IsEmptyRule, EmptyTripsSo}
+use Rattle.time_bounds.specs.ProgramRules.{IsEmptinessOf, IsEmptyRule, EmptyHitsLimitSo}
 
 -- the rules that are live: those that don't never run
 pub record AreLive (p : Program) (pivots : ℕ) (is_live : ℕ → Bool) : Type 0 where
@@ -41,15 +41,15 @@ HasBounds m place pivots l =
 
 -- no linear program of a place exceeds a limit, and on a side none gives a form; but it isn't known that the rule has a
 -- point: the linear program for one exceeds this limit
-pub record PointTripsSo (p : Program) (pivots : ℕ) (m : Prepared) (result_variable : ResultVariable) (x : LimitHit) : Type 0 where
+pub record PointHitsLimitSo (p : Program) (pivots : ℕ) (m : Prepared) (result_variable : ResultVariable) (x : LimitHit) : Type 0 where
   pub side : Side
   pub ray : List ℤ
   pub lacks : LacksSide m result_variable.place pivots side ray
-  pub trips : EmptyTripsSo p pivots result_variable.rule x
+  pub hits_limit : EmptyHitsLimitSo p pivots result_variable.rule x
 
 -- the first linear program of a place that exceeds a limit passes this one, or the one for a point does
-abbrev pub TripsAt : Program → ℕ → Prepared → ResultVariable → LimitHit → Type 0
-TripsAt p pivots m result_variable x = IsOwnLimitHit m result_variable pivots x ⊎ PointTripsSo p pivots m result_variable x
+abbrev pub HitsLimitAt : Program → ℕ → Prepared → ResultVariable → LimitHit → Type 0
+HitsLimitAt p pivots m result_variable x = IsOwnLimitHit m result_variable pivots x ⊎ PointHitsLimitSo p pivots m result_variable x
 
 -- what is answered of a place: its bounds; a side without a form, and a point that the rule has; or which limit is
 -- passed
@@ -57,7 +57,7 @@ abbrev pub IsAnswerAt : Program → ℕ → Prepared → ResultVariable → Loca
 IsAnswerAt p pivots m result_variable (HasBound l) = HasBounds m result_variable.place pivots l
 IsAnswerAt p pivots m result_variable (IsUnboundedOn side ray kept) =
     LacksSide m result_variable.place pivots side ray × IsEmptinessOf p pivots result_variable.rule (HasPoint kept)
-IsAnswerAt p pivots m result_variable (HasTripped x) = TripsAt p pivots m result_variable x
+IsAnswerAt p pivots m result_variable (HasHitLimit x) = HitsLimitAt p pivots m result_variable x
 
 -- this is answered of a place after a rule
 pub record IsLocalOf (p : Program) (pivots : ℕ) (t i : ℕ) (x : Local) : Type 0 where
@@ -75,16 +75,16 @@ AreLocals p pivots is_live local =
 abbrev pub AreLocalsOf : Program → ℕ → Locals → List ResultVariable → Type 0
 AreLocalsOf p pivots local result_variables = All (λ m. IsLocalOf p pivots m.rule m.place (local m.rule m.place)) result_variables
 
--- the reason of a place that is loose, or tripped
+-- the reason of a place with an unbounded side or a limit hit
 abbrev pub unbounded_reason : Local → Option NoSize
 unbounded_reason (HasBound l) = None
 unbounded_reason (IsUnboundedOn side ray kept) = Some (SizeUnbounded side ray kept)
-unbounded_reason (HasTripped t) = None
+unbounded_reason (HasHitLimit t) = None
 
 abbrev pub limit_hit_reason : Local → Option NoSize
 limit_hit_reason (HasBound l) = None
 limit_hit_reason (IsUnboundedOn side ray kept) = None
-limit_hit_reason (HasTripped t) = Some (SizeTripped t)
+limit_hit_reason (HasHitLimit t) = Some (SizeHitLimit t)
 
 -- the first of two reasons
 abbrev pub or_else : Option NoSize → Option NoSize → Option NoSize
@@ -96,7 +96,7 @@ abbrev pub first_reason : (Local → Option NoSize) → Locals → List ResultVa
 first_reason reason local [] = None
 first_reason reason local (m ∷ result_variables) = or_else (reason (local m.rule m.place)) (first_reason reason local result_variables)
 
--- why the places have no arms: the first that is loose, or else the first that tripped
+-- why the places have no side bounds: the first with an unbounded side, or else the first with a limit hit
 abbrev pub lacks_side_bounds : Locals → List ResultVariable → Option NoSize
 lacks_side_bounds local result_variables = or_else (first_reason unbounded_reason local result_variables) (first_reason limit_hit_reason local result_variables)
 
@@ -123,8 +123,8 @@ abbrev pub AnswersMembers : Bool → Setting → Table → List Member → SizeO
 AnswersMembers false s tab members answer = AnswersAlone s tab members answer
 AnswersMembers true s tab members answer = AnswersLoop s tab members answer
 
--- what is answered of a component over a table: that a place of it is loose, or tripped; else the node that gives it a
--- size, or the first check that fails
+-- what is answered of a component over a table: that a place of it has an unbounded side or a limit hit; else the node
+-- that gives it a size, or the first check that fails
 pub record IsJudged (s : Setting) (tab : Table) (local : Locals) (result_variables : List ResultVariable) (answer : SizeOutcome)
     : Type 0 where
   pub members : List Member

@@ -18,15 +18,15 @@ use Rattle.time_bounds.specs.Questions.{AreAnsweredFrom, program_in}
 use Rattle.time_bounds.specs.EarlierAnswers.{WereAttempts}
 use Rattle.time_bounds.specs.TriedRules.{AreAskedOver}
 
--- what is known with finds
+-- what is known with derivations
 abbrev pub known_with : Context → List Derivation → Bounds
 known_with cx fs = plain.bounds_of (program_in cx) (derivations_of fs)
 
--- the finds are made by rounds of the program
+-- the derivations are made by rounds of the program
 abbrev pub AreMade : Context → List Derivation → Type 0
 AreMade cx fs = IsMade (searches_of_program (program_in cx) cx.pivots) (setting_of (program_in cx)) (derivations_of fs)
 
--- the finds are made by rounds, and then by the times of a further one
+-- the derivations are made by rounds, and then by the times of a further one
 pub record AreMadeWithTimes (cx : Context) (fs : List Derivation) : Type 0 where
   pub earlier : List plain.Derivation
   pub made : IsMade (searches_of_program (program_in cx) cx.pivots) (setting_of (program_in cx)) earlier
@@ -42,7 +42,7 @@ pub record AreKeptFor (cx : Context) (cs : List Candidate) (fs : List Derivation
   pub first : Bounds
   pub attempts : WereAttempts (program_in cx) cx.pivots first (known_with cx fs) cs kept.attempts.items
 
--- the rules were tried over finds, and these questions are kept
+-- the rules were tried over derivations, and these questions are kept
 pub record AreTimesMade (cx : Context) (old new : List Derivation) (asked : List (Option AnsweredRankQuestion)) : Type 0 where
   pub times : List plain.Derivation
   pub timed : TriesAll (searches_of_program (program_in cx) cx.pivots) (setting_of (program_in cx)) Together
@@ -62,7 +62,7 @@ pub record AreSizesMade (cx : Context) (cs : List Candidate) (old new : List Der
   pub one_each : length attempts ≡ length cs
   pub attempts_are : WereAttempts (program_in cx) cx.pivots (known_with cx old) (known_with cx new) cs attempts
 
--- a round was made over finds, with these results for each rule and each component
+-- a round was made over derivations, with these results for each rule and each component
 pub record IsRoundMade (cx : Context) (cs : List Candidate) (old new : List Derivation) (kept : LastRound) : Type 0 where
   pub more : List plain.Derivation
   pub round : IsRound (searches_of_program (program_in cx) cx.pivots) (setting_of (program_in cx)) (derivations_of old) more

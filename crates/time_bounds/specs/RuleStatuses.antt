@@ -27,18 +27,18 @@ is_said_empty (Some a) = says_empty a
 abbrev pub said_empty : List GuardFeasibility → List ℕ
 said_empty empties = filter (λ t. is_said_empty (answer_for empties t)) (range_with_len 1 (length empties))
 
--- the fate of a rule by its answer, and by whether its source is reached
+-- the status of a rule by its answer, and by whether its source is reached
 abbrev pub rule_status_of : GuardFeasibility → Bool → RuleStatus
 rule_status_of a reached = cond (says_empty a) Empty (cond reached Live Unreached)
 
--- the fates of rules, in order
+-- the statuses of rules, in order
 abbrev pub rule_statuses_by : List Bool → List GuardFeasibility → List Rule → List RuleStatus
 rule_statuses_by reached [] rules = []
 rule_statuses_by reached (a ∷ empties) [] = []
 rule_statuses_by reached (a ∷ empties) (r ∷ rules) =
     rule_status_of a (slice_index_or reached r.source false) ∷ rule_statuses_by reached empties rules
 
--- the fate of rule t; rules count from 1
+-- the status of rule t; rules count from 1
 abbrev pub rule_status_at : List RuleStatus → ℕ → RuleStatus
 rule_status_at rule_statuses zero = Live
 rule_status_at [] (suc t) = Live
@@ -55,7 +55,7 @@ is_dead_rule_status Empty = true
 is_dead_rule_status Unreached = true
 is_dead_rule_status Live = false
 
--- of each rule this is its fate: it is empty, or else it never runs
+-- of each rule this is its status: it is empty, or else it never runs
 pub record AreRuleStatuses (q : Searches) (p : Program) (rule_statuses : List RuleStatus) : Type 0 where
   pub one_each : length rule_statuses ≡ length p.rules
   pub empty : (t : ℕ) → IsRule p t → (is_empty_rule_status (rule_status_at rule_statuses t) ≡ true) ↔ IsEmpty q t

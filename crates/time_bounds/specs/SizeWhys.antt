@@ -9,7 +9,7 @@ use Rattle.model.specs.Paths.{pre}
 use Rattle.its_model.specs.linear_forms.Forms.{Form, at, form_value}
 use Rattle.its_model.specs.linear_forms.Points.{IsPoint}
 use Rattle.guard_prep.specs.Prepared.{prepared}
-use Rattle.outcome.specs.Reports.{NoSize, SizeUnbounded, SizeTripped, SizeMissing, SizeNonlinear, SizeUntimed, SizeLarge}
+use Rattle.outcome.specs.Reports.{NoSize, SizeUnbounded, SizeHitLimit, SizeMissing, SizeNonlinear, SizeUntimed, SizeLarge}
 use Rattle.cert_types.specs.rule_forms.Bounds.{HasNone, IsUnboundedRay}
 use Rattle.cert_types.specs.rule_forms.Kinds.{Affine, IsOfKind}
 use Rattle.cert_types.specs.cert_rules.AcceptsSizes.{Side, IsStraight, spread_size, cycle_size}
@@ -29,7 +29,7 @@ use Rattle.bound_fixpoint.specs.Keys.{Bounds, key, has_key, over}
 use Rattle.bound_fixpoint.specs.Loops.{do_loop}
 use Rattle.bound_fixpoint.specs.Searches.{Unsized}
 use Rattle.time_bounds.specs.ProgramSearches.{searches_of_program}
-use Rattle.time_bounds.specs.ProgramSizes.{IsLocalOf, AnswersMembers, TripsAt}
+use Rattle.time_bounds.specs.ProgramSizes.{IsLocalOf, AnswersMembers, HitsLimitAt}
 
 -- the point that lies so often the ray from a point, over the same denominator: its numerators
 abbrev pub moved : ScaledPoint → List ℤ → ℕ → ℕ → ℤ
@@ -61,10 +61,10 @@ pub record PassesEveryForm (p : Program) (t i : ℕ) (side : Side) (ray : List �
   pub none : HasNone (prepared rule).rows (prepared rule).left (value_on side (prepared rule) i) Affine
 
 -- the first linear program of a place that exceeds a limit passes this one, or the one for a point does
-pub record PlaceTripsSo (p : Program) (pivots t i : ℕ) (x : LimitHit) : Type 0 where
+pub record PlaceHitsLimitSo (p : Program) (pivots t i : ℕ) (x : LimitHit) : Type 0 where
   pub rule : Rule
   pub numbered : rule_at p t ≡ Some rule
-  pub trips : TripsAt p pivots (prepared rule) (key t i) x
+  pub hits_limit : HitsLimitAt p pivots (prepared rule) (key t i) x
 
 -- the places that have one size with a place, since values flow from it into them and back, each with its local bounds:
 -- the members of its component in the graph of places
@@ -141,7 +141,7 @@ pub record SizeIsLarge (p : Program) (pivots : ℕ) (b : Bounds) (t i n : ℕ) :
 -- what each reason says of a place without a size, where these bounds are known
 abbrev pub HasNoSize : Program → ℕ → Bounds → ℕ → ℕ → NoSize → Type 0
 HasNoSize p pivots b t i (SizeUnbounded side ray kept) = PassesEveryForm p t i side ray kept
-HasNoSize p pivots b t i (SizeTripped x) = PlaceTripsSo p pivots t i x
+HasNoSize p pivots b t i (SizeHitLimit x) = PlaceHitsLimitSo p pivots t i x
 HasNoSize p pivots b t i (SizeMissing m) = RestsOnSize p pivots b t i m
 HasNoSize p pivots b t i (SizeNonlinear m) = BendsAt p pivots b t i m
 HasNoSize p pivots b t i (SizeUntimed u) = GrowsUntimed p pivots b t i u

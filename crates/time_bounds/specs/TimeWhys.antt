@@ -3,7 +3,7 @@ use Rattle.std.specs.Prelude.{◌≡◌, ◌⊎◌, ℕ, List, [], ◌∷◌}
 use Rattle.model.specs.Programs.{Program}
 use Rattle.its_model.specs.linear_forms.LinearProgram.{HasSolution}
 use Rattle.its_model.specs.linear_forms.RuleQuestions.{RankedSet}
-use Rattle.outcome.specs.Reports.{NoTime, NoFunction, TimeTripped, TimeLarge}
+use Rattle.outcome.specs.Reports.{NoTime, NoFunction, TimeHitLimit, TimeLarge}
 use Rattle.cert_types.specs.rule_forms.Ranking.{NoRank}
 use Rattle.cert_types.specs.cert_rules.AcceptsRank.{rank_time}
 use Rattle.cert_types.specs.cert_rules.Checks.{large_nodes}
@@ -15,18 +15,18 @@ use Rattle.cert_types.specs.cert_program.Setting.{setting_of}
 use Rattle.cert_types.specs.declared.answer.LimitHit.{LimitHit}
 use Rattle.rank_search.specs.RankAnswers.{rank_program, IsRankNode, IsOwnLimitHit}
 use Rattle.rank_search.specs.rule_questions.ProgramQuestions.{forms_at, ranked_set}
-use Rattle.rank_search.specs.rule_questions.Programs.{NothingTrips}
+use Rattle.rank_search.specs.rule_questions.Programs.{NothingHitsLimit}
 use Rattle.bound_fixpoint.specs.Keys.{Bounds, over}
 use Rattle.bound_fixpoint.specs.Right.{IsRanking}
 use Rattle.bound_fixpoint.specs.Sets.{IsSetOfRule, AreShutOf}
-use Rattle.time_bounds.specs.ProgramRules.{EmptyTripsSo}
+use Rattle.time_bounds.specs.ProgramRules.{EmptyHitsLimitSo}
 
 -- of these rules there is a first one for which the linear program that asks for a point exceeds a limit: it passes
 -- this one
-abbrev pub FirstTripsSo : Program → ℕ → List ℕ → LimitHit → Type 0
-FirstTripsSo p pivots [] x = ⊥
-FirstTripsSo p pivots (t ∷ ts) x = EmptyTripsSo p pivots t x
-    ⊎ (((y : LimitHit) → ¬ (EmptyTripsSo p pivots t y)) × FirstTripsSo p pivots ts x)
+abbrev pub FirstHitsLimitSo : Program → ℕ → List ℕ → LimitHit → Type 0
+FirstHitsLimitSo p pivots [] x = ⊥
+FirstHitsLimitSo p pivots (t ∷ ts) x = EmptyHitsLimitSo p pivots t x
+    ⊎ (((y : LimitHit) → ¬ (EmptyHitsLimitSo p pivots t y)) × FirstHitsLimitSo p pivots ts x)
 
 -- where these bounds are known, a function is searched over this set, with coefficient 0 at these places: the set holds
 -- the rule, and each rule without a time from where a path of such rules leads to it; and a place of a symbol is shut
@@ -49,16 +49,16 @@ pub record NoFunctionRanks (p : Program) (b : Bounds) (t : ℕ) (g : Gap) : Type
 -- set that it has a point, without which that excludes no function: the linear program of the first such rule exceeds
 -- this limit
 pub record PointsLimitHitSo (p : Program) (pivots : ℕ) (b : RankedSet) (x : LimitHit) : Type 0 where
-  pub untripped : NothingTrips (rank_program b) pivots
+  pub hits_no_limit : NothingHitsLimit (rank_program b) pivots
   pub unsolved : ¬ (HasSolution (rank_program b))
-  pub first : FirstTripsSo p pivots b.set x
+  pub first : FirstHitsLimitSo p pivots b.set x
 
 -- the linear program which asks for a function that ranks the rule exceeds this limit, or one of those for points does
-pub record RankTripsSo (p : Program) (pivots : ℕ) (b : Bounds) (t : ℕ) (x : LimitHit) : Type 0 where
+pub record RankHitsLimitSo (p : Program) (pivots : ℕ) (b : Bounds) (t : ℕ) (x : LimitHit) : Type 0 where
   pub set : List ℕ
   pub shut : List SymbolPlace
   pub sought : IsSought p b t set shut
-  pub trips : IsOwnLimitHit (ranked_set p set t shut) pivots x ⊎ PointsLimitHitSo p pivots (ranked_set p set t shut) x
+  pub hits_limit : IsOwnLimitHit (ranked_set p set t shut) pivots x ⊎ PointsLimitHitSo p pivots (ranked_set p set t shut) x
 
 -- the function of least weight at which the simplex method ends ranks the rule, and uses only arguments that aren't
 -- shut; but the time that it composes of known times and sizes is too large, with this many nodes
@@ -75,5 +75,5 @@ pub record TimeIsLarge (p : Program) (pivots : ℕ) (b : Bounds) (t n : ℕ) : T
 -- what each reason says of a rule without a time, where these bounds are known
 abbrev pub HasNoTime : Program → ℕ → Bounds → ℕ → NoTime → Type 0
 HasNoTime p pivots b t (NoFunction g) = NoFunctionRanks p b t g
-HasNoTime p pivots b t (TimeTripped x) = RankTripsSo p pivots b t x
+HasNoTime p pivots b t (TimeHitLimit x) = RankHitsLimitSo p pivots b t x
 HasNoTime p pivots b t (TimeLarge n) = TimeIsLarge p pivots b t n

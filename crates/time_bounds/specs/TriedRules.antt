@@ -40,7 +40,7 @@ IsTried p b pivots empties t (Missing a) = (is_untimed b t ≡ true) × IsMissin
 abbrev pub AreTried : Program → Bounds → ℕ → List GuardFeasibility → ℕ → List RuleAttempt → Type 0
 AreTried p b pivots empties k tries = EachNumbered (IsTried p b pivots empties) k tries
 
--- the find of rule t, where its time was found; and those of these rules from t on
+-- the derivation of rule t, where its time was found; and those of these rules from t on
 abbrev pub derivation_in : ℕ → RuleAttempt → List Derivation
 derivation_in t Known = []
 derivation_in t (Found node premises bound) = record {

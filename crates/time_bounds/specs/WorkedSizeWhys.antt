@@ -4,7 +4,7 @@ use Rattle.std.specs.Prelude.{ℕ, ◌≤◌, [], ◌∷◌, pos, None}
 use Rattle.model.specs.Bounds.{Constant}
 use Rattle.model.specs.Programs.{Program}
 use Rattle.model.specs.Terms.{Variable}
-use Rattle.outcome.specs.Reports.{NoFunction, Timed, Untimed, NoSize, SizeUnbounded, SizeTripped, SizeMissing, SizeNonlinear}
+use Rattle.outcome.specs.Reports.{NoFunction, Timed, Untimed, NoSize, SizeUnbounded, SizeHitLimit, SizeMissing, SizeNonlinear}
 use Rattle.outcome.specs.Reports.{SizeUntimed, SizeLarge, Unsized, Report}
 use Rattle.its_model.specs.linear_forms.declared.limit_cause.LimitCause.TheVariants as causes
 use Rattle.cert_types.specs.declared.answer.Question.{Question}
@@ -25,17 +25,17 @@ abbrev pub guessing_alone : Program
 guessing_alone = program_with (rule_over 0 1 1 (Variable 1) [] ∷ [])
 
 -- with 10 pivots the question exceeded the limit of 10
-abbrev pub tripped_by : Question → LimitHit
-tripped_by question = record { question = question; cause = causes.Budget 10 }
+abbrev pub limit_hit_from : Question → LimitHit
+limit_hit_from question = record { question = question; cause = causes.Budget 10 }
 
--- whatever bounds are known: a square isn't loose, though the square itself counts as any number; a trip of another
--- place's question, or of another rule's, is none of this place; a size doesn't depend on one of a rule that doesn't
--- exist; a value that is kept doesn't bend, nor by the place of a rule that doesn't exist, and grows by no such rule; a
--- size isn't the reason for itself; and no size with 200 nodes or fewer is too large
+-- whatever bounds are known: a square isn't unbounded, though the square itself counts as any number; a limit hit of
+-- another place's question, or of another rule's, is none of this place; a size doesn't depend on one of a rule that
+-- doesn't exist; a value that is kept doesn't bend, nor by the place of a rule that doesn't exist, and grows by no such
+-- rule; a size isn't the reason for itself; and no size with 200 nodes or fewer is too large
 pub record SmallPlacesAreWorkedOut : Type 0 where
   pub square : (b : Bounds) (side : Side) → ¬ (HasNoSize three_rules 10 b 2 1 (SizeUnbounded side along_free from_one))
-  pub other_place : (b : Bounds) → ¬ (HasNoSize guessed 10 b 1 1 (SizeTripped (tripped_by (asked.Local 2 1))))
-  pub other_rule : (b : Bounds) → ¬ (HasNoSize guessed 10 b 1 1 (SizeTripped (tripped_by (asked.Empty 2))))
+  pub other_place : (b : Bounds) → ¬ (HasNoSize guessed 10 b 1 1 (SizeHitLimit (limit_hit_from (asked.Local 2 1))))
+  pub other_rule : (b : Bounds) → ¬ (HasNoSize guessed 10 b 1 1 (SizeHitLimit (limit_hit_from (asked.Empty 2))))
   pub from_nowhere : (b : Bounds) → ¬ (HasNoSize looping 10 b 1 1 (SizeMissing (key 2 1)))
   pub for_itself : (b : Bounds) → ¬ (HasNoSize guessed 10 b 2 1 (SizeMissing (key 2 1)))
   pub straight : (b : Bounds) → ¬ (HasNoSize looping 10 b 1 1 (SizeNonlinear (key 1 1)))
@@ -48,7 +48,7 @@ pub record SmallPlacesAreWorkedOut : Type 0 where
 abbrev pub alone_with : NoSize → Report
 alone_with why = record { times = Timed (Constant 1) ∷ []; costs = None ∷ []; total = None; sizes = (Unsized why ∷ []) ∷ [] }
 
--- two rules, where A - 1 is called loose, too
+-- two rules, where A - 1 is called unbounded, too
 abbrev pub wrong_at_2 : Report
 wrong_at_2 = record {
   times = Timed (Constant 1) ∷ Untimed (NoFunction (gap_of_one place_of_l (pos 1) 1 (pos 1) 0 (pos 1) 1)) ∷ [];
@@ -57,8 +57,8 @@ wrong_at_2 = record {
   sizes = (Unsized (SizeUnbounded Up along_free from_one) ∷ []) ∷ (Unsized (SizeUnbounded Up along_free from_one) ∷ []) ∷ [];
 }
 
--- all of these; and the reasons in a whole report with a loose place are true, and aren't where the report says that
--- the place is loose down, or that another one is loose
+-- all of these; and the reasons in a whole report with an unbounded side are true, and aren't where the report says
+-- that the place is unbounded below, or that another one is unbounded
 pub record MissingSizesAreWorkedOut : Type 0 where
   pub places : SmallPlacesAreWorkedOut
   pub whole : ReasonsAreTrue guessing_alone 10 (alone_with (SizeUnbounded Up along_free from_one))

@@ -2,7 +2,7 @@
 use Rattle.std.specs.Prelude.{◌≡◌, ℕ, ◌≤◌, [], ◌∷◌, Some, None}
 use Rattle.model.specs.Bounds.{Constant, Input}
 use Rattle.model.specs.Programs.{Program}
-use Rattle.outcome.specs.Reports.{NoFunction, TimeTripped, TimeLarge, Timed, Untimed, SizeMissing, Sized, Unsized}
+use Rattle.outcome.specs.Reports.{NoFunction, TimeHitLimit, TimeLarge, Timed, Untimed, SizeMissing, Sized, Unsized}
 use Rattle.outcome.specs.Reports.{Report}
 use Rattle.its_model.specs.linear_forms.declared.limit_cause.LimitCause.{LimitCause}
 use Rattle.its_model.specs.linear_forms.declared.limit_cause.LimitCause.TheVariants as causes
@@ -104,8 +104,8 @@ own_limit_hit cause = record { question = asked.Rank 1; cause = cause }
 -- with 10 pivots the limit of 9 isn't passed, and no table of 5 numbers is too wide; and no time is large that has 200
 -- nodes or fewer
 pub record LimitsSaySo : Type 0 where
-  pub other_budget : ¬ (HasNoTime looping 10 staying_said 1 (TimeTripped (own_limit_hit (causes.Budget 9))))
-  pub not_wide : ¬ (HasNoTime looping 10 staying_said 1 (TimeTripped (own_limit_hit (causes.Wide 5))))
+  pub other_budget : ¬ (HasNoTime looping 10 staying_said 1 (TimeHitLimit (own_limit_hit (causes.Budget 9))))
+  pub not_wide : ¬ (HasNoTime looping 10 staying_said 1 (TimeHitLimit (own_limit_hit (causes.Wide 5))))
   pub small : (p : Program) (pivots : ℕ) (b : Bounds) (t n : ℕ) → n ≤ 200 → ¬ (HasNoTime p pivots b t (TimeLarge n))
 
 -- where a report has another gap than the one that holds

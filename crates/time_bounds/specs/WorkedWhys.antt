@@ -2,7 +2,7 @@
 -- l(A) -> l(A - 1) where A >= 1.
 use Rattle.std.specs.Prelude.{◌≡◌, List, [], ◌∷◌, ℤ, pos, Some, None}
 use Rattle.model.specs.Bounds.{Constant, Input}
-use Rattle.outcome.specs.Reports.{NoFunction, TimeTripped, SizeUnbounded, SizeMissing, SizeUntimed}
+use Rattle.outcome.specs.Reports.{NoFunction, TimeHitLimit, SizeUnbounded, SizeMissing, SizeUntimed}
 use Rattle.its_model.specs.linear_forms.declared.limit_cause.LimitCause.TheVariants as causes
 use Rattle.cert_types.specs.declared.answer.Question.TheVariants as asked
 use Rattle.cert_types.specs.declared.answer.LimitHit.{LimitHit}
@@ -35,15 +35,15 @@ abbrev pub other_limit_hit : LimitHit
 other_limit_hit = record { question = asked.Rank 2; cause = causes.Budget 10 }
 
 -- no function ranks the rule, as its gap shows. The same gap says nothing of another rule; and none does that is of no
--- rule of the set, or may not look at a place whose size is known; and a trip of another rule's question is none of
--- this one
+-- rule of the set, or may not look at a place whose size is known; and a limit hit of another rule's question is none
+-- of this one
 pub record TimeWhysAreWorkedOut : Type 0 where
   pub gap : HasNoTime looping 10 staying_said 1 (NoFunction staying_gap)
   pub other_rule : ¬ (HasNoTime looping 10 staying_said 2 (NoFunction staying_gap))
   pub no_set : ¬ (HasNoTime looping 10 staying_said 1 (NoFunction (gap_with 1 [] [] (one ∷ []) nowhere (one ∷ []))))
   pub not_shut : ¬ (HasNoTime looping 10 staying_said 1
       (NoFunction (gap_with 1 (1 ∷ []) (first_place ∷ []) (one ∷ []) nowhere (one ∷ []))))
-  pub other_question : ¬ (HasNoTime looping 10 staying_said 1 (TimeTripped other_limit_hit))
+  pub other_question : ¬ (HasNoTime looping 10 staying_said 1 (TimeHitLimit other_limit_hit))
 
 -- along C the free value exceeds every affine form in A, up and not down; not where A changes too, nor from a point
 -- without a denominator, nor by a ray or a point of three numbers; and A - 1 doesn't exceed all of them, whatever the

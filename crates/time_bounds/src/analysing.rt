@@ -67,7 +67,7 @@ fn analysed(cx: &Context) -> Result<Outcome, Memory>
     outcome_from(cx, &candidates, derived, kept)
 }
 
-// The book of the finds before the first round.
+// The derivations before the first round.
 fn first_derived(cx: &Context, rule_statuses: &[RuleStatus]) -> Result<DerivedBounds, Memory>
     requires ready { BelongsTogether cx.now }
     requires rule_statuses { AreRuleStatuses (searches_of_program (program_in cx.now) cx.now.pivots) (program_in cx.now) rule_statuses.now }

@@ -1,4 +1,4 @@
-//! The finds before the first round: rules that never run.
+//! The derivations before the first round: rules that never run.
 
 ghost use Rattle.std.specs.Prelude.{◌≡◌, ◌+◌, ◌<◌, ◌^◌, ◌∷◌, ◌++◌, [], length, map, IfOk, OnOk};
 ghost use Rattle.std.specs.List.{range_with_len};
@@ -20,8 +20,8 @@ use cert_types::{EmptyNode, GuardFeasibility, ResultVariable};
 use model::Memory;
 use std::alloc::Global;
 
-/// The finds before the first round, by the status of each rule: the time 0 of each rule that is empty; the time 0 of
-/// each other one that is unreached, with all empty ones as premises; and the size 0 at each place after both.
+/// The derivations before the first round, by the status of each rule: the time 0 of each rule that is empty; the time
+/// 0 of each other one that is unreached, with all empty ones as premises; and the size 0 at each place after both.
 pub(crate) fn first_derivations(
     cx: &Context,
     rule_statuses: &[RuleStatus],
@@ -40,7 +40,7 @@ pub(crate) fn first_derivations(
     Ok(derivations)
 }
 
-// A find for each empty rule.
+// A derivation for each empty rule.
 fn push_empty(
     alloc: Global,
     derivations: &mut Vec<Derivation>,
@@ -119,7 +119,7 @@ fn push_key(
     }
 }
 
-// A find for each rule that is unreached and not empty, with all empty ones as premises.
+// A derivation for each rule that is unreached and not empty, with all empty ones as premises.
 fn push_unreached(
     alloc: Global,
     derivations: &mut Vec<Derivation>,
@@ -173,7 +173,7 @@ fn unreached_derivation(
     })
 }
 
-// A find for the sizes after each rule that never runs and leads to a symbol with a place.
+// A derivation for the sizes after each rule that never runs and leads to a symbol with a place.
 fn push_never(
     cx: &Context,
     derivations: &mut Vec<Derivation>,

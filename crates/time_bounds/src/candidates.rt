@@ -4,7 +4,7 @@ ghost use Rattle.std.specs.Prelude.{◌≡◌, ◌∷◌, [], length, map, IfOk,
 ghost use Rattle.std.specs.List.{All};
 ghost use Rattle.std.specs.Option.{option_map};
 ghost use Rattle.outcome.specs.Views.{unbounded_of, size_of};
-ghost use Rattle.outcome.specs.Reports.{SizeTripped, Unsized};
+ghost use Rattle.outcome.specs.Reports.{SizeHitLimit, Unsized};
 ghost use Rattle.cert_types.specs.Views.{result_variable_of, member_of};
 ghost use Rattle.rvg_components.specs.Listing.{answer_lists, local_from};
 ghost use Rattle.time_bounds.specs.ProgramSearches.{searches_of_program};
@@ -28,14 +28,14 @@ use outcome::{SizeEntry, UnboundedSide};
 use rvg_components::{Component, components};
 use std::alloc::Global;
 
-/// A component of places, with its arms.
+/// A component of places, with its side bounds.
 #[derive(Debug, Drop)]
 pub(crate) struct Candidate {
     pub result_variables: Vec<ResultVariable>,
     pub side_bounds: SideBounds,
 }
 
-/// The arms of the members of a component.
+/// The side bounds of the members of a component.
 #[derive(Debug, Drop)]
 pub(crate) enum SideBounds {
     /// A member has none, for this reason.
@@ -46,7 +46,8 @@ pub(crate) enum SideBounds {
     Loop(Vec<Member>),
 }
 
-/// The components of the places of live rules, in the order in which they are tried, with the arms of their members.
+/// The components of the places of live rules, in the order in which they are tried, with the side bounds of their
+/// members.
 pub(crate) fn candidates(
     cx: &Context,
     rule_statuses: &[RuleStatus],
@@ -61,7 +62,7 @@ pub(crate) fn candidates(
     with_side_bounds(cx.alloc, &locals, found)
 }
 
-// Components with the arms of their members.
+// Components with the side bounds of their members.
 fn with_side_bounds(
     alloc: Global,
     locals: &[Vec<LocalAnswer>],
@@ -77,7 +78,7 @@ fn with_side_bounds(
     Ok(candidates)
 }
 
-// A component with the arms of its members.
+// A component with the side bounds of its members.
 fn with_its_side_bounds(
     alloc: Global,
     locals: &[Vec<LocalAnswer>],
@@ -94,7 +95,8 @@ fn with_its_side_bounds(
     })
 }
 
-// The arms of the members of a component: why one has none, the first that is loose, or else the first that tripped.
+// The side bounds of the members of a component: why one has none, the first with an unbounded side, or else the first
+// with a limit hit.
 fn side_bounds_of(
     alloc: Global,
     locals: &[Vec<LocalAnswer>],
@@ -115,7 +117,7 @@ fn side_bounds_of(
     }
 }
 
-// Why a member has no arms, where one has none.
+// Why a member has no side bounds, where one has none.
 fn lacking(
     alloc: Global,
     locals: &[Vec<LocalAnswer>],
@@ -134,7 +136,7 @@ fn lacking(
     }
 }
 
-// Members with their arms: of a loop, or the only one.
+// Members with their side bounds: of a loop, or the only one.
 fn as_side_bounds(members: Vec<Member>, looping: bool) -> SideBounds
     requires { looping ≡ false → length members.items ≡ 1 }
     ensures { IsSideBoundsOf members.items looping result }
@@ -149,7 +151,7 @@ fn as_side_bounds(members: Vec<Member>, looping: bool) -> SideBounds
     }
 }
 
-// The first of these places that is loose.
+// The first of these places with an unbounded side.
 fn first_unbounded<'a>(
     locals: &'a [Vec<LocalAnswer>],
     result_variables: &[ResultVariable],
@@ -166,13 +168,13 @@ fn first_unbounded<'a>(
     None
 }
 
-// Why the first of these places tripped whose linear programs did.
+// The limit hit of the first of these places whose linear programs hit one.
 fn first_limit_hit(
     locals: &[Vec<LocalAnswer>],
     result_variables: &[ResultVariable],
 ) -> Option<LimitHit>
     requires { AreAnswered (answer_lists locals.now) (map result_variable_of result_variables.now) }
-    ensures { option_map (λ t. SizeTripped t) result
+    ensures { option_map (λ t. SizeHitLimit t) result
         ≡ first_reason limit_hit_reason (local_from (answer_lists locals.now)) (map result_variable_of result_variables.now) }
 {
     for result_variable in result_variables {

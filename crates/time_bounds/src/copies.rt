@@ -1,4 +1,4 @@
-//! Copies of loose sides.
+//! Copies of unbounded sides.
 
 ghost use Rattle.std.specs.Prelude.{◌≡◌, IfOk};
 ghost use Rattle.outcome.specs.Views.{unbounded_of};
@@ -8,7 +8,7 @@ use model::Memory;
 use outcome::UnboundedSide;
 use std::alloc::Global;
 
-/// The same loose side.
+/// The same unbounded side.
 pub(crate) fn copied_unbounded(
     alloc: Global,
     unbounded: &UnboundedSide,

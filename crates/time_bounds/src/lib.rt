@@ -1,12 +1,13 @@
 //! The analysis of a program: rounds of runtime bounds and size bounds, up to a fixpoint, then bounds on the costs of
 //! rules, and the total.
 //!
-//! Builds on `rank_search`, `local_size` and `rvg_components` (the searches), `size_bounds` and `bound_derivations` (the
-//! bounds found so far), `bound_fixpoint` (the rounds as definitions) and `cost_bounds`. Main guarantee: the report is
-//! read off the last finds of the rounds; each bound holds on all runs; each missing bound has a reason that is true of
-//! the program; and the total, where what each rule spends has a bound, bounds what every run costs. The lemmas are those
-//! of the finds in their order, and then those of costs, and are accepted; each known bound carries the number of a lemma
-//! that states it. For a number of pivots a program has one analysis, including its lemmas, its gaps and their numbers.
+//! Builds on `rank_search`, `local_size` and `rvg_components` (the searches), `size_bounds` and `bound_derivations`
+//! (the bounds found so far), `bound_fixpoint` (the rounds as definitions) and `cost_bounds`. Main guarantee: the
+//! report is read off the last derivations of the rounds; each bound holds on all runs; each missing bound has a reason
+//! that is true of the program; and the total, where what each rule spends has a bound, bounds what every run costs.
+//! The lemmas are those of the derivations in their order, and then those of costs, and are accepted; each known bound
+//! carries the number of a lemma that states it. For a number of pivots a program has one analysis, including its
+//! lemmas, its gaps and their numbers.
 #![tactic(auto)]
 
 mod analysing;

@@ -31,7 +31,7 @@ pub(crate) fn live_rules(alloc: Global, rule_statuses: &[RuleStatus]) -> Result<
     Ok(live)
 }
 
-// Whether a rule of this fate is live.
+// Whether a rule of this status is live.
 fn is_live(rule_status: RuleStatus) -> bool
     ensures { result ≡ is_live_rule_status rule_status }
 {
@@ -60,7 +60,7 @@ pub(crate) fn all_locals(
     Ok(locals)
 }
 
-// The answers for the places of the rule at a position, which has this fate.
+// The answers for the places of the rule at a position, which has this status.
 fn locals_after(
     cx: &Context,
     position: usize,

@@ -1,4 +1,4 @@
-//! Takes finds into the book, one after the other.
+//! Takes derivations into the table, one after the other.
 
 ghost use Rattle.std.specs.Prelude.{◌≡◌, ◌+◌, ◌<◌, ◌^◌, ◌++◌, length, map, IfOk, OnOk};
 ghost use Rattle.bound_derivations.specs.Books.{AreDerivedBounds};
@@ -15,7 +15,7 @@ use bound_derivations::{Derivation, DerivedBounds, Node};
 use model::Memory;
 use std::alloc::Global;
 
-/// Takes finds whose keys are open, each after those before it.
+/// Takes derivations whose keys are open, each after those before it.
 pub(crate) fn take_all(
     cx: &Context,
     derived: &mut DerivedBounds,
@@ -33,15 +33,15 @@ pub(crate) fn take_all(
     Ok(())
 }
 
-/// The result of a round for the rules: the queries that are kept for those that have no time, and the finds of the
-/// times that were found.
+/// The result of a round for the rules: the queries that are kept for those that have no time, and the derivations of
+/// the times that were found.
 #[derive(Debug, Drop)]
 pub(crate) struct SplitRules {
     pub asked: Vec<Option<AnsweredRankQuestion>>,
     pub derivations: Vec<Derivation>,
 }
 
-/// Splits the attempts at rules into queries and finds.
+/// Splits the attempts at rules into queries and derivations.
 pub(crate) fn part_all(alloc: Global, tries: Vec<RuleAttempt>) -> Result<SplitRules, Memory>
     requires { length tries.items < 2 ^ 31 }
     ensures asked { IfOk result (λ parts. parts.asked.items ≡ map kept_in tries.items) }
@@ -57,7 +57,7 @@ pub(crate) fn part_all(alloc: Global, tries: Vec<RuleAttempt>) -> Result<SplitRu
     Ok(SplitRules { asked, derivations })
 }
 
-// Appends the find of a rule, where its time was found, and gives the question that is kept.
+// Appends the derivation of a rule, where its time was found, and gives the question that is kept.
 fn part(
     alloc: Global,
     rule: u32,

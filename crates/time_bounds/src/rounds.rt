@@ -23,7 +23,8 @@ pub(crate) struct LastRound {
     pub attempts: Vec<ComponentAttempt>,
 }
 
-/// Runs rounds from the finds before the first. Returns the last round's results for each rule and each component.
+/// Runs rounds from the derivations before the first. Returns the last round's results for each rule and each
+/// component.
 pub(crate) fn rounds(
     cx: &Context,
     candidates: &[Candidate],

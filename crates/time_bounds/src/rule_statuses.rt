@@ -59,7 +59,7 @@ fn is_empty(answer: &GuardFeasibility) -> bool
     }
 }
 
-// The fates of rules, by their answers and by which symbols are reached.
+// The statuses of rules, by their answers and by which symbols are reached.
 fn rule_statuses_of(
     alloc: Global,
     rules: &[Rule],
@@ -78,7 +78,7 @@ fn rule_statuses_of(
     Ok(found)
 }
 
-// The fate of a rule by its answer and by whether its source is reached.
+// The status of a rule by its answer and by whether its source is reached.
 fn rule_status_by(answer: &GuardFeasibility, is_reached: bool) -> RuleStatus
     ensures { result ≡ rule_status_of answer.now is_reached }
 {

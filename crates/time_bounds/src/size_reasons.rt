@@ -143,7 +143,7 @@ fn reason(
     }
 }
 
-// Why a member has no arms.
+// Why a member has no side bounds.
 fn lacking_side_bounds(alloc: Global, side_bounds: &SideBounds) -> Result<Option<SizeEntry>, Memory>
     ensures { IfOk result (λ entry. option_map size_of entry ≡ option_map Unsized (why_armless side_bounds.now)) }
 {

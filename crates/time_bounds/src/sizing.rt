@@ -33,7 +33,7 @@ pub(crate) enum ComponentAttempt {
     Known,
     /// They have one now.
     Found,
-    /// They have none, since one has no arms.
+    /// They have none, since one has no side bounds.
     Armless,
     /// They have none, by this answer.
     Failed(Sizing),
@@ -129,7 +129,7 @@ fn try_component(
     }
 }
 
-// Tries a component of which a place has no size, by the arms of its members.
+// Tries a component of which a place has no size, by the side bounds of its members.
 fn try_side_bounds(
     cx: &Context,
     candidate: &Candidate,
@@ -183,7 +183,7 @@ fn are_open(table: &Table, result_variables: &[ResultVariable]) -> bool
     false
 }
 
-// Takes an answer for a component with arms: where it has a size, it is taken into the book for all places.
+// Takes an answer for a component with side bounds: where it has a size, it is taken into the book for all places.
 fn take(
     cx: &Context,
     candidate: &Candidate,
@@ -222,7 +222,7 @@ fn take(
     }
 }
 
-// The node that arms give.
+// The node that side bounds give.
 fn node_by(alloc: Global, side_bounds: &SideBounds) -> Result<Node, Memory>
     requires { has_side_bounds side_bounds.now ≡ true }
     ensures { IfOk result (λ node. node_of node ≡ node_in side_bounds.now) }

@@ -13,7 +13,7 @@ use Rattle.its_model.specs.linear_forms.Questions.{listed, program_of_question}
 use Rattle.guard_prep.specs.Prepared.{prepared}
 use Rattle.guard_prep.specs.Tightening.{divisor_of}
 use Rattle.simplex_core.specs.Tableau.{first_tableau, equation, cost, pivot}
-use Rattle.simplex_core.specs.Trips.{IsScaledDual, IsScaledSolution, Trips}
+use Rattle.simplex_core.specs.HitsLimit.{IsScaledDual, IsScaledSolution, HitsLimit}
 use Rattle.cert_types.specs.cert_rules.AcceptsSizes.{Side, Up, Low}
 use Rattle.cert_types.specs.cert_rules.Gaps.{ScaledPoint}
 use Rattle.cert_types.specs.cert_rules.Nodes.{ResultVariable, SideBound, Linear, LocalBound}
@@ -23,10 +23,10 @@ use Rattle.cert_types.specs.declared.answer.LimitHit.{LimitHit}
 use Rattle.cert_types.specs.declared.answer.Question.TheVariants as asked
 use Rattle.cert_types.specs.rule_forms.Kinds.{Kind, Number, Argument, Affine, Plus}
 use Rattle.rank_search.specs.rule_questions.EmptyAnswers.{empty_program}
-use Rattle.local_size.specs.LocalAnswers.{Local, HasBound, HasTripped, HasSideBounds, SideComesTo}
+use Rattle.local_size.specs.LocalAnswers.{Local, HasBound, HasHitLimit, HasSideBounds, SideComesTo}
 use Rattle.local_size.specs.Places.{local_forms, value_on}
 use Rattle.local_size.specs.Sides.{SideBoundFound, NoneFound, ComesTo, solved_side_bound}
-use Rattle.outcome.specs.Reports.{SizeUnbounded, SizeTripped, SizeMissing, SizeLarge}
+use Rattle.outcome.specs.Reports.{SizeUnbounded, SizeHitLimit, SizeMissing, SizeLarge}
 use Rattle.bound_fixpoint.specs.Keys.{key}
 use Rattle.cost_bounds.specs.CostOutcomes.{BoundedBy, NotBounded, FeasibleTo, StepTo}
 use Rattle.cost_bounds.specs.WorkedCosts.{by_A, known_as, no_size, once, up_to}
@@ -35,7 +35,7 @@ use Rattle.worked_reasons.specs.CostOutcomes.{entering_once, AtMostA, Exceeds, b
 use Rattle.worked_reasons.specs.CostOutcomes.{rule_above, program_above, one_less, five, squaring_free, squared_free}
 use Rattle.worked_reasons.specs.CostOutcomes.{IsOutcome, RowsAreWorkedOut, MissingSizesAreWorkedOut}
 use Rattle.worked_reasons.specs.CostOutcomes.{LimitsOfCostsAreWorkedOut, CostOutcomesAreWorkedOut}
-use Rattle.worked_reasons.specs.Programs.{tripped_at}
+use Rattle.worked_reasons.specs.Programs.{limit_hit_at}
 use Rattle.worked_reasons.proofs.DoubleRuns.{asked_of}
 use Rattle.worked_reasons.proofs.Runs.{budget_run}
 use Rattle.worked_reasons.proofs.SmallRuns.{small_budget_run}
@@ -50,7 +50,7 @@ at_most_A = inl (record { before = refl; after = refl }, refl)
 never_is_not_empty : {multipliers : List ℕ} → BoundedBy NeverCost ≡ BoundedBy (EmptyCost multipliers) → ⊥
 never_is_not_empty e = cc
 
-limit_is_not_never : {x : LimitHit} → NotBounded (SizeTripped x) ≡ BoundedBy NeverCost → ⊥
+limit_is_not_never : {x : LimitHit} → NotBounded (SizeHitLimit x) ≡ BoundedBy NeverCost → ⊥
 limit_is_not_never e = cc
 
 empty_is_not_composed : {multipliers : List ℕ} → BoundedBy (EmptyCost multipliers) ≡ BoundedBy (SideBoundCost by_A) → ⊥
@@ -69,13 +69,13 @@ not_empty x multipliers (step, same, k) =
     composed (inr h) = empty_is_not_large h.1
 
 -- the reason of a limit has its question
-limits_same : {x y : LimitHit} → NotBounded (SizeTripped x) ≡ NotBounded (SizeTripped y) → x ≡ y
+limits_same : {x y : LimitHit} → NotBounded (SizeHitLimit x) ≡ NotBounded (SizeHitLimit y) → x ≡ y
 limits_same e = cc
 
 not_of_point : (x : LimitHit) → x.question ≡ asked.Empty 1
-    → FeasibleTo entering_once (Exceeds x) (feasible.OutOfLimits x) (NotBounded (SizeTripped x)) → ⊥
+    → FeasibleTo entering_once (Exceeds x) (feasible.OutOfLimits x) (NotBounded (SizeHitLimit x)) → ⊥
 not_of_point x question (step, same, k) =
-    let is = limits_same (subst (λ (s : Local). StepTo entering_once s (NotBounded (SizeTripped x))) same k) in
+    let is = limits_same (subst (λ (s : Local). StepTo entering_once s (NotBounded (SizeHitLimit x))) same k) in
     differ (sym question ∙ ap (λ (y : LimitHit). y.question) is)
   where
     differ : asked.Empty 1 ≡ asked.Cost 1 → ⊥
@@ -90,7 +90,7 @@ rows = record {
   not_limit = λ x e. limit_is_not_never e;
   bounded_past_limit = λ x. (up_to by_A, refl, at_most_A);
   not_empty = not_empty;
-  limit_of_point = λ x. (HasTripped x, refl, refl);
+  limit_of_point = λ x. (HasHitLimit x, refl, refl);
   not_of_point = not_of_point;
 }
 
@@ -142,7 +142,7 @@ abbrev above_costs : (c : Term) → HasCost (program_above c) 1
 above_costs c = record { rule = rule_above c; numbered = refl; cost = c; written = refl }
 
 -- a point of the rows takes more than one pivot, the first of which gives fractions, with a cost of 5
-five_point : Trips (empty_program (prepared (costing five))) 1 (budget 1)
+five_point : HitsLimit (empty_program (prepared (costing five))) 1 (budget 1)
 unfolding program_of_question first_tableau equation cost pivot divisor_of
 five_point = small_budget_run (pos 1 ∷ []) (empty_program (prepared (costing five))) 1 refl refl
 
@@ -179,13 +179,13 @@ both_sides : IsOutcome (program_above five) (BoundedBy (SideBoundCost by_five))
 unfolding rewritten simplified passes_until_same at_node parts_passed below divisor_of
 both_sides = record {
   costs = above_costs five;
-  feasibility = feasible.OutOfLimits (tripped_at 1 (asked.Empty 1));
+  feasibility = feasible.OutOfLimits (limit_hit_at 1 (asked.Empty 1));
   answered = (refl, five_point);
   first = (HasBound five_bounds, inr five_sides, inl (record { before = refl; after = refl }, refl));
 }
 
 -- with a cost of A - 1 it does so too
-less_point : Trips (empty_program (prepared (costing one_less))) 1 (budget 1)
+less_point : HitsLimit (empty_program (prepared (costing one_less))) 1 (budget 1)
 unfolding program_of_question first_tableau equation cost pivot divisor_of
 less_point = small_budget_run (pos 1 ∷ []) (empty_program (prepared (costing one_less))) 1 refl refl
 
@@ -215,18 +215,18 @@ less_up = inr (
 )
 
 -- and a number that bounds its negation takes more than one pivot
-less_low : Trips (asked_of (costing one_less) Low Number) 1 (budget 1)
+less_low : HitsLimit (asked_of (costing one_less) Low Number) 1 (budget 1)
 unfolding program_of_question first_tableau equation cost pivot divisor_of
 less_low = budget_run (asked_of (costing one_less) Low Number) 1 refl refl
 
-low_side : IsOutcome (program_above one_less) (NotBounded (SizeTripped (tripped_at 1 (asked.Cost 1))))
+low_side : IsOutcome (program_above one_less) (NotBounded (SizeHitLimit (limit_hit_at 1 (asked.Cost 1))))
 unfolding divisor_of
 low_side = record {
   costs = above_costs one_less;
-  feasibility = feasible.OutOfLimits (tripped_at 1 (asked.Empty 1));
+  feasibility = feasible.OutOfLimits (limit_hit_at 1 (asked.Empty 1));
   answered = (refl, less_point);
   first = (
-    HasTripped (tripped_at 1 (asked.Local 1 1)),
+    HasHitLimit (limit_hit_at 1 (asked.Local 1 1)),
     inl (record {
       asked = refl;
       question = refl;
@@ -251,7 +251,7 @@ squared_costs = record {
   written = refl;
 }
 
-squared_point : Trips (empty_program (prepared squared_rule)) 1 (budget 1)
+squared_point : HitsLimit (empty_program (prepared squared_rule)) 1 (budget 1)
 unfolding program_of_question first_tableau equation cost pivot divisor_of
 squared_point = small_budget_run (pos 1 ∷ []) (empty_program (prepared squared_rule)) 1 refl refl
 
@@ -279,14 +279,14 @@ no_up = none_by squared_rule Up Affine up_dual squared_up
 no_low : SideComesTo (prepared squared_rule) 1 1 Low (NoneFound (ray_by low_dual))
 no_low = none_by squared_rule Low Affine low_dual squared_low
 
-neither_side : IsOutcome squared_free (NotBounded (SizeTripped (tripped_at 1 (asked.Cost 1))))
+neither_side : IsOutcome squared_free (NotBounded (SizeHitLimit (limit_hit_at 1 (asked.Cost 1))))
 unfolding divisor_of
 neither_side = record {
   costs = squared_costs;
-  feasibility = feasible.OutOfLimits (tripped_at 1 (asked.Empty 1));
+  feasibility = feasible.OutOfLimits (limit_hit_at 1 (asked.Empty 1));
   answered = (refl, squared_point);
   first = (
-    HasTripped (tripped_at 1 (asked.Empty 1)),
+    HasHitLimit (limit_hit_at 1 (asked.Empty 1)),
     inr (record {
       asked = refl;
       lacks = (Up, (ray_by up_dual, (no_up, inr (ray_by low_dual, no_low))));
@@ -297,22 +297,22 @@ neither_side = record {
 }
 
 -- the outcome is one
-not_of_five : (x : LimitHit) → IsOutcome (program_above five) (NotBounded (SizeTripped x)) → ⊥
+not_of_five : (x : LimitHit) → IsOutcome (program_above five) (NotBounded (SizeHitLimit x)) → ⊥
 not_of_five x h =
     let e = costs-one.each (program_above five) 1 (known_as once no_size) 1 (BoundedBy (SideBoundCost by_five))
-    (NotBounded (SizeTripped x)) both_sides h in
+    (NotBounded (SizeHitLimit x)) both_sides h in
     (let none : ⊥ = cc in none)
 
 not_up_alone : (by : CostBy) → IsOutcome (program_above one_less) (BoundedBy by) → ⊥
 not_up_alone by h =
     let e = costs-one.each (program_above one_less) 1 (known_as once no_size) 1
-    (NotBounded (SizeTripped (tripped_at 1 (asked.Cost 1)))) (BoundedBy by) low_side h in
+    (NotBounded (SizeHitLimit (limit_hit_at 1 (asked.Cost 1)))) (BoundedBy by) low_side h in
     (let none : ⊥ = cc in none)
 
-not_of_rows : IsOutcome squared_free (NotBounded (SizeTripped (tripped_at 1 (asked.Empty 1)))) → ⊥
+not_of_rows : IsOutcome squared_free (NotBounded (SizeHitLimit (limit_hit_at 1 (asked.Empty 1)))) → ⊥
 not_of_rows h =
     let e = limits_same (costs-one.each squared_free 1 (known_as once no_size) 1
-    (NotBounded (SizeTripped (tripped_at 1 (asked.Cost 1)))) (NotBounded (SizeTripped (tripped_at 1 (asked.Empty 1))))
+    (NotBounded (SizeHitLimit (limit_hit_at 1 (asked.Cost 1)))) (NotBounded (SizeHitLimit (limit_hit_at 1 (asked.Empty 1))))
     neither_side h) in
     differ (ap (λ (y : LimitHit). y.question) e)
   where
@@ -323,7 +323,7 @@ not_unbounded : (side : Side) (ray : List ℤ) (kept : ScaledPoint)
     → IsOutcome squared_free (NotBounded (SizeUnbounded side ray kept)) → ⊥
 not_unbounded side ray kept h =
     let e = costs-one.each squared_free 1 (known_as once no_size) 1
-    (NotBounded (SizeTripped (tripped_at 1 (asked.Cost 1)))) (NotBounded (SizeUnbounded side ray kept)) neither_side h in
+    (NotBounded (SizeHitLimit (limit_hit_at 1 (asked.Cost 1)))) (NotBounded (SizeUnbounded side ray kept)) neither_side h in
     (let none : ⊥ = cc in none)
 
 limits : LimitsOfCostsAreWorkedOut

@@ -14,7 +14,7 @@ use Rattle.its_model.specs.linear_forms.Questions.{program_of_question}
 use Rattle.guard_prep.specs.Prepared.{prepared}
 use Rattle.guard_prep.specs.Tightening.{divisor_of}
 use Rattle.simplex_core.specs.Tableau.{first_tableau, equation, cost, pivot}
-use Rattle.simplex_core.specs.Trips.{Trips}
+use Rattle.simplex_core.specs.HitsLimit.{HitsLimit}
 use Rattle.cert_types.specs.declared.answer.Question.TheVariants as asked
 use Rattle.cert_types.specs.cert_program.WorkedGaps.{looping}
 use Rattle.cert_types.specs.cert_rules.AcceptsSizes.{Up, Low}
@@ -97,9 +97,9 @@ not_below h =
     down l = let up = l.rises in omega (arith, ints, up)
 
 -- a number that bounds the cost
-number_trips : Trips (kind_program (local_forms (prepared_cost has_cost)) (value_on Up (prepared_cost has_cost) 1) Number) 0 (budget 0)
+number_hits_limit : HitsLimit (kind_program (local_forms (prepared_cost has_cost)) (value_on Up (prepared_cost has_cost) 1) Number) 0 (budget 0)
 unfolding program_of_question first_tableau equation cost pivot divisor_of
-number_trips =
+number_hits_limit =
     budget_run (kind_program (local_forms (prepared_cost has_cost)) (value_on Up (prepared_cost has_cost) 1) Number) 0 refl refl
 
 -- the rule that stays has no cost
@@ -113,7 +113,7 @@ pub costs_worked : CostsAreWorkedOut
 costs_worked = record {
   unbounded = λ b. unbounded;
   not_below = λ b h. not_below h;
-  exceeds = λ b. record { costs = has_cost; question = refl; straight = refl; exceeds = inl (inl (tt, number_trips)) };
+  exceeds = λ b. record { costs = has_cost; question = refl; straight = refl; exceeds = inl (inl (tt, number_hits_limit)) };
   not_of_a_place = λ b h. let e = h.question in (let none : ⊥ = cc in none);
   no_cost = λ b h. no_cost h.costs;
 }

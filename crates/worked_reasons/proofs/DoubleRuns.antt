@@ -8,7 +8,7 @@ use Rattle.its_model.specs.linear_forms.LinearProgram.{LinearProgram}
 use Rattle.its_model.specs.linear_forms.Questions.{listed, program_of_question}
 use Rattle.guard_prep.specs.Prepared.{prepared}
 use Rattle.simplex_core.specs.Tableau.{first_tableau, equation, cost, pivot}
-use Rattle.simplex_core.specs.Trips.{IsScaledSolution, IsScaledDual}
+use Rattle.simplex_core.specs.HitsLimit.{IsScaledSolution, IsScaledDual}
 use Rattle.cert_types.specs.cert_rules.AcceptsSizes.{Side, Up, Low}
 use Rattle.cert_types.specs.cert_rules.Worked.{entered_member, doubled_member}
 use Rattle.cert_types.specs.cert_rules.WorkedSettings.{enter}

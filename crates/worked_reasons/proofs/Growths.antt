@@ -15,7 +15,7 @@ use Rattle.its_model.specs.linear_forms.QuestionLaws.{parameters_of}
 use Rattle.its_model.specs.linear_forms.RuleQuestions.{RankedSet, symbols_of_set}
 use Rattle.guard_prep.specs.Tightening.{divisor_of}
 use Rattle.simplex_core.specs.Tableau.{first_tableau, equation, cost, pivot}
-use Rattle.simplex_core.specs.Trips.{IsScaledSolution}
+use Rattle.simplex_core.specs.HitsLimit.{IsScaledSolution}
 use Rattle.cert_types.specs.rule_forms.RankLaws.{function_of}
 use Rattle.cert_types.specs.cert_rules.Checks.{large_nodes}
 use Rattle.cert_types.specs.cert_rules.Nodes.{SymbolForm, RankNode}
@@ -43,7 +43,7 @@ use Rattle.worked_reasons.specs.Growths.{growing_said, deep_said, GrowthsAreWork
 use Rattle.worked_reasons.proofs.DoubleComponents.{doubled_alone}
 use Rattle.worked_reasons.proofs.DoubleMembers.{not_used}
 use Rattle.worked_reasons.proofs.LoopComponents.{grows_nowhere}
-use Rattle.worked_reasons.proofs.WholeEnds.{solution_run, solution_untripped, solutions_same}
+use Rattle.worked_reasons.proofs.WholeEnds.{solution_run, solution_hits_no_limit, solutions_same}
 
 -- the side bounds of the place that doubles have their shape over the rows of the program
 doubled_up : HasLinearShape (setting_of doubling.program) 2 1 1 (form (pos 2 ∷ []) (pos 0)) []
@@ -204,7 +204,7 @@ alone_found = record {
   solution = solved;
   forms = refl;
   multipliers = refl;
-  untripped = record { each = solution_untripped (rank_program counted) 10 numbers 1 solved };
+  hits_no_limit = record { each = solution_hits_no_limit (rank_program counted) 10 numbers 1 solved };
 }
 
 -- the time that it composes of 201 levels is large

@@ -15,10 +15,10 @@ pub mod LoopComponents
 pub mod TwoTogether
 pub mod ProductComponents
 -- what was worked out by hand
-pub mod Trips
+pub mod HitsLimit
 pub mod SquareTimes
-pub mod FirstTrips
-pub mod PointTrips
+pub mod FirstHitsLimit
+pub mod PointHitsLimit
 pub mod Limits
 pub mod Scales
 pub mod UnboundedPlaces

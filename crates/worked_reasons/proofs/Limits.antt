@@ -17,18 +17,18 @@ use Rattle.its_model.specs.linear_forms.declared.limit_cause.LimitCause.TheVaria
 use Rattle.its_model.proofs.linear_forms.ListLaws.{length-listed}
 use Rattle.guard_prep.specs.Prepared.{prepared}
 use Rattle.guard_prep.specs.Tightening.{divisor_of}
-use Rattle.simplex_core.specs.Outcome.{IsInRange, IsSmallRatio, TripsRange}
+use Rattle.simplex_core.specs.Outcome.{IsInRange, IsSmallRatio, ExceedsNumberRange}
 use Rattle.simplex_core.specs.Problem.{table_size, widest}
 use Rattle.simplex_core.specs.Tableau.{Tableau, first_tableau, equation, cost, pivot}
-use Rattle.simplex_core.specs.Trips.{Trips}
+use Rattle.simplex_core.specs.HitsLimit.{HitsLimit}
 use Rattle.simplex_core.proofs.OneWholeAnswer.{causes-same}
 use Rattle.cert_types.specs.declared.answer.Question.TheVariants as asked
 use Rattle.cert_types.specs.cert_rules.AcceptsSizes.{Up}
 use Rattle.cert_types.specs.cert_rules.WorkedSettings.{rule_over}
 use Rattle.cert_types.specs.rule_forms.Kinds.{Number}
 use Rattle.rank_search.specs.rule_questions.EmptyAnswers.{empty_program}
-use Rattle.time_bounds.specs.ProgramRules.{EmptyTripsSo}
-use Rattle.time_bounds.specs.SizeWhys.{PlaceTripsSo}
+use Rattle.time_bounds.specs.ProgramRules.{EmptyHitsLimitSo}
+use Rattle.time_bounds.specs.SizeWhys.{PlaceHitsLimitSo}
 use Rattle.time_bounds.proofs.FreeValue.{of_rule}
 use Rattle.worked_reasons.specs.Limits.{at_least, with_free, limit_hit_by, LimitsAreWorkedOut}
 use Rattle.worked_reasons.proofs.DoubleRuns.{asked_of}
@@ -55,7 +55,7 @@ unfolding program_of_question first_tableau equation cost pivot divisor_of
 point_out r = not_small (r.each 1 0 (record { row = omega arith; column = omega arith; cost = λ l. omega (arith, l) }))
 
 -- so it is out of range before any pivot
-first_out : (p : LinearProgram) → (IsInRange p (first_tableau p) → ⊥) → TripsRange p 10 0
+first_out : (p : LinearProgram) → (IsInRange p (first_tableau p) → ⊥) → ExceedsNumberRange p 10 0
 first_out p out = record {
   within = omega arith;
   last = first_tableau p;
@@ -70,12 +70,12 @@ point_fits : table_size (empty_program (prepared huge_rule)) ≤ widest
 unfolding program_of_question divisor_of
 point_fits = fits_by (empty_program (prepared huge_rule)) refl
 
-point_range : Trips (empty_program (prepared huge_rule)) 10 (range 0)
+point_range : HitsLimit (empty_program (prepared huge_rule)) 10 (range 0)
 point_range = (point_fits, first_out (empty_program (prepared huge_rule)) point_out)
 
-not_later : EmptyTripsSo (at_least (pos 2147483648)) 10 1 (limit_hit_by (asked.Empty 1) (causes.Range 1)) → ⊥
+not_later : EmptyHitsLimitSo (at_least (pos 2147483648)) 10 1 (limit_hit_by (asked.Empty 1) (causes.Range 1)) → ⊥
 not_later h =
-    let late = of_rule (λ r. Trips (empty_program (prepared r)) 10 (range 1)) huge_rule h.rule h.numbered h.trips.1 in
+    let late = of_rule (λ r. HitsLimit (empty_program (prepared r)) 10 (range 1)) huge_rule h.rule h.numbered h.hits_limit.1 in
     other (causes-same (empty_program (prepared huge_rule)) 10 (range 1) (range 0) late point_range)
   where
     other : range 1 ≡ range 0 → ⊥
@@ -88,9 +88,9 @@ large_in =
     run_whole (empty_program (prepared large_rule)) 10 0 (whole_run (empty_program (prepared large_rule)) 10 0 refl) 0
     (omega arith)
 
-in_range : EmptyTripsSo (at_least (pos 2147483647)) 10 1 (limit_hit_by (asked.Empty 1) (causes.Range 0)) → ⊥
+in_range : EmptyHitsLimitSo (at_least (pos 2147483647)) 10 1 (limit_hit_by (asked.Empty 1) (causes.Range 0)) → ⊥
 in_range h =
-    let early = of_rule (λ r. Trips (empty_program (prepared r)) 10 (range 0)) large_rule h.rule h.numbered h.trips.1 in
+    let early = of_rule (λ r. HitsLimit (empty_program (prepared r)) 10 (range 0)) large_rule h.rule h.numbered h.hits_limit.1 in
     early.1.out
     (subst (λ (t : Tableau). IsInRange (empty_program (prepared large_rule)) t)
     (some_same (first_tableau (empty_program (prepared large_rule))) early.1.last early.1.reached.is) large_in)
@@ -104,11 +104,11 @@ number_fits : table_size (asked_of huge_rule Up Number) ≤ widest
 unfolding program_of_question divisor_of
 number_fits = fits_by (asked_of huge_rule Up Number) refl
 
-size_range : PlaceTripsSo (at_least (pos 2147483648)) 10 1 1 (limit_hit_by (asked.Local 1 1) (causes.Range 0))
+size_range : PlaceHitsLimitSo (at_least (pos 2147483648)) 10 1 1 (limit_hit_by (asked.Local 1 1) (causes.Range 0))
 size_range = record {
   rule = huge_rule;
   numbered = refl;
-  trips = inl (record {
+  hits_limit = inl (record {
     asked = refl;
     question = refl;
     first = inl (inl (tt, (number_fits, first_out (asked_of huge_rule Up Number) number_out)));
@@ -156,7 +156,7 @@ over_widest n many =
     let least : 200002 * 200004 ≤ (n + 2) * (n + 4) = mul-le-mul low high in
     omega (arith, least)
 
-wide_limit_hit : (n : ℕ) → 200000 ≤ n → Trips (empty_program (prepared (free_rule n))) 10 (wide ((n + 2) * (n + 4)))
+wide_limit_hit : (n : ℕ) → 200000 ≤ n → HitsLimit (empty_program (prepared (free_rule n))) 10 (wide ((n + 2) * (n + 4)))
 wide_limit_hit n many =
     (subst (λ (m : ℕ). widest < m) (sym (size_is n)) (over_widest n many), sym (size_is n))
 
@@ -168,9 +168,9 @@ below_widest n few =
     omega (arith, most)
 
 narrow : (n entries : ℕ) → n ≤ 100
-    → EmptyTripsSo (with_free n) 10 1 (limit_hit_by (asked.Empty 1) (causes.Wide entries)) → ⊥
+    → EmptyHitsLimitSo (with_free n) 10 1 (limit_hit_by (asked.Empty 1) (causes.Wide entries)) → ⊥
 narrow n entries few h =
-    let over = of_rule (λ r. Trips (empty_program (prepared r)) 10 (wide entries)) (free_rule n) h.rule h.numbered h.trips.1 in
+    let over = of_rule (λ r. HitsLimit (empty_program (prepared r)) 10 (wide entries)) (free_rule n) h.rule h.numbered h.hits_limit.1 in
     let above : widest < table_size (empty_program (prepared (free_rule n))) = over.0 in
     let at_most : table_size (empty_program (prepared (free_rule n))) ≤ widest =
     subst (λ (m : ℕ). m ≤ widest) (sym (size_is n)) (below_widest n few) in
@@ -178,10 +178,10 @@ narrow n entries few h =
 
 pub limits_worked : LimitsAreWorkedOut
 limits_worked = record {
-  range = record { rule = huge_rule; numbered = refl; trips = (refl, point_range) };
+  range = record { rule = huge_rule; numbered = refl; hits_limit = (refl, point_range) };
   not_later = not_later;
   in_range = in_range;
   size_range = λ b. size_range;
-  wide = λ n many. record { rule = free_rule n; numbered = refl; trips = (refl, wide_limit_hit n many) };
+  wide = λ n many. record { rule = free_rule n; numbered = refl; hits_limit = (refl, wide_limit_hit n many) };
   narrow = narrow;
 }

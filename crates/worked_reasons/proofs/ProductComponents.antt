@@ -11,7 +11,7 @@ use Rattle.its_model.specs.linear_forms.Questions.{program_of_question}
 use Rattle.guard_prep.specs.Prepared.{prepared}
 use Rattle.guard_prep.specs.Tightening.{divisor_of}
 use Rattle.simplex_core.specs.Tableau.{first_tableau, equation, cost, pivot}
-use Rattle.simplex_core.specs.Trips.{Trips}
+use Rattle.simplex_core.specs.HitsLimit.{HitsLimit}
 use Rattle.cert_types.specs.declared.answer.GuardFeasibility.TheVariants as empties
 use Rattle.cert_types.specs.declared.answer.Question.TheVariants as asked
 use Rattle.cert_types.specs.cert_rules.AcceptsPlain.{IsRule}
@@ -24,7 +24,7 @@ use Rattle.rvg_components.specs.Flows.{Locals, live_result_variables}
 use Rattle.rvg_components.specs.Listing.{HasFlow, AreComponents}
 use Rattle.bound_fixpoint.specs.Components.{IsDead, IsOneOf}
 use Rattle.bound_fixpoint.specs.Keys.{IsPlace, key, has_key}
-use Rattle.bound_fixpoint.specs.Searches.{EmptyTripped}
+use Rattle.bound_fixpoint.specs.Searches.{EmptyHitLimit}
 use Rattle.bound_fixpoint.proofs.Cases.{either}
 use Rattle.time_bounds.specs.ProgramRules.{IsEmptinessOf, IsEmptyRule}
 use Rattle.time_bounds.specs.ProgramSearches.{searches_of_program}
@@ -32,22 +32,22 @@ use Rattle.time_bounds.specs.ProgramSizes.{AreLive, IsLocalOf, AreLocals}
 use Rattle.time_bounds.specs.SizeWhys.{IsComponentOf}
 use Rattle.time_bounds.proofs.FreeValue.{of_rule}
 use Rattle.time_bounds.proofs.OneProgram.{program_searches_one}
-use Rattle.worked_reasons.specs.Programs.{tripped_at, product_rule, products, both_products}
+use Rattle.worked_reasons.specs.Programs.{limit_hit_at, product_rule, products, both_products}
 use Rattle.worked_reasons.proofs.LoopComponents.{one_live}
 use Rattle.worked_reasons.proofs.Runs.{budget_run}
 use Rattle.worked_reasons.proofs.TwoTogether.{LeadBoth, pair_listed, pair_is_listed}
 
 -- with no pivot allowed the question whether the rule has a point hits a limit
-point_trips : Trips (empty_program (prepared product_rule)) 0 (budget 0)
+point_hits_limit : HitsLimit (empty_program (prepared product_rule)) 0 (budget 0)
 unfolding program_of_question first_tableau equation cost pivot divisor_of
-point_trips = budget_run (empty_program (prepared product_rule)) 0 refl refl
+point_hits_limit = budget_run (empty_program (prepared product_rule)) 0 refl refl
 
-emptiness_trips : IsEmptinessOf products 0 1 (EmptyTripped (tripped_at 0 (asked.Empty 1)))
-emptiness_trips = (product_rule, refl, (empties.OutOfLimits (tripped_at 0 (asked.Empty 1)), refl, (refl, point_trips)))
+emptiness_hits_limit : IsEmptinessOf products 0 1 (EmptyHitLimit (limit_hit_at 0 (asked.Empty 1)))
+emptiness_hits_limit = (product_rule, refl, (empties.OutOfLimits (limit_hit_at 0 (asked.Empty 1)), refl, (refl, point_hits_limit)))
 
 not_empty : IsEmptyRule products 0 1 → ⊥
 not_empty h =
-    let same = (program_searches_one.each products 0).empties 1 _ _ h.1 emptiness_trips in
+    let same = (program_searches_one.each products 0).empties 1 _ _ h.1 emptiness_hits_limit in
     (let none : ⊥ = cc in none)
 
 the_rule : IsRule products 1

@@ -17,7 +17,7 @@ use Rattle.simplex_core.specs.Problem.{table_size, widest}
 use Rattle.simplex_core.specs.Search.{every}
 use Rattle.simplex_core.specs.Sizes.{number_limit}
 use Rattle.simplex_core.specs.Tableau.{Tableau, first_tableau}
-use Rattle.simplex_core.specs.Trips.{Trips}
+use Rattle.simplex_core.specs.HitsLimit.{HitsLimit}
 use Rattle.simplex_core.proofs.Searches.{every-each}
 
 -- both parts of a test pass
@@ -165,9 +165,9 @@ run_scale p allowed k r i low =
 
 -- if another tableau follows after the allowed pivots, and the tableaux that pass the test are in range, the program hits
 -- the limit on the number of pivots
-pub run_trips : (p : LinearProgram) (test : Tableau → Bool) (allowed : ℕ) → ((t : Tableau) → test t ≡ true → IsInRange p t)
-    → IsRun p test allowed allowed → is_there (tableau_at p (suc allowed)) ≡ true → Trips p allowed (budget allowed)
-run_trips p test allowed sound r onward = (
+pub run_hits_limit : (p : LinearProgram) (test : Tableau → Bool) (allowed : ℕ) → ((t : Tableau) → test t ≡ true → IsInRange p t)
+    → IsRun p test allowed allowed → is_there (tableau_at p (suc allowed)) ≡ true → HitsLimit p allowed (budget allowed)
+run_hits_limit p test allowed sound r onward = (
   r.fits,
   refl,
   record {
@@ -186,12 +186,12 @@ run_trips p test allowed sound r onward = (
 
 -- so it is where all tableaux so far have integers
 pub budget_run : (p : LinearProgram) (allowed : ℕ) → is_whole_run p allowed allowed ≡ true
-    → is_there (tableau_at p (suc allowed)) ≡ true → Trips p allowed (budget allowed)
-budget_run p allowed h onward = run_trips p (is_whole p) allowed (whole_in_range p) (whole_run p allowed allowed h) onward
+    → is_there (tableau_at p (suc allowed)) ≡ true → HitsLimit p allowed (budget allowed)
+budget_run p allowed h onward = run_hits_limit p (is_whole p) allowed (whole_in_range p) (whole_run p allowed allowed h) onward
 
 -- where none follows, it doesn't
 pub no_budget : (p : LinearProgram) (allowed n : ℕ) → is_there (tableau_at p (suc allowed)) ≡ false
-    → ¬ (Trips p allowed (budget n))
+    → ¬ (HitsLimit p allowed (budget n))
 no_budget p allowed n over h =
     no_is_not_yes (is_there (tableau_at p (suc allowed))) over
     (subst (λ (o : Option Tableau). is_there (next_of p o) ≡ true) (sym h.2.reached.is)

@@ -20,18 +20,18 @@ use Rattle.simplex_core.specs.Outcome.{EndsInfeasibly}
 use Rattle.simplex_core.specs.Problem.{table_size, widest}
 use Rattle.simplex_core.specs.Scaling.{AreOver, AreWithin, ExceedsDual}
 use Rattle.simplex_core.specs.Tableau.{first_tableau, equation, cost, pivot}
-use Rattle.simplex_core.specs.Trips.{Trips}
+use Rattle.simplex_core.specs.HitsLimit.{HitsLimit}
 use Rattle.simplex_core.proofs.OneWholeAnswer.{causes-same}
 use Rattle.simplex_core.proofs.Searches.{every-each}
 use Rattle.cert_types.specs.declared.answer.Question.TheVariants as asked
 use Rattle.cert_types.specs.declared.answer.LimitHit.{LimitHit}
 use Rattle.rank_search.specs.rule_questions.EmptyAnswers.{empty_program}
-use Rattle.time_bounds.specs.ProgramRules.{EmptyTripsSo}
+use Rattle.time_bounds.specs.ProgramRules.{EmptyHitsLimitSo}
 use Rattle.time_bounds.proofs.FreeValue.{of_rule}
 use Rattle.worked_reasons.specs.Limits.{limit_hit_by}
 use Rattle.worked_reasons.specs.Scales.{falling_below, below_multiple, ScalesAreWorkedOut}
 use Rattle.worked_reasons.proofs.SmallRuns.{fractions-sound, small_dual_run}
-use Rattle.worked_reasons.proofs.WholeEnds.{whole, infeasible_untripped}
+use Rattle.worked_reasons.proofs.WholeEnds.{whole, infeasible_hits_no_limit}
 
 -- 1 over a number above 0
 abbrev one_over : (m : ℤ) → pos 0 <ℤ m → Frac
@@ -136,20 +136,20 @@ large_exceeds numbers den over within =
     too_large b c positive e f low = omega (arith, ints, positive, e, f, low)
 
 -- so it hits the limit on the scale
-large_trips : Trips (empty_program (prepared large_rule)) 10 scale
-large_trips =
-    subst (λ (rows : List Form). Trips (program_of_rows large_rule rows) 10 scale) (sym large_rows)
+large_hits_limit : HitsLimit (empty_program (prepared large_rule)) 10 scale
+large_hits_limit =
+    subst (λ (rows : List Form). HitsLimit (program_of_rows large_rule rows) 10 scale) (sym large_rows)
     (large_ends.0, inr (record { dual = large_dual; k = 2; ends = large_ends.1; exceeds = large_exceeds }))
 
 -- and nothing else does
 no_other : (cause : LimitCause)
-    → EmptyTripsSo (below_multiple (pos 18837001) (pos 1867833)) 10 1 (limit_hit_by (asked.Empty 1) cause)
+    → EmptyHitsLimitSo (below_multiple (pos 18837001) (pos 1867833)) 10 1 (limit_hit_by (asked.Empty 1) cause)
     → cause ≡ causes.Scale
 no_other cause h =
     named cause
     (causes-same (empty_program (prepared large_rule)) 10 (cause_of cause) scale
-    (of_rule (λ r. Trips (empty_program (prepared r)) 10 (cause_of cause)) large_rule h.rule h.numbered h.trips.1)
-    large_trips)
+    (of_rule (λ r. HitsLimit (empty_program (prepared r)) 10 (cause_of cause)) large_rule h.rule h.numbered h.hits_limit.1)
+    large_hits_limit)
   where
     named : (c : LimitCause) → cause_of c ≡ scale → c ≡ causes.Scale
     named (causes.Range pivot) e = absurd (let none : ⊥ = cc in none)
@@ -206,20 +206,20 @@ small_within = record {
     at_most n h = omega (arith, h)
 
 -- so no limit is passed
-small_untripped : (c : Cause) → Trips (empty_program (prepared small_rule)) 10 c → ⊥
-small_untripped c trips =
-    infeasible_untripped small_program 10 2 small_dual small_point 8388608 small_ends.0 small_ends.1 small_over
+small_hits_no_limit : (c : Cause) → HitsLimit (empty_program (prepared small_rule)) 10 c → ⊥
+small_hits_no_limit c hits_limit =
+    infeasible_hits_no_limit small_program 10 2 small_dual small_point 8388608 small_ends.0 small_ends.1 small_over
     small_within c
-    (subst (λ (rows : List Form). Trips (program_of_rows small_rule rows) 10 c) small_rows trips)
+    (subst (λ (rows : List Form). HitsLimit (program_of_rows small_rule rows) 10 c) small_rows hits_limit)
 
-small : (limit_hit : LimitHit) → EmptyTripsSo (below_multiple (pos 8388608) (pos 4194304)) 10 1 limit_hit → ⊥
+small : (limit_hit : LimitHit) → EmptyHitsLimitSo (below_multiple (pos 8388608) (pos 4194304)) 10 1 limit_hit → ⊥
 small limit_hit h =
-    small_untripped (cause_of limit_hit.cause)
-    (of_rule (λ r. Trips (empty_program (prepared r)) 10 (cause_of limit_hit.cause)) small_rule h.rule h.numbered h.trips.1)
+    small_hits_no_limit (cause_of limit_hit.cause)
+    (of_rule (λ r. HitsLimit (empty_program (prepared r)) 10 (cause_of limit_hit.cause)) small_rule h.rule h.numbered h.hits_limit.1)
 
 pub scales_worked : ScalesAreWorkedOut
 scales_worked = record {
-  scale = record { rule = large_rule; numbered = refl; trips = (refl, large_trips) };
+  scale = record { rule = large_rule; numbered = refl; hits_limit = (refl, large_hits_limit) };
   no_other = no_other;
   small = small;
 }

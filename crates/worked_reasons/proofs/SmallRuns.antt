@@ -25,12 +25,12 @@ use Rattle.simplex_core.specs.Problem.{table_size, widest}
 use Rattle.simplex_core.specs.Search.{every}
 use Rattle.simplex_core.specs.Sizes.{number_limit}
 use Rattle.simplex_core.specs.Tableau.{Tableau, cost_row}
-use Rattle.simplex_core.specs.Trips.{Trips}
+use Rattle.simplex_core.specs.HitsLimit.{HitsLimit}
 use Rattle.simplex_core.proofs.Choices.{int_lt-true}
 use Rattle.simplex_core.proofs.Ends.{infeasibility-ends}
 use Rattle.simplex_core.proofs.Searches.{every-each}
 use Rattle.worked_reasons.proofs.Runs.{passes_both, are_same, same-sound, tableau_after}
-use Rattle.worked_reasons.proofs.Runs.{is_there, is_run, run-sound, run_in_range, run_after, run_trips}
+use Rattle.worked_reasons.proofs.Runs.{is_there, is_run, run-sound, run_in_range, run_after, run_hits_limit}
 
 -- a numerator in lowest terms is no larger than that of another fraction of the same value, and so is the denominator
 lowest_least : (n d a b : ℤ) → IsLowest n d → b ≢ pos 0 → n *ℤ b ≡ a *ℤ d
@@ -116,9 +116,9 @@ small_in_range gs p t h = record {
 -- if another tableau follows after the allowed pivots, and factors show that all so far are in range, the program hits the
 -- limit on the number of pivots
 pub small_budget_run : (gs : List ℤ) (p : LinearProgram) (allowed : ℕ) → is_run p (is_small gs p) allowed allowed ≡ true
-    → is_there (tableau_at p (suc allowed)) ≡ true → Trips p allowed (budget allowed)
+    → is_there (tableau_at p (suc allowed)) ≡ true → HitsLimit p allowed (budget allowed)
 small_budget_run gs p allowed h onward =
-    run_trips p (is_small gs p) allowed (small_in_range gs p) (run-sound p (is_small gs p) allowed allowed h) onward
+    run_hits_limit p (is_small gs p) allowed (small_in_range gs p) (run-sound p (is_small gs p) allowed allowed h) onward
 
 -- whether fractions are those of numbers over a denominator
 abbrev pub are_fractions : List Frac → (ℕ → ℤ) → ℤ → Bool

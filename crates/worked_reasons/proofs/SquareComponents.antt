@@ -15,7 +15,7 @@ use Rattle.local_size.specs.LocalAnswers.{HasBound, both_polynomial}
 use Rattle.local_size.specs.Places.{is_polynomial_at}
 use Rattle.bound_fixpoint.specs.Components.{IsDead, IsOneOf}
 use Rattle.bound_fixpoint.specs.Keys.{IsPlace, key, has_key}
-use Rattle.bound_fixpoint.specs.Searches.{EmptyTripped}
+use Rattle.bound_fixpoint.specs.Searches.{EmptyHitLimit}
 use Rattle.bound_fixpoint.proofs.Cases.{either}
 use Rattle.time_bounds.specs.ProgramRules.{IsEmptinessOf, IsEmptyRule}
 use Rattle.time_bounds.specs.ProgramSearches.{searches_of_program}
@@ -23,20 +23,20 @@ use Rattle.time_bounds.specs.ProgramSizes.{AreLive, IsLocalOf, AreLocals}
 use Rattle.time_bounds.specs.SizeWhys.{IsComponentOf}
 use Rattle.time_bounds.proofs.FreeValue.{of_rule}
 use Rattle.time_bounds.proofs.OneProgram.{program_searches_one}
-use Rattle.worked_reasons.specs.Programs.{tripped_at, squaring_to, squares, square_after, two_components}
+use Rattle.worked_reasons.specs.Programs.{limit_hit_at, squaring_to, squares, square_after, two_components}
 use Rattle.worked_reasons.specs.Squares.{ComponentsOfSquares}
 use Rattle.worked_reasons.proofs.SquareFlows.{both_live, square_locals, squares_apart}
-use Rattle.worked_reasons.proofs.Trips.{point_trips}
+use Rattle.worked_reasons.proofs.HitsLimit.{point_hits_limit}
 
 -- with no pivot allowed the questions whether the rules have a point hit a limit
-emptiness_trips : (t target : ℕ) → rule_at squares t ≡ Some (squaring_to target)
-    → IsEmptinessOf squares 0 t (EmptyTripped (tripped_at 0 (asked.Empty t)))
-emptiness_trips t target e =
-    (squaring_to target, e, (empties.OutOfLimits (tripped_at 0 (asked.Empty t)), refl, (refl, point_trips target)))
+emptiness_hits_limit : (t target : ℕ) → rule_at squares t ≡ Some (squaring_to target)
+    → IsEmptinessOf squares 0 t (EmptyHitLimit (limit_hit_at 0 (asked.Empty t)))
+emptiness_hits_limit t target e =
+    (squaring_to target, e, (empties.OutOfLimits (limit_hit_at 0 (asked.Empty t)), refl, (refl, point_hits_limit target)))
 
 not_empty : (t target : ℕ) → rule_at squares t ≡ Some (squaring_to target) → IsEmptyRule squares 0 t → ⊥
 not_empty t target e h =
-    let same = (program_searches_one.each squares 0).empties t _ _ h.1 (emptiness_trips t target e) in
+    let same = (program_searches_one.each squares 0).empties t _ _ h.1 (emptiness_hits_limit t target e) in
     (let none : ⊥ = cc in none)
 
 -- what holds of both rules holds of each

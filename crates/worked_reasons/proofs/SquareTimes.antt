@@ -11,7 +11,7 @@ use Rattle.its_model.specs.linear_forms.Causes.{budget}
 use Rattle.its_model.specs.linear_forms.Questions.{program_of_question}
 use Rattle.guard_prep.specs.Tightening.{divisor_of}
 use Rattle.simplex_core.specs.Tableau.{first_tableau, equation, cost, pivot}
-use Rattle.simplex_core.specs.Trips.{Trips}
+use Rattle.simplex_core.specs.HitsLimit.{HitsLimit}
 use Rattle.cert_types.specs.declared.answer.Question.TheVariants as asked
 use Rattle.cert_types.specs.cert_rules.Gaps.{SymbolPlace}
 use Rattle.cert_types.proofs.cert_rules.WorkedAccepted.{of_one, of_two}
@@ -21,8 +21,8 @@ use Rattle.bound_fixpoint.specs.Keys.{IsPlace, is_untimed}
 use Rattle.bound_fixpoint.specs.Sets.{IsSetOfRule, IsShut, AreShutOf}
 use Rattle.bound_fixpoint.proofs.ListMembers.{contains-none}
 use Rattle.time_bounds.proofs.FreeValue.{of_rule}
-use Rattle.time_bounds.specs.TimeWhys.{IsSought, RankTripsSo}
-use Rattle.worked_reasons.specs.Programs.{tripped_at, squaring_to, squares}
+use Rattle.time_bounds.specs.TimeWhys.{IsSought, RankHitsLimitSo}
+use Rattle.worked_reasons.specs.Programs.{limit_hit_at, squaring_to, squares}
 use Rattle.worked_reasons.specs.Squares.{squares_said}
 use Rattle.worked_reasons.proofs.Runs.{budget_run}
 
@@ -117,29 +117,29 @@ none_shut set unshut = record {
 }
 
 -- both linear programs need a pivot
-pub first_trips : Trips (rank_program (ranked_set squares (1 ∷ []) 1 [])) 0 (budget 0)
+pub first_hits_limit : HitsLimit (rank_program (ranked_set squares (1 ∷ []) 1 [])) 0 (budget 0)
 unfolding program_of_question first_tableau equation cost pivot divisor_of
-first_trips = budget_run (rank_program (ranked_set squares (1 ∷ []) 1 [])) 0 refl refl
+first_hits_limit = budget_run (rank_program (ranked_set squares (1 ∷ []) 1 [])) 0 refl refl
 
-second_trips : Trips (rank_program (ranked_set squares (1 ∷ 2 ∷ []) 2 [])) 0 (budget 0)
+second_hits_limit : HitsLimit (rank_program (ranked_set squares (1 ∷ 2 ∷ []) 2 [])) 0 (budget 0)
 unfolding program_of_question first_tableau equation cost pivot divisor_of
-second_trips = budget_run (rank_program (ranked_set squares (1 ∷ 2 ∷ []) 2 [])) 0 refl refl
+second_hits_limit = budget_run (rank_program (ranked_set squares (1 ∷ 2 ∷ []) 2 [])) 0 refl refl
 
 pub first_sought : IsSought squares squares_said 1 (1 ∷ []) []
 first_sought = record { is_set = first_set; are_shut = none_shut (1 ∷ []) first_open }
 
-pub first_time : RankTripsSo squares 0 squares_said 1 (tripped_at 0 (asked.Rank 1))
+pub first_time : RankHitsLimitSo squares 0 squares_said 1 (limit_hit_at 0 (asked.Rank 1))
 first_time = record {
   set = 1 ∷ [];
   shut = [];
   sought = first_sought;
-  trips = inl (record { question = refl; trips = first_trips });
+  hits_limit = inl (record { question = refl; hits_limit = first_hits_limit });
 }
 
-pub second_time : RankTripsSo squares 0 squares_said 2 (tripped_at 0 (asked.Rank 2))
+pub second_time : RankHitsLimitSo squares 0 squares_said 2 (limit_hit_at 0 (asked.Rank 2))
 second_time = record {
   set = 1 ∷ 2 ∷ [];
   shut = [];
   sought = record { is_set = second_set; are_shut = none_shut (1 ∷ 2 ∷ []) second_open };
-  trips = inl (record { question = refl; trips = second_trips });
+  hits_limit = inl (record { question = refl; hits_limit = second_hits_limit });
 }

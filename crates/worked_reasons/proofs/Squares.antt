@@ -16,14 +16,14 @@ use Rattle.cert_types.specs.cert_rules.WorkedReasons.{tower}
 use Rattle.cert_types.proofs.cert_rules.WorkedSizes.{below_one}
 use Rattle.cert_types.specs.cert_program.Setting.{setting_of}
 use Rattle.outcome.specs.Holding.{numbered_entry, place_entry}
-use Rattle.outcome.specs.Reports.{NoTime, TimeTripped, Untimed, NoSize, SizeMissing, SizeNonlinear, Unsized, Uncosted}
+use Rattle.outcome.specs.Reports.{NoTime, TimeHitLimit, Untimed, NoSize, SizeMissing, SizeNonlinear, Unsized, Uncosted}
 use Rattle.bound_fixpoint.specs.Keys.{Bounds, key, over}
 use Rattle.bound_fixpoint.specs.Loops.{do_loop}
 use Rattle.time_bounds.specs.CostWhys.{HasNoCost}
 use Rattle.time_bounds.specs.SaidBounds.{bounds_said}
 use Rattle.time_bounds.specs.SizeWhys.{RestsOnSize, BendsAt, SizeIsLarge, composed_size, HasNoSize}
 use Rattle.time_bounds.specs.TimeWhys.{HasNoTime}
-use Rattle.worked_reasons.specs.Programs.{tripped_at, squaring_to, squares, square, square_after, squares_report}
+use Rattle.worked_reasons.specs.Programs.{limit_hit_at, squaring_to, squares, square, square_after, squares_report}
 use Rattle.worked_reasons.specs.Programs.{bending_report}
 use Rattle.worked_reasons.specs.Squares.{squares_said, towering_said, SquaresAreWorkedOut}
 use Rattle.worked_reasons.proofs.SquareComponents.{components}
@@ -187,10 +187,10 @@ whole_times : (t : ℕ) (why : NoTime) → numbered_entry squares_report.times t
     → HasNoTime squares 0 squares_said t why
 whole_times zero why e = absurd (none_some (Untimed why) e)
 whole_times (suc zero) why e =
-    let same : TimeTripped (tripped_at 0 (asked.Rank 1)) ≡ why = cc in
+    let same : TimeHitLimit (limit_hit_at 0 (asked.Rank 1)) ≡ why = cc in
     subst (λ (w : NoTime). HasNoTime squares 0 squares_said 1 w) same first_time
 whole_times (suc (suc zero)) why e =
-    let same : TimeTripped (tripped_at 0 (asked.Rank 2)) ≡ why = cc in
+    let same : TimeHitLimit (limit_hit_at 0 (asked.Rank 2)) ≡ why = cc in
     subst (λ (w : NoTime). HasNoTime squares 0 squares_said 2 w) same second_time
 whole_times (suc (suc (suc t))) why e = absurd (none_some (Untimed why) e)
 

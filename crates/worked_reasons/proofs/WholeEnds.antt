@@ -23,7 +23,7 @@ use Rattle.simplex_core.specs.Scaling.{AreOver, AreScaled, AreWithin}
 use Rattle.simplex_core.specs.Search.{every, some}
 use Rattle.simplex_core.specs.Sizes.{number_limit}
 use Rattle.simplex_core.specs.Tableau.{Tableau, unknowns, cost_row}
-use Rattle.simplex_core.specs.Trips.{IsScaledSolution, IsScaledDual, Trips}
+use Rattle.simplex_core.specs.HitsLimit.{IsScaledSolution, IsScaledDual, HitsLimit}
 use Rattle.simplex_core.proofs.Ends.{optimum-ends, infeasibility-ends}
 use Rattle.simplex_core.proofs.OneAnswer.{optimal-stops, infeasible-stops, optimal-same, infeasible-same, ends-apart}
 use Rattle.simplex_core.proofs.OneAnswer.{range-apart, budget-apart, optimal-last, infeasible-last}
@@ -293,41 +293,41 @@ pub solution_run : (p : LinearProgram) (allowed k : ℕ) (zs : List ℤ) (basis 
 solution_run p allowed k zs basis h = solution_given p allowed k zs basis (solution_parts p allowed k zs basis h)
 
 -- what ends as infeasible with fractions that small integers stand for exceeds no limit
-pub infeasible_untripped : (p : LinearProgram) (allowed k : ℕ) (fs : List Frac) (zs : List ℤ) (den : ℕ)
+pub infeasible_hits_no_limit : (p : LinearProgram) (allowed k : ℕ) (fs : List Frac) (zs : List ℤ) (den : ℕ)
     → table_size p ≤ widest → EndsInfeasibly p allowed fs k → AreOver fs (length fs) zs den
-    → AreWithin point_limit (length fs) zs → (c : Cause) → ¬ (Trips p allowed c)
-infeasible_untripped p allowed k fs zs den fits ends over within (range m) t =
+    → AreWithin point_limit (length fs) zs → (c : Cause) → ¬ (HitsLimit p allowed c)
+infeasible_hits_no_limit p allowed k fs zs den fits ends over within (range m) t =
     range-apart p allowed k m ends.last ends.in_range (infeasible-stops p allowed k fs ends) t.1
-infeasible_untripped p allowed k fs zs den fits ends over within (budget m) t =
+infeasible_hits_no_limit p allowed k fs zs den fits ends over within (budget m) t =
     budget-apart p allowed k ends.last (infeasible-last p ends.last ends.infeasible)
     (infeasible-stops p allowed k fs ends) t.2
-infeasible_untripped p allowed k fs zs den fits ends over within (wide n) t = let low = t.0 in omega (arith, low, fits)
-infeasible_untripped p allowed k fs zs den fits ends over within scale (w, inl t) =
+infeasible_hits_no_limit p allowed k fs zs den fits ends over within (wide n) t = let low = t.0 in omega (arith, low, fits)
+infeasible_hits_no_limit p allowed k fs zs den fits ends over within scale (w, inl t) =
     ends-apart p allowed t.k k t.at t.basis fs t.ends ends
-infeasible_untripped p allowed k fs zs den fits ends over within scale (w, inr t) =
+infeasible_hits_no_limit p allowed k fs zs den fits ends over within scale (w, inr t) =
     let same = (infeasible-same p allowed k t.k fs t.dual ends t.ends).0 in
     t.exceeds zs den (over-same fs t.dual zs den same over)
     (record { each = λ j l. within.each j (let a = same.lengths in omega (arith, l, a)) })
 
 -- so what is answered by a dual passes none
-pub dual_untripped : (p : LinearProgram) (allowed : ℕ) (zs : List ℤ) (den : ℕ) → IsScaledDual p allowed zs den
-    → (c : Cause) → ¬ (Trips p allowed c)
-dual_untripped p allowed zs den s =
-    infeasible_untripped p allowed s.k s.dual zs den s.fits s.ends s.scaled.over
+pub dual_hits_no_limit : (p : LinearProgram) (allowed : ℕ) (zs : List ℤ) (den : ℕ) → IsScaledDual p allowed zs den
+    → (c : Cause) → ¬ (HitsLimit p allowed c)
+dual_hits_no_limit p allowed zs den s =
+    infeasible_hits_no_limit p allowed s.k s.dual zs den s.fits s.ends s.scaled.over
     (record { each = λ j l. s.within.each j (let b = s.scaled.lengths in omega (arith, l, b)) })
 
 -- and neither does what is answered by a solution
-pub solution_untripped : (p : LinearProgram) (allowed : ℕ) (zs : List ℤ) (den : ℕ) → IsScaledSolution p allowed zs den
-    → (c : Cause) → ¬ (Trips p allowed c)
-solution_untripped p allowed zs den s (range m) t =
+pub solution_hits_no_limit : (p : LinearProgram) (allowed : ℕ) (zs : List ℤ) (den : ℕ) → IsScaledSolution p allowed zs den
+    → (c : Cause) → ¬ (HitsLimit p allowed c)
+solution_hits_no_limit p allowed zs den s (range m) t =
     range-apart p allowed s.k m s.ends.last s.ends.in_range (optimal-stops p allowed s.k s.point s.basis s.ends) t.1
-solution_untripped p allowed zs den s (budget m) t =
+solution_hits_no_limit p allowed zs den s (budget m) t =
     budget-apart p allowed s.k s.ends.last (optimal-last p s.ends.last s.ends.feasible s.ends.done)
     (optimal-stops p allowed s.k s.point s.basis s.ends) t.2
-solution_untripped p allowed zs den s (wide n) t = let low = t.0 in let fits = s.fits in omega (arith, low, fits)
-solution_untripped p allowed zs den s scale (w, inr t) =
+solution_hits_no_limit p allowed zs den s (wide n) t = let low = t.0 in let fits = s.fits in omega (arith, low, fits)
+solution_hits_no_limit p allowed zs den s scale (w, inr t) =
     ends-apart p allowed s.k t.k s.point s.basis t.dual s.ends t.ends
-solution_untripped p allowed zs den s scale (w, inl t) =
+solution_hits_no_limit p allowed zs den s scale (w, inl t) =
     let same = (optimal-same p allowed s.k t.k s.point t.at s.basis t.basis s.ends t.ends).0 in
     t.exceeds zs den (over-same s.point t.at zs den same s.scaled.over) (record {
       each = λ j l. s.within.each j (let a = same.lengths in let b = s.scaled.lengths in omega (arith, l, a, b));

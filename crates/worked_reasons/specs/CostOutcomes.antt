@@ -15,13 +15,13 @@ use Rattle.cert_types.specs.declared.answer.GuardFeasibility.TheVariants as feas
 use Rattle.cert_types.specs.declared.answer.LimitHit.{LimitHit}
 use Rattle.cert_types.specs.declared.answer.Question.TheVariants as asked
 use Rattle.cert_types.specs.declared.proof.EmptyNode.{EmptyNode}
-use Rattle.local_size.specs.LocalAnswers.{Local, HasTripped}
-use Rattle.outcome.specs.Reports.{SizeUnbounded, SizeTripped, SizeMissing}
+use Rattle.local_size.specs.LocalAnswers.{Local, HasHitLimit}
+use Rattle.outcome.specs.Reports.{SizeUnbounded, SizeHitLimit, SizeMissing}
 use Rattle.bound_fixpoint.specs.Keys.{key}
 use Rattle.cost_bounds.specs.CostOutcomes.{CostOutcome, CostQuestion, BoundedBy, NotBounded}
 use Rattle.cost_bounds.specs.CostOutcomes.{FeasibleTo, StepTo, IsCostOf}
 use Rattle.cost_bounds.specs.WorkedCosts.{by_A, known_as, no_size, once, own_size, paying_over, up_to}
-use Rattle.worked_reasons.specs.Programs.{tripped_at}
+use Rattle.worked_reasons.specs.Programs.{limit_hit_at}
 
 -- no rule ever occurs
 abbrev pub never : ℕ → Option Bound
@@ -42,7 +42,7 @@ abbrev pub AtMostA : Local → Type 0
 AtMostA step = step ≡ up_to by_A
 
 abbrev pub Exceeds : LimitHit → Local → Type 0
-Exceeds x step = step ≡ HasTripped x
+Exceeds x step = step ≡ HasHitLimit x
 
 -- rows without a point come first, also where the rule never occurs; then a time of 0, whatever is answered of one
 -- step, also where the linear program for a point exceeds a limit. That limit is no reason by itself: where one step
@@ -56,15 +56,15 @@ pub record RowsAreWorkedOut : Type 0 where
   pub never_past_limit : (x : LimitHit)
       → FeasibleTo never_entering Unanswered (feasible.OutOfLimits x) (BoundedBy NeverCost)
   pub not_limit : (x : LimitHit)
-      → ¬ (FeasibleTo never_entering Unanswered (feasible.OutOfLimits x) (NotBounded (SizeTripped x)))
+      → ¬ (FeasibleTo never_entering Unanswered (feasible.OutOfLimits x) (NotBounded (SizeHitLimit x)))
   pub bounded_past_limit : (x : LimitHit)
       → FeasibleTo entering_once AtMostA (feasible.OutOfLimits x) (BoundedBy (SideBoundCost by_A))
   pub not_empty : (x : LimitHit) (multipliers : List ℕ)
       → ¬ (FeasibleTo entering_once AtMostA (feasible.OutOfLimits x) (BoundedBy (EmptyCost multipliers)))
   pub limit_of_point : (x : LimitHit) → FeasibleTo entering_once (Exceeds x) (feasible.OutOfLimits x)
-      (NotBounded (SizeTripped (record { question = asked.Cost 1; cause = x.cause })))
+      (NotBounded (SizeHitLimit (record { question = asked.Cost 1; cause = x.cause })))
   pub not_of_point : (x : LimitHit) → x.question ≡ asked.Empty 1
-      → ¬ (FeasibleTo entering_once (Exceeds x) (feasible.OutOfLimits x) (NotBounded (SizeTripped x)))
+      → ¬ (FeasibleTo entering_once (Exceeds x) (feasible.OutOfLimits x) (NotBounded (SizeHitLimit x)))
 
 -- A + B as an upper bound on the cost of a round
 abbrev pub by_both : SideBound
@@ -150,11 +150,11 @@ IsOutcome p o = IsCostOf p 1 (known_as once no_size) 1 o
 -- unbounded isn't known, and the limit is reported, by the question of the cost and not by that of the point
 pub record LimitsOfCostsAreWorkedOut : Type 0 where
   pub both_sides : IsOutcome (program_above five) (BoundedBy (SideBoundCost by_five))
-  pub not_of_five : (x : LimitHit) → ¬ (IsOutcome (program_above five) (NotBounded (SizeTripped x)))
-  pub low_side : IsOutcome (program_above one_less) (NotBounded (SizeTripped (tripped_at 1 (asked.Cost 1))))
+  pub not_of_five : (x : LimitHit) → ¬ (IsOutcome (program_above five) (NotBounded (SizeHitLimit x)))
+  pub low_side : IsOutcome (program_above one_less) (NotBounded (SizeHitLimit (limit_hit_at 1 (asked.Cost 1))))
   pub not_up_alone : (by : CostBy) → ¬ (IsOutcome (program_above one_less) (BoundedBy by))
-  pub neither_side : IsOutcome squared_free (NotBounded (SizeTripped (tripped_at 1 (asked.Cost 1))))
-  pub not_of_rows : ¬ (IsOutcome squared_free (NotBounded (SizeTripped (tripped_at 1 (asked.Empty 1)))))
+  pub neither_side : IsOutcome squared_free (NotBounded (SizeHitLimit (limit_hit_at 1 (asked.Cost 1))))
+  pub not_of_rows : ¬ (IsOutcome squared_free (NotBounded (SizeHitLimit (limit_hit_at 1 (asked.Empty 1)))))
   pub not_unbounded : (side : Side) (ray : List ℤ) (kept : ScaledPoint)
       → ¬ (IsOutcome squared_free (NotBounded (SizeUnbounded side ray kept)))
 

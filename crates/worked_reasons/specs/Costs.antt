@@ -4,7 +4,7 @@ use Rattle.std.specs.Prelude.{[], ◌∷◌}
 use Rattle.model.specs.Programs.{Program, Rule}
 use Rattle.model.specs.Terms.{Variable}
 use Rattle.model.specs.WorkedCosts.{with_cost}
-use Rattle.outcome.specs.Reports.{SizeUnbounded, SizeTripped}
+use Rattle.outcome.specs.Reports.{SizeUnbounded, SizeHitLimit}
 use Rattle.cert_types.specs.declared.answer.Question.TheVariants as asked
 use Rattle.cert_types.specs.cert_program.WorkedGaps.{looping}
 use Rattle.cert_types.specs.cert_rules.AcceptsSizes.{Up, Low}
@@ -12,7 +12,7 @@ use Rattle.cert_types.specs.cert_rules.WorkedSettings.{rule_over, program_with}
 use Rattle.bound_fixpoint.specs.Keys.{Bounds}
 use Rattle.time_bounds.specs.CostWhys.{HasNoCost}
 use Rattle.time_bounds.specs.WorkedReports.{along_free, from_one}
-use Rattle.worked_reasons.specs.Programs.{tripped_at}
+use Rattle.worked_reasons.specs.Programs.{limit_hit_at}
 
 -- k(A) -> l(A), which costs C
 abbrev pub paying_rule : Rule
@@ -27,6 +27,6 @@ paying = program_with (paying_rule ∷ [])
 pub record CostsAreWorkedOut : Type 0 where
   pub unbounded : (b : Bounds) → HasNoCost paying 10 b 1 (SizeUnbounded Up along_free from_one)
   pub not_below : (b : Bounds) → ¬ (HasNoCost paying 10 b 1 (SizeUnbounded Low along_free from_one))
-  pub exceeds : (b : Bounds) → HasNoCost paying 0 b 1 (SizeTripped (tripped_at 0 (asked.Cost 1)))
-  pub not_of_a_place : (b : Bounds) → ¬ (HasNoCost paying 0 b 1 (SizeTripped (tripped_at 0 (asked.Local 1 1))))
-  pub no_cost : (b : Bounds) → ¬ (HasNoCost looping 0 b 1 (SizeTripped (tripped_at 0 (asked.Cost 1))))
+  pub exceeds : (b : Bounds) → HasNoCost paying 0 b 1 (SizeHitLimit (limit_hit_at 0 (asked.Cost 1)))
+  pub not_of_a_place : (b : Bounds) → ¬ (HasNoCost paying 0 b 1 (SizeHitLimit (limit_hit_at 0 (asked.Local 1 1))))
+  pub no_cost : (b : Bounds) → ¬ (HasNoCost looping 0 b 1 (SizeHitLimit (limit_hit_at 0 (asked.Cost 1))))

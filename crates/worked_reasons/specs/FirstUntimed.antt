@@ -3,7 +3,7 @@ use Rattle.std.specs.Prelude.{ℕ, List, [], ◌∷◌, pos, negsuc, None}
 use Rattle.model.specs.Bounds.{Constant}
 use Rattle.model.specs.Programs.{Rule, Program}
 use Rattle.model.specs.Terms.{Literal, Variable, Addition}
-use Rattle.outcome.specs.Reports.{TimeTripped, Timed, Untimed, SizeUntimed, Unsized, Time}
+use Rattle.outcome.specs.Reports.{TimeHitLimit, Timed, Untimed, SizeUntimed, Unsized, Time}
 use Rattle.cert_types.specs.declared.answer.Question.TheVariants as asked
 use Rattle.cert_types.specs.cert_rules.Nodes.{Member}
 use Rattle.cert_types.specs.cert_rules.Worked.{side_bound}
@@ -12,7 +12,7 @@ use Rattle.cert_types.specs.cert_program.Setting.{setting_of}
 use Rattle.bound_fixpoint.specs.Keys.{Bounds, key}
 use Rattle.time_bounds.specs.SaidBounds.{bounds_said}
 use Rattle.time_bounds.specs.SizeWhys.{LacksFirst}
-use Rattle.worked_reasons.specs.Programs.{tripped_at}
+use Rattle.worked_reasons.specs.Programs.{limit_hit_at}
 
 abbrev pub growing_rule : Rule
 growing_rule = rule_over 0 0 0 (Addition (Variable 0) (Literal (pos 1))) []
@@ -42,7 +42,7 @@ bounds_with first second = bounds_said growing_twice
 
 -- a time that isn't known
 abbrev pub unknown : ℕ → Time
-unknown rule = Untimed (TimeTripped (tripped_at 0 (asked.Rank rule)))
+unknown rule = Untimed (TimeHitLimit (limit_hit_at 0 (asked.Rank rule)))
 
 -- where neither rule has a time, the first one is reported and not the second; where the first one has a time, the
 -- second one is reported, and not the first

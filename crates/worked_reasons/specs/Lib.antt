@@ -1,9 +1,9 @@
 -- values that were worked out by hand
 pub mod Programs
-pub mod Trips
+pub mod HitsLimit
 pub mod Squares
-pub mod FirstTrips
-pub mod PointTrips
+pub mod FirstHitsLimit
+pub mod PointHitsLimit
 pub mod Limits
 pub mod Scales
 pub mod UnboundedPlaces

@@ -6,7 +6,7 @@ use Rattle.model.specs.Polynomials.{Polynomial}
 use Rattle.model.specs.Programs.{AtLeast, AtMost, Compare, Rule, Program}
 use Rattle.model.specs.Terms.{Literal, Variable, Multiplication}
 use Rattle.its_model.specs.linear_forms.declared.limit_cause.LimitCause.TheVariants as causes
-use Rattle.outcome.specs.Reports.{TimeTripped, TimeLarge, Timed, Untimed, SizeMissing, SizeNonlinear, SizeUntimed, SizeLarge}
+use Rattle.outcome.specs.Reports.{TimeHitLimit, TimeLarge, Timed, Untimed, SizeMissing, SizeNonlinear, SizeUntimed, SizeLarge}
 use Rattle.outcome.specs.Reports.{Sized, Unsized, Report}
 use Rattle.cert_types.specs.declared.answer.Question.{Question}
 use Rattle.cert_types.specs.declared.answer.Question.TheVariants as asked
@@ -22,8 +22,8 @@ abbrev pub doubling_rule : Rule
 doubling_rule = rule_over 1 1 0 (Multiplication (Literal (pos 2)) (Variable 0)) []
 
 -- the question exceeded the limit of this many pivots
-abbrev pub tripped_at : ℕ → Question → LimitHit
-tripped_at pivots question = record { question = question; cause = causes.Budget pivots }
+abbrev pub limit_hit_at : ℕ → Question → LimitHit
+limit_hit_at pivots question = record { question = question; cause = causes.Budget pivots }
 
 -- from k to a symbol, squaring the argument, where it is at most 0
 abbrev pub squaring_to : ℕ → Rule
@@ -75,7 +75,7 @@ both_products = record { result_variable = key 1 1; local = both_polynomial } �
 -- within no pivots the rule has no time, and the first place bends
 abbrev pub products_report : Report
 products_report = record {
-  times = Untimed (TimeTripped (tripped_at 0 (asked.Rank 1))) ∷ [];
+  times = Untimed (TimeHitLimit (limit_hit_at 0 (asked.Rank 1))) ∷ [];
   costs = None ∷ [];
   total = None;
   sizes = (Unsized (SizeNonlinear (key 1 1)) ∷ Unsized (SizeNonlinear (key 1 1)) ∷ []) ∷ [];
@@ -102,8 +102,8 @@ two_components = (key 1 1 ∷ []) ∷ (key 2 1 ∷ []) ∷ []
 -- within no pivots no rule has a time; the first place squares itself, and the second takes it over
 abbrev pub squares_report : Report
 squares_report = record {
-  times = Untimed (TimeTripped (tripped_at 0 (asked.Rank 1)))
-      ∷ Untimed (TimeTripped (tripped_at 0 (asked.Rank 2))) ∷ [];
+  times = Untimed (TimeHitLimit (limit_hit_at 0 (asked.Rank 1)))
+      ∷ Untimed (TimeHitLimit (limit_hit_at 0 (asked.Rank 2))) ∷ [];
   costs = None ∷ None ∷ [];
   total = None;
   sizes = (Unsized (SizeNonlinear (key 1 1)) ∷ []) ∷ (Unsized (SizeMissing (key 1 1)) ∷ []) ∷ [];
@@ -131,7 +131,7 @@ towering_report = record {
 -- it
 abbrev pub growing_report : Report
 growing_report = record {
-  times = Timed (Constant 1) ∷ Untimed (TimeTripped (tripped_at 0 (asked.Rank 2))) ∷ [];
+  times = Timed (Constant 1) ∷ Untimed (TimeHitLimit (limit_hit_at 0 (asked.Rank 2))) ∷ [];
   costs = None ∷ None ∷ [];
   total = None;
   sizes = (Sized (Input 0) ∷ []) ∷ (Unsized (SizeUntimed 2) ∷ []) ∷ [];
@@ -140,8 +140,8 @@ growing_report = record {
 -- the same where neither rule has a time
 abbrev pub untimed_report : Report
 untimed_report = record {
-  times = Untimed (TimeTripped (tripped_at 0 (asked.Rank 1)))
-      ∷ Untimed (TimeTripped (tripped_at 0 (asked.Rank 2))) ∷ [];
+  times = Untimed (TimeHitLimit (limit_hit_at 0 (asked.Rank 1)))
+      ∷ Untimed (TimeHitLimit (limit_hit_at 0 (asked.Rank 2))) ∷ [];
   costs = None ∷ None ∷ [];
   total = None;
   sizes = growing_report.sizes;

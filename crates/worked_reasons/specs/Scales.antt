@@ -8,7 +8,7 @@ use Rattle.its_model.specs.linear_forms.declared.limit_cause.LimitCause.TheVaria
 use Rattle.cert_types.specs.declared.answer.Question.TheVariants as asked
 use Rattle.cert_types.specs.declared.answer.LimitHit.{LimitHit}
 use Rattle.cert_types.specs.cert_rules.WorkedSettings.{rule_over, program_with}
-use Rattle.time_bounds.specs.ProgramRules.{EmptyTripsSo}
+use Rattle.time_bounds.specs.ProgramRules.{EmptyHitsLimitSo}
 use Rattle.worked_reasons.specs.Limits.{limit_hit_by}
 
 -- k(A) -> k(A) where A >= least and factor * A + B <= 0
@@ -25,8 +25,8 @@ below_multiple least factor = program_with (falling_below least factor ∷ [])
 -- small, so it hits the limit on its scale, and no other; that of A >= 2^23 and 2^22 * A + B <= 0 has B = -2^45, and
 -- hits no limit
 pub record ScalesAreWorkedOut : Type 0 where
-  pub scale : EmptyTripsSo (below_multiple (pos 18837001) (pos 1867833)) 10 1 (limit_hit_by (asked.Empty 1) causes.Scale)
+  pub scale : EmptyHitsLimitSo (below_multiple (pos 18837001) (pos 1867833)) 10 1 (limit_hit_by (asked.Empty 1) causes.Scale)
   pub no_other : (cause : LimitCause)
-      → EmptyTripsSo (below_multiple (pos 18837001) (pos 1867833)) 10 1 (limit_hit_by (asked.Empty 1) cause)
+      → EmptyHitsLimitSo (below_multiple (pos 18837001) (pos 1867833)) 10 1 (limit_hit_by (asked.Empty 1) cause)
       → cause ≡ causes.Scale
-  pub small : (limit_hit : LimitHit) → ¬ (EmptyTripsSo (below_multiple (pos 8388608) (pos 4194304)) 10 1 limit_hit)
+  pub small : (limit_hit : LimitHit) → ¬ (EmptyHitsLimitSo (below_multiple (pos 8388608) (pos 4194304)) 10 1 limit_hit)

@@ -1,51 +1,47 @@
--- `lasso`: whether the turn of a lasso leads back, so that its rules occur without end.
+-- `lasso`: whether the turn of a lasso leads back, or is seen to move on, so that its rules occur without end.
 use Rattle.std.specs.Prelude.{◌≡◌, ◌≤◌, ℕ, List}
 use Rattle.std.specs.List.{All}
 use Rattle.model.specs.Bounds.{Bound}
 use Rattle.model.specs.Facts.{HoldsTime, HoldsTotal}
 use Rattle.model.specs.Programs.{Program}
-use Rattle.run_replay.specs.Replays.{BadStep, IsFirstBadStep}
-use Rattle.lassos.specs.Lassos.{Endless}
-use Rattle.lasso_check.specs.Checks.{GoesRoundInRange, IsOpenAt, Turn}
-use Rattle.lasso_check.specs.CheckAnswers.{IsTurn}
-use Rattle.lasso_check.specs.Lassos.{Lasso, both_back}
+use Rattle.model.specs.Runs.{Config}
+use Rattle.lassos.specs.Lassos.{Endless, GoesOnFor}
+use Rattle.lasso_forms.specs.lasso_check.Checks.{Turn}
+use Rattle.lasso_forms.specs.lasso_check.Lassos.{stem_back, turn_back}
+use Rattle.lasso_forms.specs.moving_check.Findings.{Moving}
+use Rattle.lasso_forms.specs.Files.{LassoFile, lasso_in}
+use Rattle.lasso_forms.specs.Turns.{EndlessTurn, Back, On, rules_in, IsEndlessTurn, CanRepeat, Obstacle, HasObstacle}
 use Rattle.call_plans.specs.declared.status.Status.TheVariants.{Done, NotARun}
 use Rattle.call_plans.specs.Plans.{Cases, End, Case}
-use Rattle.koat_cli.specs.LassoTexts.{turn_text, open_text}
-use Rattle.koat_cli.specs.RunTexts.{bad_step_text}
+use Rattle.koat_cli.specs.LassoTexts.{turn_text, obstacle_text}
 use Rattle.koat_cli.specs.Statements.{StatesOne}
 
--- the text has the rules of the turn and what it costs; each of these rules occurs without end, so no bound on its use
--- holds; and where the turn costs something, no bound on what all steps cost
-pub record StatesTurn (program : Program) (lasso : Lasso) (text : List ℕ) : Type 0 where
-  pub turn : Turn
-  pub is_turn : IsTurn program lasso turn
-  pub endless : All (Endless program lasso.start) turn.rules
-  pub no_time : All (λ rule. (bound : Bound) → ¬ (HoldsTime program rule bound)) turn.rules
-  pub no_total : 1 ≤ turn.cost → (bound : Bound) → ¬ (HoldsTotal program bound)
+-- the text has the rules of the turn, what it costs, and of one that moves on its differences; each of these rules occurs
+-- without end, so no bound on its use holds; a turn that moves on does so by these differences; and where a turn that leads
+-- back costs something, no bound on what all steps cost holds
+pub record StatesTurn (program : Program) (file : LassoFile) (text : List ℕ) : Type 0 where
+  pub turn : EndlessTurn
+  pub is_turn : IsEndlessTurn program file turn
+  pub endless : All (Endless program (lasso_in file).start) (rules_in turn)
+  pub no_time : All (λ rule. (bound : Bound) → ¬ (HoldsTime program rule bound)) (rules_in turn)
+  pub moves_on : (moving : Moving) → turn ≡ On moving
+      → (at : Config) × GoesOnFor program (lasso_in file).start (stem_back (lasso_in file)) (turn_back (lasso_in file)) at
+      moving.differences
+  pub no_total : (back : Turn) → turn ≡ Back back → 1 ≤ back.cost → (bound : Bound) → ¬ (HoldsTotal program bound)
   pub result_is : text ≡ turn_text turn
 
--- one of the steps of the stem and the turn is the first bad one
-abbrev pub HasBadStepOf : Program → Lasso → Type 0
-HasBadStepOf program lasso = (bad : BadStep) × IsFirstBadStep program lasso.start (both_back lasso) bad
+-- something keeps the turn from being repeated, or from being seen to: the first bad step, the place at which the turn
+-- leads elsewhere, or what is found of one that isn't seen to move on
+abbrev pub HasSomeObstacle : Program → LassoFile → Type 0
+HasSomeObstacle program file = (obstacle : Obstacle) × HasObstacle program file obstacle
 
 -- the text states it
-abbrev pub StatesBadStepOf : Program → Lasso → List ℕ → Type 0
-StatesBadStepOf program lasso text =
-    StatesOne (IsFirstBadStep program lasso.start (both_back lasso)) bad_step_text text
+abbrev pub StatesObstacle : Program → LassoFile → List ℕ → Type 0
+StatesObstacle program file text = StatesOne (HasObstacle program file) obstacle_text text
 
--- all steps are good, and the turn leads elsewhere
-abbrev pub IsOpen : Program → Lasso → Type 0
-IsOpen program lasso = (place : ℕ) × IsOpenAt program lasso place
-
--- the text states the place
-abbrev pub StatesOpen : Program → Lasso → List ℕ → Type 0
-StatesOpen program lasso text = StatesOne (IsOpenAt program lasso) open_text text
-
--- `Done` where the steps are a run within 128 bits and the turn leads back, with its rules and its cost; and `NotARun`
--- where a step is bad, with the first bad one, and where the turn leads elsewhere, with the place
-abbrev pub lasso_answers : Program → Lasso → Cases
-lasso_answers program lasso =
-    Case Done (GoesRoundInRange program lasso) (StatesTurn program lasso)
-    (Case NotARun (HasBadStepOf program lasso) (StatesBadStepOf program lasso)
-    (Case NotARun (IsOpen program lasso) (StatesOpen program lasso) End))
+-- `Done` where the steps are a run within 128 bits and the turn leads back, or is seen to move on, as the form of the file
+-- has it, with its rules and its cost; and `NotARun` where something keeps it from that, with what does
+abbrev pub lasso_answers : Program → LassoFile → Cases
+lasso_answers program file =
+    Case Done (CanRepeat program file) (StatesTurn program file)
+    (Case NotARun (HasSomeObstacle program file) (StatesObstacle program file) End)

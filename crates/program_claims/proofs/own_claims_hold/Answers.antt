@@ -1,4 +1,4 @@
-use Rattle.program_claims.proofs.ClaimLaws as lemmas
+use Rattle.program_claims.proofs.AcceptedLaws as lemmas
 use Rattle.program_claims.proofs.own_claims_hold.Goals as goal
 
 pub returns : goal.returns

@@ -1,9 +1,11 @@
-use Rattle.std.proofs.Common.{refl}
+use Rattle.std.proofs.Common.{refl, map, string_bytes}
 use Rattle.command_line.specs.declared.request.Request.TheVariants as requests
+use Rattle.command_line.specs.Requests.{OfFile}
 use Rattle.call_plans.proofs.Behind.{told_ok}
 use Rattle.koat_cli.specs.Calls.{call_of}
 use Rattle.koat_cli.specs.RequestPlans.{number_answers}
-use Rattle.koat_cli.proofs.Preparing.{said_of}
+use Rattle.koat_cli.proofs.LawfulPlans.{file_not_last}
+use Rattle.koat_cli.proofs.Preparing.{asked, said_of}
 use Rattle.koat_cli.proofs.preparation.prepare.Goals as goal
 
 pub returns-in-Some-OfProgram-clause-says : goal.returns-in-Some-OfProgram-clause-says
@@ -27,6 +29,14 @@ returns-in-Some-OfFile-clause-says g c =
     (requests.OfFile w.task w.file) c.on_file.result (cc (w.is, w.field-0-is)) c.in_ok-task.ensures
     c.on_file.ensures.says
 
+pub returns-in-Some-OfFile-clause-untouched : goal.returns-in-Some-OfFile-clause-untouched
+returns-in-Some-OfFile-clause-untouched g c nothing =
+    let w = c.in-Some-OfFile in
+    absurd (file_not_last w.task (string_bytes w.file)
+    (nothing (OfFile w.task (string_bytes w.file))
+    (asked (map string_bytes c.args.words.now) c.in_ok-task.field-0 (requests.OfFile w.task w.file)
+    (cc (w.is, w.field-0-is)) c.in_ok-task.ensures)))
+
 pub returns-in-Some-OfNumber-clause-says : goal.returns-in-Some-OfNumber-clause-says
 returns-in-Some-OfNumber-clause-says g c =
     let w = c.in-Some-OfNumber in
@@ -34,3 +44,10 @@ returns-in-Some-OfNumber-clause-says g c =
     said_of call c.in_ok-task.field-0 (requests.OfNumber w.task w.n) c.of_number.result (cc (w.is, w.field-0-is))
     c.in_ok-task.ensures
     (told_ok call.shelf call.fetches_before (number_answers w.task w.n) c.of_number.result refl c.of_number.ensures)
+
+pub returns-in-Some-While-clause-says : goal.returns-in-Some-While-clause-says
+returns-in-Some-While-clause-says g c =
+    let w = c.in-Some-While in
+    said_of (call_of g.F.Shelf c.args.words.now c.args.shelf.now c.on_while.new.shelf) c.in_ok-task.field-0
+    (requests.While w.pivots w.file) c.on_while.result (cc (w.is, w.field-0-is)) c.in_ok-task.ensures
+    c.on_while.ensures.says

@@ -1,4 +1,4 @@
-use Rattle.std.proofs.Common.{ℕ, All, length, subst}
+use Rattle.std.proofs.Common.{ℕ, All, subst}
 use Rattle.std.proofs.lemmas.List.{length-map}
 use Rattle.its_model.specs.Views.{name_of, program_of}
 use Rattle.cert_text.specs.OverFirst.{IsOverFirst}

@@ -6,7 +6,15 @@ use Rattle.run_replay.specs.Replays.{RunsInRange}
 use Rattle.lasso_check.specs.Lassos.{stem_back}
 use Rattle.lasso_check.specs.Views.{lasso_of}
 use Rattle.lasso_check.proofs.Turns.{stem_runs, closes, few_noted, noted_length, listed_rules}
+use Rattle.lasso_check.proofs.Walks.{step_refused}
 use Rattle.lasso_check.proofs.checking.judge.Goals as goal
+
+pub returns-in-Err : goal.returns-in-Err
+returns-in-Err c = step_refused (program_of c.args.p.now) (lasso_of c.args.l.now) c.in-Err.error c.in-Err.ensures
+
+pub returns-in-Err-walk_turn : goal.returns-in-Err-walk_turn
+returns-in-Err-walk_turn c =
+    step_refused (program_of c.args.p.now) (lasso_of c.args.l.now) c.in-Err-walk_turn.error c.in-Err-walk_turn.ensures
 
 pub rules_used-requires : goal.rules_used-requires
 rules_used-requires c =

@@ -5,7 +5,7 @@ use Rattle.poly_terms.specs.Views.{form_of}
 use Rattle.cert_types.specs.Views.{side_bound_of}
 use Rattle.simplex_core.specs.declared.answers.Answer.{Answer}
 use Rattle.simplex_core.specs.Problem.{program_of}
-use Rattle.simplex_core.specs.Trips.{IsWholeAnswer}
+use Rattle.simplex_core.specs.HitsLimit.{IsWholeAnswer}
 use Rattle.local_size.specs.Asking.{kind_of}
 use Rattle.local_size.specs.Places.{local_forms}
 use Rattle.local_size.proofs.Searches.{solution-room, side_bound-found, dual-room, none-found, limit-passed}

@@ -1,7 +1,7 @@
 use Rattle.std.proofs.Common.{refl, subst, length}
 use Rattle.lp_builder.specs.simplex_core.Problem.{program_of}
-use Rattle.lp_builder.specs.simplex_core.Trips.{IsWholeAnswer}
-use Rattle.location_facts.proofs.GoalProblems.{goal-room, goal-follows, against-room, goal-fails, goal-trips}
+use Rattle.lp_builder.specs.simplex_core.HitsLimit.{IsWholeAnswer}
+use Rattle.location_facts.proofs.GoalProblems.{goal-room, goal-follows, against-room, goal-fails, goal-hits_limit}
 use Rattle.location_facts.proofs.asking.ask.Goals as goal
 
 pub multipliers_from-requires : goal.multipliers_from-requires
@@ -39,5 +39,5 @@ pub returns : goal.returns
 returns c =
     let p = c.in_ok-problem.problem in
     let h = subst (IsWholeAnswer (program_of p) c.args.pivots) c.in-OutOfLimits.is (c.in_ok-solution.ensures {u = tt}) in
-    goal-trips c.args.unknowns c.args.rows.now c.args.goal.now c.requires.rows c.requires.goal c.args.pivots p
+    goal-hits_limit c.args.unknowns c.args.rows.now c.args.goal.now c.requires.rows c.requires.goal c.args.pivots p
     (c.in_ok-problem.ensures {u = tt}) _ h

@@ -4,7 +4,7 @@ use Rattle.simplex_core.specs.linear_forms.Forms.{at}
 use Rattle.simplex_core.specs.linear_forms.Questions.{listed}
 use Rattle.simplex_core.specs.declared.answers.Answer.{Answer}
 use Rattle.simplex_core.specs.Problem.{program_of}
-use Rattle.simplex_core.specs.Trips.{IsWholeAnswer}
+use Rattle.simplex_core.specs.HitsLimit.{IsWholeAnswer}
 use Rattle.rank_search.proofs.EmptinessAnswers.{solution-room, solution-answer, dual-room, dual-answer, limit_hit-answer}
 use Rattle.rank_search.proofs.emptiness.guard_feasibility.Goals as goal
 

@@ -6,7 +6,7 @@ use Rattle.poly_terms.specs.model.Programs.{arity_of}
 use Rattle.its_model.specs.Views.{program_of}
 use Rattle.simplex_core.specs.declared.answers.Answer.{Answer}
 use Rattle.simplex_core.specs.Problem.{program_of as program_of_problem}
-use Rattle.simplex_core.specs.Trips.{IsWholeAnswer}
+use Rattle.simplex_core.specs.HitsLimit.{IsWholeAnswer}
 use Rattle.rank_search.specs.Coefficients.{open_set, AreCoefficients}
 use Rattle.rule_questions.specs.ProgramQuestions.{places_of, ranked_set}
 use Rattle.rank_search.specs.Reading.{IsNodeRead, IsGapRead}
@@ -105,14 +105,14 @@ returns-in-Some c =
     c.in_ok-problem.ensures c.args.empties.now c.in-Dual.dual c.in-Some.limit_hit
     (subst (λ (a : Answer). IsWholeAnswer
     (program_of_problem c.in_ok-problem.problem) c.args.pivots a) c.in-Dual.is c.in_ok-solution.ensures)
-    (sym c.in-Some.is ∙ c.first_tripped.ensures)
+    (sym c.in-Some.is ∙ c.first_hit_limit.ensures)
 
 pub gap_of_dual-requires-clause-points : goal.gap_of_dual-requires-clause-points
 gap_of_dual-requires-clause-points c =
     has-points (program_of c.args.p.now) c.args.prepared_rules.now c.args.set.now c.args.strict
     (places_of c.args.shut.now) c.requires.valid c.requires.rows c.requires.rules c.args.pivots c.args.empties.now
     c.requires.answers c.args.set.now c.requires.rules.rules c.requires.may_run
-    (sym c.in-None.is ∙ c.first_tripped.ensures)
+    (sym c.in-None.is ∙ c.first_hit_limit.ensures)
 
 pub gap_of_dual-requires-clause-room : goal.gap_of_dual-requires-clause-room
 gap_of_dual-requires-clause-room c =
@@ -146,7 +146,7 @@ returns-in-Dual c =
           (places_of c.args.shut.now);
     }) c.args.empties.now ns c.in_ok-gap-in-None.gap)
     c.deref-in-None.ensures.value c.in_ok-gap-in-None.ensures)
-    (sym c.in-None.is ∙ c.first_tripped.ensures)
+    (sym c.in-None.is ∙ c.first_hit_limit.ensures)
 
 pub returns : goal.returns
 returns c =

@@ -8,7 +8,7 @@ use Rattle.refined_programs.specs.Views.{copy_of}
 use Rattle.section_checks.specs.Faults.{BranchEnd, Obligation, obligations_of}
 use Rattle.section_decide.specs.Deciding.{obligation_tests, certificate_tests, first_in_stages}
 use Rattle.refinement_check.specs.declared.fault.SectionFault.{SectionFault}
-use Rattle.refinement_check.specs.Views.{fault_of, obligation_of, NumberedEnd, numbered_end_of, placed}
+use Rattle.refinement_check.specs.Views.{fault_of, obligation_of, numbered_end_of, placed}
 use Rattle.refinement_check.proofs.Verdicts.{more, here-prepared, left-within, left-fails, left-passes}
 use Rattle.refinement_check.proofs.accepting.unmet_end.Goals as goal
 

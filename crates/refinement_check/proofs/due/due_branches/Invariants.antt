@@ -1,4 +1,4 @@
-use Rattle.std.proofs.Common.{◌≡◌, ◌+◌, ◌++◌, drop, map}
+use Rattle.std.proofs.Common.{◌≡◌, ◌++◌, drop, map}
 use Rattle.refined_programs.specs.its_model.Views.{program_of}
 use Rattle.refined_programs.specs.Views.{annotated_copy}
 use Rattle.section_checks.specs.Faults.{due}

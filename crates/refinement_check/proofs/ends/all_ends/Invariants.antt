@@ -1,4 +1,4 @@
-use Rattle.std.proofs.Common.{◌≡◌, ◌+◌, ◌++◌, drop, map}
+use Rattle.std.proofs.Common.{◌≡◌, ◌++◌, drop, map}
 use Rattle.refined_programs.specs.Views.{section_of, annotated_branch}
 use Rattle.refinement_check.specs.Views.{numbered_end_of, numbered_ends}
 use Rattle.refinement_check.proofs.ends.all_ends.Given as goal

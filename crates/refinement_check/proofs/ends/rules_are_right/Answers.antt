@@ -1,4 +1,4 @@
-use Rattle.std.proofs.Common.{ℕ, List, map, ◌∙◌, ap, arith}
+use Rattle.std.proofs.Common.{map, ◌∙◌, ap, arith}
 use Rattle.std.specs.Prelude.{nat_eq}
 use Rattle.std.specs.List.{list_any}
 use Rattle.refined_programs.specs.its_model.Views.{program_of}

@@ -1,4 +1,4 @@
-use Rattle.std.proofs.Common.{◌≡◌, ◌+◌, ◌++◌, drop, map}
+use Rattle.std.proofs.Common.{◌≡◌, ◌++◌, drop, map}
 use Rattle.refinement_check.specs.Views.{numbered_end_of, sources_of}
 use Rattle.refinement_check.proofs.ends.sources_at_copies.Given as goal
 

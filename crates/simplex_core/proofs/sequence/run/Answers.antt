@@ -3,8 +3,8 @@ use Rattle.std.specs.Prelude.{ℕ}
 use Rattle.simplex_core.specs.Problem.{program_of}
 use Rattle.simplex_core.specs.Tableau.{pivot}
 use Rattle.simplex_core.specs.Bland.{is_infeasible, entering}
-use Rattle.simplex_core.specs.Outcome.{TripsBudget}
-use Rattle.simplex_core.proofs.Rounds.{entering-candidate, budget-trips, advanced}
+use Rattle.simplex_core.specs.Outcome.{ExceedsPivotLimit}
+use Rattle.simplex_core.proofs.Rounds.{entering-candidate, budget-hits_limit, advanced}
 use Rattle.simplex_core.proofs.Ends.{optimum-ends, infeasibility-ends}
 use Rattle.simplex_core.proofs.ProgramFields.{sides-read}
 use Rattle.simplex_core.proofs.sequence.run.Goals as goal
@@ -48,8 +48,8 @@ returns-then-made-pivots g c =
     let enters : entering p inv.last ≡ Some c.in-Some.column = sym (c.entering.ensures p inv.last inv.shows) ∙ c.in-Some.is in
     let all : c.pivoting.made ≡ c.args.pivots = omega arith in (
       refl,
-      subst (λ (k : ℕ). TripsBudget p k) all
-          (budget-trips p inv.last c.pivoting.made c.in-Some.column c.requires.costs inv.reached (c.if-not-is_in_range.ensures.each p inv.last inv.shows) feasible enters),
+      subst (λ (k : ℕ). ExceedsPivotLimit p k) all
+          (budget-hits_limit p inv.last c.pivoting.made c.in-Some.column c.requires.costs inv.reached (c.if-not-is_in_range.ensures.each p inv.last inv.shows) feasible enters),
     )
 
 pub advance-requires : goal.advance-requires

@@ -7,7 +7,7 @@ use Rattle.cert_types.specs.declared.side_bound.ResultVariable.{ResultVariable}
 use Rattle.rvg_components.specs.Listing.{answer_lists, local_from}
 use Rattle.time_bounds.specs.ProgramSizes.{AreMembers, unbounded_reason, limit_hit_reason}
 use Rattle.time_bounds.specs.Locals.{answer_in}
-use Rattle.time_bounds.proofs.SideBoundLists.{no_members, members_more, bound_where, none_unbounded, none_tripped, of_result_variables}
+use Rattle.time_bounds.proofs.SideBoundLists.{no_members, members_more, bound_where, none_unbounded, none_hit_limit, of_result_variables}
 use Rattle.time_bounds.proofs.candidates.members_of.Goals as goal
 
 pub loop-result_variable-init : goal.loop-result_variable-init
@@ -24,8 +24,8 @@ member_at-requires c =
     let low = c.loop-result_variable-test.true in
     let answered = of_result_variables (λ m. (a : LocalAnswer) × (answer_in lists m.rule m.place ≡ Some a)) result_variables i d c.requires.answered low in
     let unbounded = of_result_variables (λ m. unbounded_reason (local m.rule m.place) ≡ None) result_variables i d (none_unbounded local (map result_variable_of result_variables) c.requires.armed) low in
-    let tripped = of_result_variables (λ m. limit_hit_reason (local m.rule m.place) ≡ None) result_variables i d (none_tripped local (map result_variable_of result_variables) c.requires.armed) low in
-    (answered.0, answered.1, bound_where lists result_variable.rule result_variable.place answered.0 answered.1 unbounded tripped)
+    let hit_limit = of_result_variables (λ m. limit_hit_reason (local m.rule m.place) ≡ None) result_variables i d (none_hit_limit local (map result_variable_of result_variables) c.requires.armed) low in
+    (answered.0, answered.1, bound_where lists result_variable.rule result_variable.place answered.0 answered.1 unbounded hit_limit)
 
 pub loop-result_variable-preserved : goal.loop-result_variable-preserved
 loop-result_variable-preserved c =

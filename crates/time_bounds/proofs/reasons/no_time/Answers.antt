@@ -15,7 +15,7 @@ use Rattle.cert_types.specs.Views.{rank_of}
 use Rattle.rank_search.specs.declared.answer.RankAnswer.{RankAnswer}
 use Rattle.rank_search.specs.rule_questions.ProgramQuestions.{forms_at}
 use Rattle.bound_fixpoint.specs.Answers.{Lacks, TellsRanking}
-use Rattle.outcome.specs.Reports.{NoFunction, TimeTripped, TimeLarge}
+use Rattle.outcome.specs.Reports.{NoFunction, TimeHitLimit, TimeLarge}
 use Rattle.bound_fixpoint.specs.Searches.{OfTime}
 use Rattle.size_bounds.specs.Tables.{bounds_in}
 use Rattle.time_bounds.specs.ProgramRules.{ranking_of}
@@ -82,9 +82,9 @@ returns-clause-said c =
     let b = bounds_in c.args.table.now in
     let m = c.requires.missing in (
       untimed_none b c.args.rule c.requires.untimed,
-      time-sound p b c.args.cx.now.pivots c.args.cx.now.empties.items c.args.rule c.args.asked (Lacks (OfTime (TimeTripped c.in-OutOfLimits.limit_hit)))
+      time-sound p b c.args.cx.now.pivots c.args.cx.now.empties.items c.args.rule c.args.asked (Lacks (OfTime (TimeHitLimit c.in-OutOfLimits.limit_hit)))
           c.requires.ready.empties m.asked m.answered
-          (subst (λ (a : RankAnswer). TellsRanking (setting_of p) b (ranking_of a) (Lacks (OfTime (TimeTripped c.in-OutOfLimits.limit_hit)))) (sym c.in-OutOfLimits.is) refl),
+          (subst (λ (a : RankAnswer). TellsRanking (setting_of p) b (ranking_of a) (Lacks (OfTime (TimeHitLimit c.in-OutOfLimits.limit_hit)))) (sym c.in-OutOfLimits.is) refl),
     )
 
 pub unreachable-requires : goal.unreachable-requires

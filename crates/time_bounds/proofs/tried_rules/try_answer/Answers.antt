@@ -8,7 +8,7 @@ use Rattle.cert_types.specs.AnswerViews.{gap_of}
 use Rattle.cert_types.specs.Views.{rank_of, result_variable_of}
 use Rattle.rank_search.specs.declared.answer.RankAnswer.{RankAnswer}
 use Rattle.bound_fixpoint.specs.Derivations.{RankBy}
-use Rattle.outcome.specs.Reports.{NoFunction, TimeTripped, TimeLarge}
+use Rattle.outcome.specs.Reports.{NoFunction, TimeHitLimit, TimeLarge}
 use Rattle.bound_fixpoint.specs.Searches.{OfTime}
 use Rattle.bound_fixpoint.specs.Answers.{Answer, Found, TellsRanking}
 use Rattle.size_bounds.specs.Tables.{bounds_in}
@@ -61,5 +61,5 @@ pub returns-in-OutOfLimits : goal.returns-in-OutOfLimits
 returns-in-OutOfLimits c = (
   c.requires.untimed,
   missing_of (program_in c.args.cx.now) (bounds_in c.args.table.now) c.args.cx.now.pivots c.args.cx.now.empties.items c.args.rule c.args.asked _
-      (OfTime (TimeTripped c.in-OutOfLimits.limit_hit)) c.requires.asked c.requires.answered c.in-OutOfLimits.is refl,
+      (OfTime (TimeHitLimit c.in-OutOfLimits.limit_hit)) c.requires.asked c.requires.answered c.in-OutOfLimits.is refl,
 )

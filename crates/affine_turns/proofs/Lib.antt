@@ -1,0 +1,9 @@
+-- laws of integers that change by the same amount in each turn, and of turns that are seen to go on
+pub mod AffineValues
+pub mod SeenTurns
+mod WorkedTurns
+mod Loops
+-- the lemmas of the crates below, which callers name through this one
+pub use Rattle.poly_terms.proofs as poly_terms
+pub use Rattle.its_model.proofs as its_model
+pub use Rattle.lassos.proofs as lassos

@@ -1,0 +1,63 @@
+//! The contents of files.
+
+use crate::calls::output_of;
+use crate::words::{bytes_of, first_and_rest, number, word_of, words_of};
+use model::Memory;
+use std::alloc::Global;
+
+/// The contents that a text describes, by their kind:
+///
+/// - `rules RULES`: the text of the program with these rules, which starts at l0;
+/// - `repeat COUNT WORD`: the first byte of the word, so many times;
+/// - `nest COUNT BEFORE%OPENING%INNER%CLOSING%AFTER`: a text in which the inner part stands between so many openings
+///   and as many closings;
+/// - `output WORDS`: what the call with these words writes, which needs no file;
+/// - `file TEXT`: the text itself.
+pub(crate) fn contents(alloc: Global, kind: &str, text: &str) -> Result<Vec<u8>, Memory> {
+    match kind {
+        "rules" => program_text(alloc, text),
+        "repeat" => repeated(alloc, text),
+        "nest" => nested(alloc, text),
+        "output" => output_of(alloc, &words_of(alloc, text)?, &[]),
+        _ => bytes_of(alloc, text),
+    }
+}
+
+// The text of the program with these rules.
+fn program_text(alloc: Global, rules: &str) -> Result<Vec<u8>, Memory> {
+    let mut text = b"(STARTTERM (FUNCTIONSYMBOLS l0))(RULES ".to_vec(alloc)?;
+    text.extend_from_slice(&bytes_of(alloc, rules)?)?;
+    text.push(b')')?;
+    Ok(text)
+}
+
+// The first byte of a word, so many times.
+fn repeated(alloc: Global, text: &str) -> Result<Vec<u8>, Memory> {
+    let (count, written) = first_and_rest(text);
+    let count = number(count) as usize;
+    match word_of(alloc, written)?.as_bytes() {
+        [byte, ..] => vec![in alloc; *byte; count],
+        [] => Ok(Vec::new(alloc)),
+    }
+}
+
+// The first part of a text, and what follows its `%`.
+fn cut(text: &str) -> (&str, &str) {
+    text.split_once('%').unwrap_or((text, ""))
+}
+
+// The text in which the inner part stands between so many openings and as many closings.
+fn nested(alloc: Global, text: &str) -> Result<Vec<u8>, Memory> {
+    let (count, parts) = first_and_rest(text);
+    let (before, parts) = cut(parts);
+    let (opening, parts) = cut(parts);
+    let (inner, parts) = cut(parts);
+    let (closing, after) = cut(parts);
+    let count = number(count) as usize;
+    let mut bytes = bytes_of(alloc, before)?;
+    bytes.extend_from_slice(opening.repeat(alloc, count)?.as_bytes())?;
+    bytes.extend_from_slice(inner.as_bytes())?;
+    bytes.extend_from_slice(closing.repeat(alloc, count)?.as_bytes())?;
+    bytes.extend_from_slice(&bytes_of(alloc, after)?)?;
+    Ok(bytes)
+}

@@ -1,0 +1,12 @@
+//! What words request.
+
+use crate::words::words_of;
+use command_line::asks;
+use model::Memory;
+use std::alloc::Global;
+
+/// The request of the words, if they are a command line.
+pub(crate) fn request(alloc: Global, text: &str) -> Result<String, Memory> {
+    let request = asks(alloc, &words_of(alloc, text)?)?;
+    format!(in alloc; "{request:?}")
+}

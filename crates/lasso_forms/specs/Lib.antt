@@ -1,0 +1,11 @@
+-- what the contracts of this crate, and of those above it, cite
+pub mod Files
+pub mod Texts
+pub mod Turns
+pub mod Views
+-- laws, and values that were worked out by hand
+pub mod Laws
+pub mod Worked
+-- the crates below, which callers name through this one
+pub use Rattle.lasso_check.specs as lasso_check
+pub use Rattle.moving_check.specs as moving_check

@@ -1,0 +1,22 @@
+//! Lasso files of both forms, and turns that can be repeated, as types.
+
+use lasso_check::{Lasso, Turn};
+use moving_check::Moving;
+
+/// A lasso by the form of its file, which says what its turn is to do.
+#[derive(Debug, PartialEq, Eq, Drop)]
+pub enum LassoFile {
+    /// The turn is to lead back to where it begins.
+    FirstForm(Lasso),
+    /// The turn is to move on by the same differences each time.
+    SecondForm(Lasso),
+}
+
+/// A turn that can be repeated without end.
+#[derive(Debug, PartialEq, Eq, Drop)]
+pub enum EndlessTurn {
+    /// It leads back.
+    Back(Turn),
+    /// It moves on.
+    On(Moving),
+}

@@ -1,0 +1,12 @@
+use Rattle.std.proofs.Common.{map, sym, ◌∙◌}
+use Rattle.section_text.specs.Views.{open_of, draft_of}
+use Rattle.section_text.proofs.LastLaws.{map_popped, ends_last}
+use Rattle.section_text.proofs.draft.Draft.end_no.Goals as goal
+
+pub returns-in_ok-end_test : goal.returns-in_ok-end_test
+returns-in_ok-end_test c =
+    let old = c.args.self.now in
+    let new = c.pop.new.self.items in
+    c.in_ok-end_test.ensures
+    ∙ sym (ends_last (draft_of old) (map open_of new) (open_of c.in-Some.test)
+    (map_popped open_of old.tests.items new c.in-Some.test c.in-Some.ensures.items))

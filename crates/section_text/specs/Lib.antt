@@ -1,0 +1,13 @@
+-- what the contracts of this crate, and of those above it, cite
+pub mod Lexing
+pub mod Within
+pub mod Grammar
+pub mod Drafts
+pub mod Faults
+pub mod Reading
+pub mod CopyNames
+pub mod Views
+pub mod Refusals
+pub mod Results
+-- values that were worked out by hand
+pub mod Worked

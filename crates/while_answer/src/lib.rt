@@ -1,0 +1,18 @@
+//! The answers to a while program, as text.
+//!
+//! Builds on `while_text` (the reader) and `while_front` (translations). Main guarantee: a text spells one while
+//! program or has one first fault, not both (`while_texts_are_decided`), and `points_text` and `refusal_text` give the
+//! positions of a program's statements and that fault as text; the executions of a program within the limits end as the
+//! runs of its translation do, and have at most as many steps as a bound on what all steps of these runs cost
+//! (`executions_follow_runs`).
+#![tactic(auto)]
+
+mod law;
+mod points;
+mod refusal;
+
+pub use law::{executions_follow_runs, while_texts_are_decided, worked_answers_hold};
+pub use points::points_text;
+pub use refusal::refusal_text;
+pub use while_front::translate;
+pub use while_text::{WhileError, Whole, read_while};

@@ -1,0 +1,16 @@
+pub mod Rows
+pub mod Classes
+pub mod Spelling
+pub mod Deriving
+pub mod OneSum
+pub mod DerivedAlike
+pub mod FrontFacts
+pub mod Sorts
+pub mod FrontsMade
+pub mod TokenFacts
+pub mod Quiet
+pub mod Along
+pub mod Runs
+pub mod Unlimited
+pub mod ReadAlike
+pub mod WorkedReadings

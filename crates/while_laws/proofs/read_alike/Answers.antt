@@ -1,0 +1,6 @@
+-- What reading makes of expressions and atoms are the terms and atoms of programs.
+use Rattle.while_laws.proofs.ReadAlike as lemmas
+use Rattle.while_laws.proofs.read_alike.Goals as goal
+
+pub returns : goal.returns
+returns c = record { values = lemmas.values_alike; tests = lemmas.tests_alike }

@@ -1,0 +1,6 @@
+-- Small texts are read as it was worked out by hand.
+use Rattle.while_laws.proofs.WorkedReadings as lemmas
+use Rattle.while_laws.proofs.worked_readings_hold.Goals as goal
+
+pub returns : goal.returns
+returns c = lemmas.readings_worked
