@@ -14,7 +14,7 @@ COEFFICIENT_LIMIT = 2 ** 63 - 1
 CONSTANT_LIMIT = 2 ** 127 - 1
 MONOMIAL_LIMIT, DEGREE_LIMIT = 64, 8
 NODE_LIMIT, DEPTH_LIMIT = 4096, 200
-PRODUCT_LIMIT, COMPARISON_LIMIT, QUOTIENT_LIMIT, SUMMAND_LIMIT = 4096, 131072, 16, 1024
+PRODUCT_LIMIT, EXPANSION_LIMIT, COMPARISON_LIMIT, QUOTIENT_LIMIT, SUMMAND_LIMIT = 4096, 262144, 131072, 16, 1024
 
 
 class Fault(Exception):
@@ -298,8 +298,12 @@ def number_sum(b):
     return math.prod(number_sum(c) for c in b[1]) if b[0] == "prod" else 1
 
 
+def is_expandable(b):
+    return product_count(b) <= PRODUCT_LIMIT and product_count(b) * node_count(b) <= EXPANSION_LIMIT
+
+
 def is_multipliable(n, b):
-    return product_count(b) <= PRODUCT_LIMIT and n * number_sum(b) <= CONSTANT_LIMIT
+    return is_expandable(b) and n * number_sum(b) <= CONSTANT_LIMIT
 
 
 def factor_total(ps):
@@ -355,7 +359,11 @@ def scaled(n, ps):
 
 
 def within(den, a, b):
-    """Whether each number that is at most a, den times, is at most b, by a comparison of products."""
+    """Whether each number that is at most a, den times, is at most b, by their shape or by a comparison of products."""
+    return den == 1 and fits(a, b) or is_covered(den, a, b)
+
+
+def is_covered(den, a, b):
     if not (is_multipliable(1, a) and is_multipliable(den, b)):
         return False
     ps, qs = products_of(a), products_of(b)

@@ -9,7 +9,8 @@ import unittest
 import examples
 
 SCRIPTS = os.path.join(examples.TOP, "scripts")
-CITING = ["claims.md", "definitions.md", "architecture.md", "trust.md", "glossary.md", "proof-format.md"]
+CITING = ["claims.md", "definitions.md", "architecture.md", "trust.md", "theorem.md", "glossary.md",
+          "proof-format.md"]
 
 
 def read(*path):
@@ -45,6 +46,16 @@ class Tables(unittest.TestCase):
 
     def test_reading_lists_are_those_of_the_definitions(self):
         self.assertEqual(checked("reading_list"), (0, ""))
+
+    def test_the_theorem_quotes_each_definition_as_it_is(self):
+        self.assertEqual(checked("theorem"), (0, ""))
+
+    def test_a_definition_that_is_not_quoted_is_found(self):
+        script = runpy.run_path(os.path.join(SCRIPTS, "theorem"))
+        lists = runpy.run_path(os.path.join(SCRIPTS, "reading_list"))
+        text = read("docs", "theorem.md").replace("Facts.antt HoldsTime HoldsSize", "Facts.antt HoldsSize")
+        self.assertEqual(len(script["lacking"](lists, text)), 1)
+        self.assertNotEqual(script["with_quotations"](lists, text), text)
 
     def test_definitions_are_found_in_blocks_and_through_crates(self):
         script = runpy.run_path(os.path.join(SCRIPTS, "reading_list"))

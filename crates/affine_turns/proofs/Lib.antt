@@ -3,7 +3,7 @@ pub mod AffineValues
 pub mod SeenTurns
 mod WorkedTurns
 mod Loops
--- the lemmas of the crates below, which callers name through this one
+-- The lemmas of the crates below, which callers name through this one.
 pub use Rattle.poly_terms.proofs as poly_terms
 pub use Rattle.its_model.proofs as its_model
 pub use Rattle.lassos.proofs as lassos

@@ -250,7 +250,7 @@ as-many bs cs env behind before after again =
       length-map behind (λ a. a.slope),
     )
 
--- configurations with the same symbol and values are the same
+-- Configurations with the same symbol and values are the same.
 same-config : (b c : Config) → b.at ≡ c.at → b.values ≡ c.values → b ≡ c
 same-config b c e f = λ i. record { at = e i; values = f i }
 

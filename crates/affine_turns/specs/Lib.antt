@@ -1,10 +1,10 @@
--- what the contracts of this crate, and of those above it, cite
+-- The specs that contracts of this crate and of other crates cite.
 pub mod Affine
 pub mod Turns
 pub mod Stops
--- laws, and values that were worked out by hand
+-- Laws and worked values.
 pub mod Laws
 pub mod Worked
--- the crates below, which callers name through this one
+-- The crates below, which callers name through this one.
 pub use Rattle.its_model.specs as its_model
 pub use Rattle.lassos.specs as lassos

@@ -1,4 +1,4 @@
--- Gaps that hold, over places that there are, are within the limits of proof files.
+-- Gaps that hold, over existing places, are within the limits of proof files.
 use Rattle.std.proofs.Common.{◌≡◌, ℕ, ◌≤◌, true, List, [], ◌∷◌, length, arith, All}
 use Rattle.std.proofs.lemmas.List.Elements.{All-nil, All-cons}
 use Rattle.model.specs.Entries.{is_in}
@@ -11,18 +11,18 @@ use Rattle.cert_types.proofs.cert_rules.GapPoints.{AreEach, of-each}
 use Rattle.cert_text.specs.Spelled.{IsPlaceOf, IsPointWithin, IsGapWithin}
 use Rattle.analysis_certs.proofs.RulePlaces.{all-in, some-in}
 
--- a point of a gap
+-- a point of a gap is within the limits
 point-within : (r : RuleForms) (z : ScaledPoint) → IsGapPoint r z → IsPointWithin z
 point-within r z h = record { parts = h.parts_limit; den = h.den_limit }
 
--- all points at their positions
+-- all points at their positions are within the limits
 each-within : (ts : List ℕ) (zs : List ScaledPoint) → AreEach (λ t z. IsPointWithin z) ts zs → All IsPointWithin zs
 each-within [] [] h = All-nil IsPointWithin
 each-within [] (z ∷ zs) h = absurd h
 each-within (t ∷ ts) [] h = All-nil IsPointWithin
 each-within (t ∷ ts) (z ∷ zs) h = All-cons IsPointWithin z zs h.0 (each-within ts zs h.1)
 
--- a gap
+-- a gap that holds is within the limits
 pub gap-within : (p : Program) (g : Gap) → GapHolds p (forms_at p) g → All (IsPlaceOf p) g.shut → IsGapWithin p g
 gap-within p g h shut = record {
   rule = h.shape.rules g.rule h.shape.inside;

@@ -20,12 +20,12 @@ use Rattle.cost_bounds.specs.CostLemmas.{cost_lemma, cost_lemmas, cost_premises}
 use Rattle.analysis_certs.proofs.NodesWithin.{member-within, rank-within, side_bound-within}
 
 module _ (s : Setting) (past : List (List Fact)) (level : ℕ) (low : level ≤ level_limit) where
-  -- lemmas that are cited
+  -- cited lemmas are within the limits
   cites-within : (ns : List ℕ) → AllAccepted s past (cites ns) → AreProofsWithin s.program (length past) level (cites ns)
   cites-within [] h = tt
   cites-within (n ∷ ns) h = ((low, (h.0.least, h.0.earlier)), cites-within ns h.1)
 
-  -- with the virtual entry or without
+  -- cited lemmas, with the virtual entry or without it, are within the limits
   uses-within : (ns : List ℕ) → AllAccepted s past (uses_from ns)
       → AreProofsWithin s.program (length past) level (uses_from ns)
   uses-within ns h = go (is_in 0 ns) h
@@ -37,7 +37,7 @@ module _ (s : Setting) (past : List (List Fact)) (level : ℕ) (low : level ≤ 
       go false k = cites-within (once (filter (λ n. not (n == 0)) ns)) k
 
 module _ (s : Setting) (valid : IsValid s.program) (number : ℕ → ℕ → ℕ) where
-  -- the lemma of a node
+  -- the lemma of a node is within the limits
   lemma-within : (past : List (List Fact)) (node : Node) (premises : List ResultVariable) → Accepts s past (lemma_by number node premises)
       → IsProofWithin s.program (length past) 1 (lemma_by number node premises)
   lemma-within past (EmptyBy t multipliers) premises h = (omega arith, (h.shape.rule, h.shape.one_each.limit))
@@ -63,13 +63,13 @@ module _ (s : Setting) (valid : IsValid s.program) (number : ℕ → ℕ → ℕ
     uses-within s past 2 (omega arith) (map (λ k. number k.rule k.place) premises) h.0,
   )
 
-  -- the certificate of a cost
+  -- the certificate of a cost is within the limits
   cost_by-within : (t : ℕ) (by : CostBy) → HasCostNumbers s t by → IsCostByWithin by
   cost_by-within t (EmptyCost multipliers) h = h.limit
   cost_by-within t NeverCost h = tt
   cost_by-within t (SideBoundCost side_bound) h = side_bound-within (costs_of s) t (left_of s.program t) side_bound h
 
-  -- the lemmas of costs
+  -- the lemma of a cost is within the limits
   cost-within : (past : List (List Fact)) (node : CostNode) → Accepts s past (cost_lemma s number node)
       → IsProofWithin s.program (length past) 1 (cost_lemma s number node)
   cost-within past node h = (
@@ -89,7 +89,7 @@ module _ (s : Setting) (valid : IsValid s.program) (number : ℕ → ℕ → ℕ
       more : length (past ++ facts_of s past (cost_lemma s number node) ∷ []) ≡ suc (length past)
       more = omega (arith, length_push past (facts_of s past (cost_lemma s number node)))
 
-  -- those of derivations, and then those of costs
+  -- the lemmas of derivations, followed by those of costs, are within the limits
   both-from : (past : List (List Fact)) (fs : List Derivation) (nodes : List CostNode)
       → AcceptsFrom s past (map (λ f. lemma_by number f.node f.premises) fs ++ cost_lemmas s number nodes)
       → AreLemmasWithin s.program (length past) (map (λ f. lemma_by number f.node f.premises) fs ++ cost_lemmas s number nodes)
@@ -103,7 +103,7 @@ module _ (s : Setting) (valid : IsValid s.program) (number : ℕ → ℕ → ℕ
       more : length (past ++ facts_of s past (lemma_by number f.node f.premises) ∷ []) ≡ suc (length past)
       more = omega (arith, length_push past (facts_of s past (lemma_by number f.node f.premises)))
 
--- lemmas of derivations and of costs that are accepted
+-- accepted lemmas of derivations and of costs are within the limits
 pub lemmas-within : (s : Setting) → IsValid s.program → (fs : List Derivation) (nodes : List CostNode)
     → AcceptsLemmas s (lemmas_of fs ++ cost_lemmas s (number_in fs) nodes)
     → AreLemmasWithin s.program 0 (lemmas_of fs ++ cost_lemmas s (number_in fs) nodes)

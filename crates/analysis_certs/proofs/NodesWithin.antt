@@ -20,7 +20,7 @@ use Rattle.cert_types.proofs.cert_rules.GapPoints.{rest-ascends, first-least}
 use Rattle.cert_text.specs.Spelled.{IsSideBoundWithin, IsMemberWithin, IsSymbolFormWithin, IsRankWithin}
 use Rattle.analysis_certs.proofs.RulePlaces.{all-in, some-in, symbols-below, some-symbol}
 
--- what holds of the multipliers of each rule of an ascending set holds of all of them
+-- a property of the multipliers of each rule of an ascending set is one of all multipliers
 moves-all : (P : List ℕ → Type 0) (ts : List ℕ) (ms : List (List ℕ)) → IsAscending ts → length ms ≡ length ts
     → ((t : ℕ) → is_in t ts ≡ true → P (moves_of ts ms t)) → All P ms
 moves-all P [] [] a l h = All-nil P
@@ -38,7 +38,7 @@ moves-all P (u ∷ ts) (m ∷ ms) a l h = All-cons P m ms own (moves-all P ts ms
         (ne_eqb u t (λ e. omega (arith, e, first-least u ts a t i)))
         (h t (or_right (t == u) (is_in t ts) i))
 
--- forms of the right shape at symbols that there are
+-- forms of the right shape at existing symbols are within the limits
 forms-all : (p : Program) (fs : List SymbolForm) → All (λ a. a < length p.symbols) (map (λ f. f.symbol) fs)
     → All (HasFormShape p) fs → All (IsSymbolFormWithin p) fs
 forms-all p [] h k = All-nil (IsSymbolFormWithin p)
@@ -51,12 +51,12 @@ forms-all p (f ∷ fs) h k =
     (All-tail (HasFormShape p) f fs k))
 
 module _ (s : Setting) where
-  -- a side bound
+  -- a side bound is within the limits
   pub side_bound-within : (t left : ℕ) (a : SideBound) → HasSideBoundShape s t left a → IsSideBoundWithin a
   side_bound-within t left (Linear den form multipliers) h = (h.den_limit, h.limit, h.one_each.limit)
   side_bound-within t left Poly h = tt
 
-  -- a member
+  -- a member is within the limits
   pub member-within : (m : Member) → HasMemberShape s m → IsMemberWithin s.program m
   member-within m h = record {
     result_variable = record {
@@ -71,7 +71,7 @@ module _ (s : Setting) where
     };
   }
 
-  -- a ranking node
+  -- a ranking node is within the limits
   pub rank-within : IsValid s.program → (node : RankNode) → HasRankShape s node → IsRankWithin s.program node
   rank-within valid node h = record {
     rule = h.rules node.rule h.inside;

@@ -1,4 +1,4 @@
--- The proof file of what an analysis of a valid program found is accepted, and within the limits.
+-- The proof file of an analysis of a valid program is accepted, and within the limits.
 use Rattle.std.proofs.Common.{◌≡◌, ℕ, ◌≤◌, List, [], ◌∷◌, length, map, sym, ap, ◌∙◌, subst, arith, All}
 use Rattle.std.proofs.lemmas.List.{length-append, length-map}
 use Rattle.std.proofs.lemmas.List.Elements.{All-nil, All-cons, All-head, All-tail, All-map}
@@ -30,7 +30,7 @@ use Rattle.analysis_certs.proofs.GapsWithin.{gap-within}
 use Rattle.analysis_certs.proofs.LemmasWithin.{lemmas-within, lemmas-over_first}
 use Rattle.analysis_certs.proofs.ShutPlaces.{HasItsPlaces, named-places, all-numbered, gaps-few}
 
--- gaps that hold, each over its places
+-- gaps that hold, each over its places, are within the limits
 gaps-within : (p : Program) (gaps : List code.Gap) → All (λ g. GapHolds p (forms_at p) (gap_of g)) gaps
     → All (λ g. HasItsPlaces p (gap_of g)) gaps → All (λ g. IsGapWithin p (gap_of g)) gaps
 gaps-within p [] h k = All-nil (λ g. IsGapWithin p (gap_of g))
@@ -41,7 +41,7 @@ gaps-within p (g ∷ gaps) h k =
     (gaps-within p gaps (All-tail (λ x. GapHolds p (forms_at p) (gap_of x)) g gaps h)
     (All-tail (λ x. HasItsPlaces p (gap_of x)) g gaps k))
 
--- what holds of all proofs as plain data holds of all proofs
+-- a property of all proofs as plain data is one of all proofs
 each-proof : (P : Proof → Type 0) (ls : List codes.Proof) → All P (map proof_of ls) → All (λ l. P (proof_of l)) ls
 each-proof P [] h = All-nil (λ l. P (proof_of l))
 each-proof P (l ∷ ls) h =
@@ -49,14 +49,14 @@ each-proof P (l ∷ ls) h =
     (each-proof P ls (All-tail P (proof_of l) (map proof_of ls) h))
 
 module _ (p : Program) (pivots : ℕ) (o : Outcome) (valid : IsValid p) (h : IsOutcomeOf p pivots o) where
-  -- the lemmas
+  -- the lemmas of the file are within the limits
   lemmas : AreLemmasWithin p 0 (map proof_of o.lemmas.items)
   lemmas =
       subst (AreLemmasWithin p 0) (sym h.lemmas.lemmas)
       (lemmas-within (setting_of p) valid h.lemmas.derivations h.lemmas.certified
       (subst (AcceptsLemmas (setting_of p)) h.lemmas.lemmas h.lemmas.accepted))
 
-  -- there are few
+  -- there are few lemmas
   few : length (map proof_of o.lemmas.items) ≤ 100000
   few =
       let derivations = made-few (searches_of_program p pivots) (setting_of p) valid (program_searches_right.each p pivots valid)
@@ -69,7 +69,7 @@ module _ (p : Program) (pivots : ℕ) (o : Outcome) (valid : IsValid p) (h : IsO
       h.lemmas.are_certified in
       omega (arith, derivations, same, long, costs, certified, h.found.cost_each, valid.few_rules)
 
-  -- the gaps
+  -- the gaps of the file are within the limits
   gaps : All (IsGapWithin p) (map gap_of o.gaps.items)
   gaps =
       All-map (IsGapWithin p) gap_of o.gaps.items
@@ -79,7 +79,7 @@ module _ (p : Program) (pivots : ℕ) (o : Outcome) (valid : IsValid p) (h : IsO
       named-places p pivots valid h.lemmas.derivations o.gaps.items 1 0 (length o.gaps.items) o.times.items h.lemmas.gaps
       h.lemmas.times j more most)))
 
-  -- which are few
+  -- there are few gaps
   few-gaps : length (map gap_of o.gaps.items) ≤ 1000
   few-gaps =
       let long = length-map o.gaps.items gap_of in
@@ -90,7 +90,7 @@ module _ (p : Program) (pivots : ℕ) (o : Outcome) (valid : IsValid p) (h : IsO
   whole : IsFileWithin p (file_of_outcome o)
   whole = record { lemmas = lemmas; few_lemmas = few; gaps = gaps; few_gaps = few-gaps }
 
--- the law
+-- the proof file is accepted, and within the limits
 pub proved-accepted : ProvedFilesAreAccepted
 proved-accepted = record {
   accepted = λ p pivots o valid h. record {

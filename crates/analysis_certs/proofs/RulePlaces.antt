@@ -15,7 +15,7 @@ use Rattle.model.proofs.Membership.{no_is_not_yes, same_number, is_in-filter, is
 use Rattle.cert_types.specs.cert_rules.AcceptsPlain.{IsRule}
 use Rattle.cert_types.specs.cert_rules.Graph.{touches, symbols_of}
 
--- what holds of each number in a list holds of all
+-- a property of each number in a list is one of all
 pub all-in : (P : ℕ → Type 0) (xs : List ℕ) → ((t : ℕ) → is_in t xs ≡ true → P t) → All P xs
 all-in P [] h = All-nil P
 all-in P (x ∷ xs) h =
@@ -34,7 +34,7 @@ range-below a (suc n) m h =
     All-cons (λ k. k < m) a (range_with_len (a + 1) n) (omega (arith, h))
     (range-below (a + 1) n m (omega (arith, h)))
 
--- what holds of all holds of those that pass a test
+-- a property of all numbers is one of those that pass a test
 filter-all : (P : ℕ → Type 0) (test : ℕ → Bool) (xs : List ℕ) → All P xs → All P (filter test xs)
 filter-all P test [] h = All-nil P
 filter-all P test (x ∷ xs) h = go (test x) refl (filter-all P test xs (All-tail P x xs h))
@@ -49,7 +49,7 @@ symbols-below p set =
     filter-all (λ a. a < length p.symbols) (touches p set) (range_with_len 0 (length p.symbols))
     (range-below 0 (length p.symbols) (length p.symbols) (omega arith))
 
--- where a set has a rule there are some
+-- a set with a rule has a symbol
 pub some-symbol : (p : Program) → IsValid p → (set : List ℕ) (t : ℕ) → is_in t set ≡ true → IsRule p t
     → 1 ≤ length (symbols_of p set)
 some-symbol p valid set t m rule =
@@ -67,7 +67,7 @@ some-symbol p valid set t m rule =
         (or_left (same_symbol (Some rule.rule.source) (source_of p t)) (same_symbol (Some rule.rule.source) (target_of p t))
         (ap (same_symbol (Some rule.rule.source)) source ∙ same_number rule.rule.source))
 
--- what a rule of a valid program, or the virtual entry, leads to is a symbol of the program
+-- the target of a rule of a valid program, or of the virtual entry, is a symbol of the program
 pub target-below : (p : Program) → IsValid p → (e a : ℕ) → target_of p e ≡ Some a → a < length p.symbols
 target-below p valid zero a e = subst (λ (n : ℕ). n < length p.symbols) (some_same p.start a e) valid.start
 target-below p valid (suc t) a e = go (slice_get p.rules t) refl

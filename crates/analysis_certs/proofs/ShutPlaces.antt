@@ -18,7 +18,7 @@ use Rattle.cert_types.specs.cert_rules.AcceptsPlain.{IsRule}
 use Rattle.cert_types.specs.cert_rules.Gaps.{SymbolPlace, Gap}
 use Rattle.cert_types.specs.cert_program.Setting.{setting_of}
 use Rattle.cert_text.specs.Spelled.{IsPlaceOf}
-use Rattle.bound_fixpoint.specs.Answers.{Target, TimeOf, SizesOf, Answer, Lacks, Tells, TellsTime, TellsRanking}
+use Rattle.bound_fixpoint.specs.Answers.{Target, TimeOf, SizesOf, Answer, Lacks, AnswersTarget, AnswersTime, AnswersRanking}
 use Rattle.bound_fixpoint.specs.Derivations.{Derivation, bounds_of}
 use Rattle.bound_fixpoint.specs.Rounds.{IsAskedFor, IsNoBound}
 use Rattle.bound_fixpoint.specs.Searches.{Searches, Ranking, Ranked, Unranked, RankHitLimit, OfTime}
@@ -36,14 +36,14 @@ use Rattle.analysis_certs.proofs.RulePlaces.{target-below}
 abbrev pub HasItsPlaces : Program → Gap → Type 0
 HasItsPlaces p g = All (IsPlaceOf p) g.shut
 
--- reasons that are the same name the same gap, and no others
+-- equal reasons name the same gap
 same-gap : (g h : Gap) → ◌≡◌ {A = Answer} (Lacks (OfTime (NoFunction g))) (Lacks (OfTime (NoFunction h))) → g ≡ h
 same-gap g h e = cc
 
 not-large : (g : Gap) (n : ℕ) → OfTime (NoFunction g) ≡ OfTime (TimeLarge n) → ⊥
 not-large g n e = cc
 
--- of two numbers in order the second is the first, or it is greater
+-- if one number is at most another, they are equal or the second is greater
 cases : (x y : ℕ) → x ≤ y → (y ≡ x) ⊎ (x < y)
 cases zero zero h = inl refl
 cases zero (suc y) h = inr (omega arith)
@@ -68,14 +68,14 @@ module _ (p : Program) (pivots : ℕ) (valid : IsValid p) where
   -- the shut places of the gap for which a rule has no time are places of symbols
   places-of : (fs : List Derivation) (t : ℕ) (g : Gap)
       → IsNoBound (searches_of_program p pivots) (setting_of p) fs t 0 (OfTime (NoFunction g)) → HasItsPlaces p g
-  places-of fs t g h = by-target h.target h.asked h.tells
+  places-of fs t g h = by-target h.target h.asked h.is_answer
     where
-      by-answer : (u : ℕ) → IsRule p u → (a : TellsTime (searches_of_program p pivots) (setting_of p) (bounds_of p fs) u (Lacks (OfTime (NoFunction g))))
+      by-answer : (u : ℕ) → IsRule p u → (a : AnswersTime (searches_of_program p pivots) (setting_of p) (bounds_of p fs) u (Lacks (OfTime (NoFunction g))))
           → (r : Ranking) → (searches_of_program p pivots).Ranks a.asked.set u a.asked.shut r
-          → TellsRanking (setting_of p) (bounds_of p fs) r (Lacks (OfTime (NoFunction g))) → HasItsPlaces p g
-      by-answer u rule a (Ranked node) answered tells = absurd (not-large g _ tells.1)
-      by-answer u rule a (RankHitLimit x) answered tells = absurd (let e : ◌≡◌ {A = Answer} (Lacks (OfTime (NoFunction g))) (Lacks (OfTime (TimeHitLimit x))) = tells in let no_way : ⊥ = cc in no_way)
-      by-answer u rule a (Unranked k) answered tells =
+          → AnswersRanking (setting_of p) (bounds_of p fs) r (Lacks (OfTime (NoFunction g))) → HasItsPlaces p g
+      by-answer u rule a (Ranked node) answered is_answer = absurd (not-large g _ is_answer.1)
+      by-answer u rule a (RankHitLimit x) answered is_answer = absurd (let e : ◌≡◌ {A = Answer} (Lacks (OfTime (NoFunction g))) (Lacks (OfTime (TimeHitLimit x))) = is_answer in let no_way : ⊥ = cc in no_way)
+      by-answer u rule a (Unranked k) answered is_answer =
           let right = (program_searches_right.each p pivots valid).rank a.asked.set u a.asked.shut (Unranked k)
           (is_question (setting_of p) (bounds_of p fs) (Constant 1, refl) u a.asked.set rule a.asked.is_set) answered in
           let same : k.shut ≡ a.asked.shut = right.0.same_shut in
@@ -83,14 +83,14 @@ module _ (p : Program) (pivots : ℕ) (valid : IsValid p) where
           subst (All (IsPlaceOf p)) (sym same)
           (All-weaker (Contains a.asked.shut) (IsPlaceOf p)
           (λ x c. place-of fs a.asked.set x ((a.asked.are_shut.places x).0 c)) a.asked.shut (All-contains_itself a.asked.shut)) in
-          subst (HasItsPlaces p) (sym (same-gap g k tells)) shut
+          subst (HasItsPlaces p) (sym (same-gap g k is_answer)) shut
 
       by-target : (target : Target) → IsAskedFor (searches_of_program p pivots) (setting_of p) t 0 target
-          → Tells (searches_of_program p pivots) (setting_of p) (bounds_of p fs) target (Lacks (OfTime (NoFunction g)))
+          → AnswersTarget (searches_of_program p pivots) (setting_of p) (bounds_of p fs) target (Lacks (OfTime (NoFunction g)))
           → HasItsPlaces p g
-      by-target (TimeOf u) asked tells =
-          by-answer u (subst (IsRule p) (sym asked.1) asked.0) tells tells.asked.answer tells.asked.answered tells.tells
-      by-target (SizesOf keys) asked tells = absurd asked
+      by-target (TimeOf u) asked is_answer =
+          by-answer u (subst (IsRule p) (sym asked.1) asked.0) is_answer is_answer.asked.answer is_answer.asked.answered is_answer.is_answer
+      by-target (SizesOf keys) asked is_answer = absurd asked
 
   -- the shut places of each gap that times name are places of symbols
   pub named-places : (fs : List Derivation) (gaps : List code.Gap) (t n count : ℕ) (entries : List TimeEntry)
@@ -112,7 +112,7 @@ module _ (p : Program) (pivots : ℕ) (valid : IsValid p) where
           (places-of fs t (numbered_gap gaps g) are.0)
       go (inr l) later = later l
 
--- what holds of each gap by its number holds of all
+-- a property of each gap by its number is one of all gaps
 pub all-numbered : (P : Gap → Type 0) (gaps : List code.Gap)
     → ((j : ℕ) → 0 < j → j ≤ length gaps → P (numbered_gap gaps j)) → All (λ g. P (gap_of g)) gaps
 all-numbered P [] h = All-nil (λ g. P (gap_of g))

@@ -23,8 +23,8 @@ pub record IsOutcomeOf (p : Program) (pivots : ℕ) (o : Outcome) : Type 0 where
 abbrev pub file_of_outcome : Outcome → ProofFile
 file_of_outcome o = record { lemmas = map proof_of o.lemmas.items; gaps = map gap_of o.gaps.items }
 
--- the file of what an analysis of a valid program found is accepted for the program; it is within the limits of proof
--- files; and each bound that its lemmas write is over the start arguments alone
+-- the file of an analysis of a valid program is accepted for the program; it is within the limits of proof files; and
+-- each bound that its lemmas write is over the start arguments alone
 pub record ProvedFilesAreAccepted : Type 0 where
   pub accepted : (p : Program) (pivots : ℕ) (o : Outcome) → IsValid p → IsOutcomeOf p pivots o
       → AcceptsFileFor p (file_of_outcome o)

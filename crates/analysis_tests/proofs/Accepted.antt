@@ -1,4 +1,4 @@
--- Local bounds that are found are accepted, and members that have them are what the searches for sizes are given.
+-- The side bounds of local bounds are accepted, and members that have them are a right input of the searches for sizes.
 use Rattle.std.proofs.Common.{◌≡◌, ℕ, suc, ◌<◌, ◌≤◌, List, [], ◌∷◌, ◌++◌, length, map, get_or, Some, sym, ◌∙◌, ap}
 use Rattle.std.proofs.Common.{subst, arith}
 use Rattle.std.specs.List.{All}
@@ -27,7 +27,7 @@ use Rattle.size_nodes.specs.Members.{IsMemberOfProgram, AreMembersOfProgram}
 use Rattle.time_bounds.specs.Candidates.{IsAccepted}
 use Rattle.time_bounds.proofs.RowLaws.{RowsAt, rows_at}
 
--- both arms that are found of a place of a rule are accepted
+-- both side bounds that are found for a place of a rule are accepted
 pub accepted : (p : Program) (prepared_rules : List RuleRows) (k pivots : ℕ) (m : RuleRows) (result_variable : ResultVariable) (e : GuardFeasibility) (l : LocalBound)
     → IsValid p → AreRowsOf prepared_rules p → k < length prepared_rules → m ≡ get_or prepared_rules k m → result_variable.rule ≡ suc k → 1 ≤ result_variable.place
     → result_variable.place ≤ length m.new_values.items → IsLocal (prepared_of m) result_variable pivots e (HasBound l) → IsAccepted p (record { result_variable = result_variable; local = l })
@@ -47,14 +47,14 @@ accepted p prepared_rules k pivots m result_variable e l valid rows low is numbe
       low = bounds-accepted.low p at.rule result_variable pivots e l valid of local;
     }
 
--- one member more
+-- members with accepted side bounds, with one more
 pub accepted_more : (p : Program) (ms : List code.Member) (m : code.Member) → All (IsAccepted p) (map member_of ms) → IsAccepted p (member_of m)
     → All (IsAccepted p) (map member_of (ms ++ m ∷ []))
 accepted_more p ms m all one =
     subst (λ (xs : List Member). All (IsAccepted p) xs) (sym (map-append member_of ms (m ∷ [])))
     (All-push (IsAccepted p) (map member_of ms) (member_of m) all one)
 
--- what the search for the size of the first member is given
+-- the members are a right input of the search for the size of the first one
 pub given_alone : (p : Program) (g : Graph) (prepared_rules : List RuleRows) (ms : List code.Member) (m : code.Member) → IsValid p → IsGraphOf g p
     → AreRowsOf prepared_rules p → All (IsAccepted p) (map member_of ms) → 0 < length ms → m ≡ get_or ms 0 m → IsMemberOfProgram p g prepared_rules (member_of m)
 given_alone p g prepared_rules ms m valid graph rows all some is =
@@ -62,7 +62,7 @@ given_alone p g prepared_rules ms m valid graph rows all some is =
     let k = subst (IsAccepted p) first (all 0 (member_of m) (omega (arith, some, length-map ms member_of))) in
     record { valid = valid; graph = graph; rows = rows; shape = k.shape; up = k.up; low = k.low }
 
--- and that for the size of the members of a loop
+-- the members are a right input of the search for the size of a loop
 pub given_loop : (p : Program) (g : Graph) (prepared_rules : List RuleRows) (ms : List code.Member) → IsValid p → IsGraphOf g p → AreRowsOf prepared_rules p
     → All (IsAccepted p) (map member_of ms) → 0 < length ms → AreAscending (map member_of ms) → AreMembersOfProgram p g prepared_rules (map member_of ms)
 given_loop p g prepared_rules ms valid graph rows all some ascending = record {

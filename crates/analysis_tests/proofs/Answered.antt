@@ -1,4 +1,4 @@
--- Answers for as many places as the rows of each rule have are what the search for components is given.
+-- Answers for as many places as the rows of each rule have are a right input of the search for components.
 use Rattle.std.proofs.Common.{◌≡◌, ℕ, zero, suc, Bool, List, [], ◌∷◌, length, map, Vec, Some, sym, ◌∙◌, ap}
 use Rattle.std.specs.Prelude.{slice_get, slice_index_or, true}
 use Rattle.std.specs.declared.alloc.Global.{Global}
@@ -47,7 +47,7 @@ places_at (l ∷ locals) (m ∷ prepared_rules) (x ∷ rules) (suc k) r e f g =
     places_at locals prepared_rules rules k r (rest_same (length l.items) (length m.new_values.items) (how_many locals) (how_many_new prepared_rules) e)
     (rest_same (prepared_of m) (prepared x) (map prepared_of prepared_rules) (map prepared rules) f) g
 
--- so there is an answer for each place of each rule
+-- there is an answer for each place of each rule
 pub locals_for : (p : Program) (prepared_rules : List RuleRows) (locals : List (Vec LocalAnswer Global)) (live : List Bool) → IsValid p → AreRowsOf prepared_rules p
     → how_many locals ≡ how_many_new prepared_rules → length live ≡ length p.rules → AreLocalsFor p (answer_lists locals) live
 locals_for p prepared_rules locals live valid rows same flags = record {

@@ -1,4 +1,4 @@
--- what the searches for sizes are given
+-- the inputs of the searches for sizes
 pub mod Accepted
--- what the search for components is given
+-- the input of the search for components
 pub mod Answered

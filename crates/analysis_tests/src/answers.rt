@@ -1,4 +1,4 @@
-//! The answer to a line: a call, behind a blank what it is made on, and behind a semicolon rules from l0.
+//! The answer to a line: a call, after a blank its argument, and after a semicolon rules from l0.
 
 ghost use Rattle.its_model.specs.Valid.{IsValid};
 ghost use Rattle.its_model.specs.Views.{program_of};
@@ -14,7 +14,7 @@ use its_model::Program;
 use model::Memory;
 use std::alloc::Global;
 
-// How many pivots the question about a place may take where the one about its rule was given up.
+// How many pivots the question about a place may take if the one about its rule was given up.
 const PIVOTS: u32 = 10_000;
 
 /// Answers a line.
@@ -59,7 +59,7 @@ fn about_program(alloc: Global, p: &Program, call: &str, written: &str) -> Resul
     }
 }
 
-// The local bound of a place of a rule of which it was asked for so many pivots whether its rows have a point.
+// The local bound of a place of a rule, if the question whether its rows have a point may take this many pivots.
 fn given_up(alloc: Global, p: &Program, pivots: u32, place: &str) -> Result<String, Memory>
     requires { IsValid (program_of p.now) }
 {

@@ -9,8 +9,8 @@ use outcome::{CostEntry, Outcome};
 use std::alloc::Global;
 use time_bounds::analyse;
 
-/// What the analysis with so many pivots finds: the times, the sizes, the total, the costs and the total, or how many
-/// lemmas and gaps there are.
+/// The result of the analysis with this many pivots: the times, the sizes, the total, the costs and the total, or how
+/// many lemmas and gaps there are.
 pub(crate) fn found(alloc: Global, p: &Program, call: &str, pivots: u32) -> Result<String, Memory>
     requires { IsValid (program_of p.now) }
 {

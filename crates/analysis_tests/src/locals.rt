@@ -14,8 +14,8 @@ use model::Memory;
 use rank_search::guard_feasibility;
 use std::alloc::Global;
 
-/// The answer for a place of a rule, where it is known that a limit was hit by the question whether the rule's rows
-/// have a point, or else by what is found of them.
+/// The answer for a place of a rule, by whether it is known that the question whether the rule's rows have a point hit
+/// a limit, or else by the answer to it.
 pub(crate) fn answer_in(
     alloc: Global,
     p: &Program,

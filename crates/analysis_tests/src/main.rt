@@ -1,5 +1,5 @@
-//! Answers each line of the standard input by one line: what an analysis, or a search that it makes, finds of the rules
-//! in it. A line without a call, as a remark that begins with `#`, is written as it is.
+//! Answers each line of the standard input by one line: the result of an analysis, or of one of its searches, for the
+//! rules in it. A line without a call, such as a remark that begins with `#`, is written unchanged.
 #![tactic(auto)]
 
 mod answers;

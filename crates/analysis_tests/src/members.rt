@@ -1,4 +1,4 @@
-//! Places with their local bounds, as the searches for sizes are given them.
+//! Places with their local bounds, as the input of the searches for sizes.
 
 ghost use Rattle.std.specs.Prelude.{◌≡◌, true, length, map, IfOk, IfSome, OnOk};
 ghost use Rattle.std.specs.List.{All};
@@ -19,7 +19,7 @@ use std::alloc::Global;
 
 const PIVOTS: u32 = 10_000;
 
-// That it isn't known whether the rows of a rule have a point. No arm depends on it.
+// The answer that it isn't known whether the rows of a rule have a point. No side bound depends on it.
 fn unknown(rule: u32) -> GuardFeasibility
     ensures { ¬ SaysEmpty result }
 {
@@ -55,7 +55,7 @@ pub(crate) fn locals_after(
     Ok(answers)
 }
 
-// A place of a rule with its local bound, where it has one.
+// A place of a rule with its local bound, if it has one.
 fn member_at(
     alloc: Global,
     prepared_rules: &[RuleRows],
@@ -95,7 +95,7 @@ fn member_at(
     }
 }
 
-// Appends a place of a rule with its local bound, where it has one.
+// Appends a place of a rule with its local bound, if it has one.
 fn push_member(
     alloc: Global,
     members: &mut Vec<Member>,
@@ -112,7 +112,7 @@ fn push_member(
     Ok(())
 }
 
-/// Those of these places that have local bounds, with these.
+/// Those of these places that have local bounds, with their bounds.
 pub(crate) fn members_at(
     alloc: Global,
     prepared_rules: &[RuleRows],

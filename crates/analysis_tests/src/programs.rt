@@ -1,4 +1,4 @@
-//! Programs of some rules, and what the searches are given of them.
+//! Programs of some rules, and the inputs of the searches for them.
 
 ghost use Rattle.std.specs.Prelude.{IfOk, IfSome};
 ghost use Rattle.its_model.specs.Valid.{IsValid};
@@ -11,7 +11,7 @@ use its_reader::{ReadError, read};
 use model::Memory;
 use std::alloc::{AllocError, Global};
 
-/// The program with these rules, from l0, where they are read.
+/// The program with these rules, from l0, if they are read.
 pub(crate) fn program(alloc: Global, rules: &str) -> Result<Option<Program>, Memory>
     ensures { IfOk result (λ read. IfSome read (λ p. IsValid (program_of p))) }
 {

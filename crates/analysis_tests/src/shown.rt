@@ -5,7 +5,7 @@ use model::Memory;
 use size_bounds::SizeAnswer;
 use std::alloc::Global;
 
-/// An answer as text; of a node that was found, whether it is of these members, its premises and its facts.
+/// An answer as text; for a node that was found, whether it is of these members, its premises and its facts.
 pub(crate) fn shown_answer(
     alloc: Global,
     answer: &SizeAnswer,

@@ -31,7 +31,7 @@ pub(crate) enum Asked {
     Looping,
 }
 
-// A question about members with what is known.
+// A question about members over known bounds.
 #[derive(Drop)]
 struct SizeQuestion {
     asked: Asked,
@@ -113,7 +113,7 @@ fn answer_by(
     asked_of(alloc, g, prepared_rules, question, &members)
 }
 
-/// The answer to a question about places of a program, divided by blanks, with the known bounds behind a comma.
+/// The answer to a question about places of a program, divided by blanks, with the known bounds after a comma.
 pub(crate) fn sizes_text(
     alloc: Global,
     p: &Program,

@@ -1,5 +1,5 @@
 //! Tables of given bounds as lines write them: entries are divided by commas, and each is a place of a rule, or a rule
-//! and 0 for its time; the bound; and the number of its lemma. A bound is a number, an input from `A` to `C`, or behind
+//! and 0 for its time; the bound; and the number of its lemma. A bound is a number, an input from `A` to `C`, or after
 //! a `*` how many parts A a sum has.
 
 use crate::words::{first_and_rest, number, result_variable};
@@ -42,7 +42,7 @@ fn entry(alloc: Global, entries: &str, rule: u32, place: u32) -> Result<Option<S
     Ok(None)
 }
 
-/// The table of what is known, for up to four rules with up to three places.
+/// The table of known bounds, for up to four rules with up to three places.
 pub(crate) fn table(alloc: Global, entries: &str) -> Result<Table, Memory> {
     let mut times = Vec::new(alloc);
     let mut sizes = Vec::new(alloc);

@@ -6,7 +6,7 @@ use cert_types::ResultVariable;
 use model::Memory;
 use std::alloc::Global;
 
-/// The first word of a text and the rest behind its blank.
+/// The first word of a text and the rest after its blank.
 pub(crate) fn first_and_rest(text: &str) -> (&str, &str) {
     text.split_once(' ').unwrap_or((text, ""))
 }

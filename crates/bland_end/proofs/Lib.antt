@@ -16,5 +16,5 @@ pub mod Budgets
 pub mod OneEnd
 pub mod WorkedBases
 pub mod WorkedPivots
--- the lemmas of the crates below, which callers name through this one
+-- The lemmas of the crates below, which callers name through this one.
 pub use Rattle.simplex_core.proofs as simplex_core

@@ -1,11 +1,11 @@
--- what the contracts of this crate, and of those above it, cite
+-- The specs that contracts of this crate and of other crates cite.
 pub mod Bases
 pub mod Pivoted
 pub mod Counting
 pub mod Laws
 pub mod Whole
--- values that were worked out by hand
+-- Worked values.
 pub mod Worked
 pub mod WorkedPivots
--- the crates below, which callers name through this one
+-- The crates below, which callers name through this one.
 pub use Rattle.simplex_core.specs as simplex_core

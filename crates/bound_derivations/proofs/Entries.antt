@@ -1,4 +1,4 @@
--- The elements at a position, and at a place after a rule, once a value was written where there was none.
+-- The entries at a position, and at a place after a rule, after a value was put where there was none.
 use Rattle.std.proofs.Common.{◌≡◌, get_or, true, false, cond, ℕ, zero, suc, ◌<◌, ◌≤◌, List, [], ◌∷◌, length, map}
 use Rattle.std.proofs.Common.{Option, Some, None, refl, sym, ◌∙◌, ap, arith}
 use Rattle.std.specs.Prelude.{slice_set, is_some}
@@ -7,7 +7,7 @@ use Rattle.model.proofs.Membership.{no_is_not_yes}
 use Rattle.size_bounds.specs.Tables.{entry_at, row_at}
 use Rattle.bound_derivations.specs.ByKey.{put_entry, put_time, put_place, is_free_at}
 
--- at its position there is the value, where there was none
+-- after a value is put at a position without one, the position has it
 pub entry_own : {A : Type 0} (os : List (Option A)) (n : ℕ) (a : A)
     → entry_at (put_entry os n a) n ≡ cond (is_free_at os n) (Some a) (entry_at os n)
 entry_own [] n a = refl
@@ -15,7 +15,7 @@ entry_own (None ∷ os) zero a = refl
 entry_own (Some b ∷ os) zero a = refl
 entry_own (o ∷ os) (suc n) a = entry_own os n a
 
--- the position isn't free after a value is put there
+-- a position isn't free after a value is put there
 pub entry_filled_own : {A : Type 0} (os : List (Option A)) (n : ℕ) (a : A) → is_free_at (put_entry os n a) n ≡ false
 entry_filled_own [] n a = refl
 entry_filled_own (None ∷ os) zero a = refl
@@ -40,7 +40,7 @@ free_other (o ∷ os) zero (suc m) a h = refl
 free_other (o ∷ os) (suc n) zero a h = refl
 free_other (o ∷ os) (suc n) (suc m) a h = free_other os n m a (λ e. h (ap (λ (k : ℕ). suc k) e))
 
--- the list is as long as before
+-- putting a value leaves the length of the list unchanged
 pub entry_long : {A : Type 0} (os : List (Option A)) (n : ℕ) (a : A) → length (put_entry os n a) ≡ length os
 entry_long [] n a = refl
 entry_long (o ∷ os) zero a = refl
@@ -54,19 +54,19 @@ free_within (None ∷ os) zero l e = refl
 free_within (Some b ∷ os) zero l e = absurd (none_some b (sym e))
 free_within (o ∷ os) (suc n) l e = free_within os n (omega (arith, l)) e
 
--- among times, what is read elsewhere stays
+-- among times, the entries at other keys are unchanged
 pub time_other : {A B : Type 0} (f : List (Option A) → ℕ → B)
     → ((os : List (Option A)) (n m : ℕ) (a : A) → (n ≡ m → ⊥) → f (put_entry os n a) m ≡ f os m)
     → (os : List (Option A)) (u j t : ℕ) (a : A) → (u ≡ t → j ≡ 0 → ⊥) → f (put_time os u j a) t ≡ f os t
 time_other f h os u zero t a n = h os u t a (λ e. n e refl)
 time_other f h os u (suc j) t a n = refl
 
--- there are as many times as before
+-- putting a value leaves the number of times unchanged
 pub time_long : {A : Type 0} (os : List (Option A)) (u j : ℕ) (a : A) → length (put_time os u j a) ≡ length os
 time_long os u zero a = entry_long os u a
 time_long os u (suc j) a = refl
 
--- at its place there is the value, where there was none
+-- after a value is put at a place without one, the place has it
 pub place_own : {A : Type 0} (rows : List (List (Option A))) (t i : ℕ) (a : A)
     → entry_at (row_at (put_place rows t (suc i) a) t) i
     ≡ cond (is_free_at (row_at rows t) i) (Some a) (entry_at (row_at rows t) i)
@@ -94,7 +94,7 @@ place_other f h (row ∷ rows) (suc u) j zero i a n = refl
 place_other f h (row ∷ rows) (suc u) j (suc t) i a n =
     place_other f h rows u j t i a (λ e. n (ap (λ (k : ℕ). suc k) e))
 
--- the rows are as long as before
+-- putting a value leaves the lengths of the rows unchanged
 pub place_long : {A : Type 0} (rows : List (List (Option A))) (t i : ℕ) (a : A)
     → map (λ (row : List (Option A)). length row) (put_place rows t i a)
     ≡ map (λ (row : List (Option A)). length row) rows
@@ -147,7 +147,7 @@ place_none items (r ∷ rows) zero i a l = absurd (omega (arith, l))
 place_none items (r ∷ rows) (suc t) i a l =
     ap (λ rest. items r ∷ rest) (place_none items rows t i a (omega (arith, l)))
 
--- at the place 0 nothing is written among rows
+-- at place 0 nothing is written among rows of sizes
 pub place_zero : {A : Type 0} (rows : List (List (Option A))) (t : ℕ) (a : A) → rows ≡ put_place rows t 0 a
 place_zero [] t a = refl
 place_zero (r ∷ rows) zero a = refl

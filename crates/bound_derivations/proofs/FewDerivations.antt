@@ -16,16 +16,16 @@ use Rattle.bound_fixpoint.specs.Laws.{missing}
 use Rattle.bound_fixpoint.specs.Right.{AreRight, AreOne}
 use Rattle.bound_fixpoint.specs.Rounds.{IsMade, Begun, Made}
 use Rattle.bound_fixpoint.specs.Searches.{Searches}
-use Rattle.bound_fixpoint.specs.Standing.{StandAfter}
+use Rattle.bound_fixpoint.specs.Justification.{AreJustifiedAfter}
 use Rattle.bound_fixpoint.proofs.DerivationLists.{bounds_of-kept, bounds_of-new, found-here}
 use Rattle.bound_fixpoint.proofs.Keys.{has_key-all}
 use Rattle.bound_fixpoint.proofs.MissingFalls.{missing_falls}
 use Rattle.bound_fixpoint.proofs.RoundsEnd.{FindsMissing, round_missing}
-use Rattle.bound_fixpoint.proofs.SizesStand.{all_stand}
+use Rattle.bound_fixpoint.proofs.SizesAreJustified.{all_justified}
 use Rattle.bound_derivations.proofs.Room.{missing_few}
 use Rattle.model.specs.Paths.{target_of}
 
--- no more pass a test than there are
+-- no more elements pass a test than the list has
 filter-short : {A : Type 0} (test : A → Bool) (xs : List A) → length (filter test xs) ≤ length xs
 filter-short test [] = omega arith
 filter-short test (x ∷ xs) = go (test x) refl (filter-short test xs)
@@ -40,7 +40,7 @@ empties-count q [] fs e = ap (λ (xs : List Derivation). length xs) e
 empties-count q (t ∷ ts) fs (multipliers, h, (rest, e, more)) =
     ap (λ (xs : List Derivation). length xs) e ∙ ap (λ (n : ℕ). suc n) (empties-count q ts rest more)
 
--- few are found before the first round
+-- there are few derivations before the first round
 first-few : (q : Searches) (p : Program) → IsValid p → (fs : List Derivation) → AreFirst q p fs → length fs ≤ 3000
 first-few q p valid fs h =
     let rules = length-range_with_len 1 (length p.rules) in
@@ -66,7 +66,7 @@ first-few q p valid fs h =
 
 -- derivations that are justified after others, each with a key of a rule, lower the number of missing bounds by at
 -- least their own number
-falls : (s : Setting) (old fs more : List Derivation) → StandAfter s fs more → All (FindsMissing s.program old) more
+falls : (s : Setting) (old fs more : List Derivation) → AreJustifiedAfter s fs more → All (FindsMissing s.program old) more
     → missing s.program (bounds_of s.program (fs ++ more)) + length more ≤ missing s.program (bounds_of s.program fs)
 falls s old fs [] h k =
     let same : missing s.program (bounds_of s.program (fs ++ [])) ≡ missing s.program (bounds_of s.program fs) =
@@ -86,10 +86,10 @@ falls s old fs (f ∷ more) h k =
     omega (arith, here, later, same)
 
 -- the second part of a justified list is justified after the first
-stand-rest : (s : Setting) (earlier xs ys : List Derivation) → StandAfter s earlier (xs ++ ys) → StandAfter s (earlier ++ xs) ys
-stand-rest s earlier [] ys h = subst (λ (fs : List Derivation). StandAfter s fs ys) (sym (append-nil earlier)) h
+stand-rest : (s : Setting) (earlier xs ys : List Derivation) → AreJustifiedAfter s earlier (xs ++ ys) → AreJustifiedAfter s (earlier ++ xs) ys
+stand-rest s earlier [] ys h = subst (λ (fs : List Derivation). AreJustifiedAfter s fs ys) (sym (append-nil earlier)) h
 stand-rest s earlier (x ∷ xs) ys h =
-    subst (λ (fs : List Derivation). StandAfter s fs ys) (append_assoc earlier (x ∷ []) xs)
+    subst (λ (fs : List Derivation). AreJustifiedAfter s fs ys) (append_assoc earlier (x ∷ []) xs)
     (stand-rest s (earlier ++ x ∷ []) xs ys h.1)
 
 module _ (q : Searches) (s : Setting) (valid : IsValid s.program) (right : AreRight q s) (one : AreOne q) where
@@ -101,7 +101,7 @@ module _ (q : Searches) (s : Setting) (valid : IsValid s.program) (right : AreRi
       omega (arith, few, rest)
   made-count fs (Made {fs = old} {more = more} m n) =
       let before = made-count old m in
-      let stand = stand-rest s [] old more (all_stand q s right one (old ++ more) (Made m n)).each in
+      let stand = stand-rest s [] old more (all_justified q s right one (old ++ more) (Made m n)).each in
       let fewer = falls s old old more stand (round_missing q s old more n) in
       let long = length-append old more in
       omega (arith, before, fewer, long)

@@ -28,12 +28,12 @@ use Rattle.bound_derivations.specs.Views.{derivation_of, derivations_of}
 use Rattle.bound_derivations.proofs.Entries.{free_within}
 use Rattle.bound_derivations.proofs.Room.{find_falls}
 
--- where no bound is stored, nothing is
+-- if no bound is stored, there is no entry
 pub unstored : (o : Option Stored) → bound_stored o ≡ None → o ≡ None
 unstored None e = refl
 unstored (Some s) e = absurd (none_some (bound_of s.bound) (sym e))
 
--- how long the row of a rule is
+-- the length of the row of a rule
 pub long_at : (rows : List (List (Option Stored))) (ns : List ℕ) (t : ℕ)
     → map (λ (row : List (Option Stored)). length row) rows ≡ ns → length (row_at rows t) ≡ slice_index_or ns t 0
 long_at [] [] t e = refl
@@ -43,7 +43,7 @@ long_at (row ∷ rows) (n ∷ ns) zero e = let h : length row ≡ n = cc in h
 long_at (row ∷ rows) (n ∷ ns) (suc t) e =
     let h : map (λ (r : List (Option Stored)). length r) rows ≡ ns = cc in long_at rows ns t h
 
--- this is the arity of the rule's target
+-- the length of the row of a rule is the arity of the rule's target
 pub arity_at : (p : Program) (rules : List Rule) (t : ℕ) (r : Rule) → slice_get rules t ≡ Some r
     → slice_index_or (map (λ (r : Rule). arity_of p r.target) rules) t 0 ≡ arity_of p r.target
 arity_at p [] t r e = absurd (let f : ⊥ = cc in f)
@@ -79,11 +79,11 @@ free_key p tab t (suc i) h k e = go k.place
         let within = place_within p tab t (suc i) h k.rule place in
         free_within (row_at (rows_of tab) t) i (omega (arith, within)) (unstored (stored_in tab t (suc i)) e)
 
--- the virtual entry has no key of a rule
+-- no key of the virtual entry is a key of a rule
 pub no_entry : (p : Program) (i : ℕ) → IsKey p 0 i → ⊥
 no_entry p i k = let e = k.rule.numbered in let f : ⊥ = cc in f
 
--- a key that is found by the last derivation alone has its number
+-- a key that only the last derivation has gets the number of that derivation
 pub number-new : (n : ℕ) (fs : List plain.Derivation) (g : plain.Derivation) (t i : ℕ) → plain.bound_found fs t i ≡ None
     → has_key g.keys t i ≡ true → plain.number_from n (fs ++ g ∷ []) t i ≡ suc (n + length fs)
 number-new n [] g t i e m = rw m (let h : suc n ≡ suc (n + 0) = omega arith in h)
@@ -146,7 +146,7 @@ bounds_taken p old new derivations g n derived open_keys written t i = by_cases 
         ∙ (ap (plain.first_of (plain.bounds_of p (derivations_of derivations) t i)) (found-later g [] t i m)
         ∙ first_of-alone (plain.bounds_of p (derivations_of derivations) t i)))))
 
--- writing its number gives the numbers with one derivation more
+-- writing the number of a derivation gives the numbers with one derivation more
 numbers_taken : (p : Program) (old new : Table) (derivations : List Derivation) (g : plain.Derivation) → AreDerivedBounds p old derivations
     → AreOpen p (derivations_of derivations) g.keys → IsWritten old g.keys g.bound (length derivations + 1) new
     → (t i : ℕ) → number_at new t i ≡ plain.number_in (derivations_of derivations ++ g ∷ []) t i
@@ -181,7 +181,7 @@ numbers_taken p old new derivations g derived open_keys written t i = by_cases (
         ∙ (first_fails (has_key g.keys (suc t) i) (is_free old (suc t) i) (length derivations + 1) (number_at old (suc t) i) m
         ∙ (derived.numbers (suc t) i ∙ sym (number-other 0 (derivations_of derivations) g (suc t) i m)))
 
--- writing the same bound at the same keys, with the same number
+-- writing depends only on the keys, the bound and the number
 written_same : (old new : Table) (xs ys : List ResultVariable) (b : Bound) (m n : ℕ) → xs ≡ ys → m ≡ n
     → IsWritten old xs b m new → IsWritten old ys b n new
 written_same old new xs ys b m n e f h =

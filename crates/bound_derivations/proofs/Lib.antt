@@ -2,7 +2,7 @@
 pub mod Entries
 -- tables in which bounds are written by key
 pub mod Writes
--- there is room for what is found
+-- there are numbers for all derivations
 pub mod Room
 -- the table stays the index of the list
 pub mod IndexStays
@@ -14,5 +14,5 @@ pub mod StartIndex
 pub mod TablesByKey
 -- worked values
 pub mod WorkedValues
--- rounds find few bounds
+-- rounds make few derivations
 pub mod FewDerivations

@@ -1,4 +1,4 @@
--- There is room for each derivation: for a valid program few bounds are missing, and each derivation leaves fewer.
+-- There is a number for each derivation: few bounds of a valid program are missing, and each derivation leaves fewer.
 use Rattle.std.proofs.Common.{◌≡◌, ◌⊎◌, inl, inr, ℕ, ◌+◌, ◌*◌, ◌-◌, ◌<◌, ◌≤◌, ◌^◌, Bool, true, false, cond, List, []}
 use Rattle.std.proofs.Common.{◌∷◌, ◌++◌, length, Option, Some, None, refl, sym, ◌∙◌, ap, subst, arith}
 use Rattle.std.specs.Prelude.{⊤}
@@ -31,7 +31,7 @@ one_at_most : (v : Bool) → cond v 1 0 ≤ 1
 one_at_most true = omega arith
 one_at_most false = omega arith
 
--- no more pass a test than there are
+-- no more elements pass a test than the list has
 count_most : {A : Type 0} (test : A → Bool) (xs : List A) → count_by test xs ≤ length xs
 count_most test [] = omega arith
 count_most test (x ∷ xs) =
@@ -90,12 +90,12 @@ find_falls p fs g are = go g.keys refl are
         (key_of_rule p k.rule k.place rule) none
         (bounds_of-new p fs (g ∷ []) k.rule k.place none ∙ found-here g [] k.rule k.place has)
 
--- no key comes twice
+-- no key occurs twice
 abbrev pub AreDistinct : List ResultVariable → Type 0
 AreDistinct [] = ⊤
 AreDistinct (k ∷ keys) = (has_key keys k.rule k.place ≡ false) × AreDistinct keys
 
--- of two bounds the first counts where there is no other
+-- the first of two bounds, if there is no second one, is the first
 first_of_alone : (o : Option Bound) → plain.first_of o None ≡ o
 first_of_alone None = refl
 first_of_alone (Some b) = refl
@@ -105,7 +105,7 @@ module _ (p : Program) (fs : List plain.Derivation) (g : plain.Derivation) where
   abbrev pub derivation_at : List ResultVariable → plain.Derivation
   derivation_at keys = record { keys = keys; node = g.node; premises = g.premises; bound = g.bound }
 
-  -- with one key more, every known bound stays known
+  -- with one key derived more, every known bound stays known
   known_still : (k : ResultVariable) (ks : List ResultVariable) (t i : ℕ) (b : Bound)
       → plain.bounds_of p (fs ++ derivation_at ks ∷ []) t i ≡ Some b
       → plain.bounds_of p (fs ++ derivation_at (k ∷ ks) ∷ []) t i ≡ Some b
@@ -124,7 +124,7 @@ module _ (p : Program) (fs : List plain.Derivation) (g : plain.Derivation) where
           (λ m. absurd (none_some b
           (sym (bounds_of-new p fs (derivation_at ks ∷ []) t i e ∙ found-later (derivation_at ks) [] t i m) ∙ h)))
 
-  -- with one key more, one bound fewer is missing
+  -- with one key derived more, one bound fewer is missing
   one_falls : (k : ResultVariable) (ks : List ResultVariable) → has_key ks k.rule k.place ≡ false → IsKey p k.rule k.place
       → plain.bounds_of p fs k.rule k.place ≡ None
       → missing p (plain.bounds_of p (fs ++ derivation_at (k ∷ ks) ∷ []))
@@ -136,7 +136,7 @@ module _ (p : Program) (fs : List plain.Derivation) (g : plain.Derivation) where
       (bounds_of-new p fs (derivation_at (k ∷ ks) ∷ []) k.rule k.place none
       ∙ found-here (derivation_at (k ∷ ks)) [] k.rule k.place (has_key-first k ks))
 
-  -- with each key more, one bound fewer is missing
+  -- with each key derived, one bound fewer is missing
   all_fall : (keys : List ResultVariable) → AreDistinct keys → All (λ k. IsKey p k.rule k.place) keys
       → All (λ k. plain.bounds_of p fs k.rule k.place ≡ None) keys
       → missing p (plain.bounds_of p (fs ++ derivation_at keys ∷ [])) + length keys ≤ missing p (plain.bounds_of p fs)

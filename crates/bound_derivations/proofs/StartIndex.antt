@@ -1,4 +1,4 @@
--- The table before anything is found has the bounds of the virtual entry, and no others.
+-- The table of the bounds known initially has those of the virtual entry, and no others.
 use Rattle.std.proofs.Common.{◌≡◌, ℕ, zero, suc, ◌+◌, ◌<◌, ◌≤◌, Bool, true, false, cond, List, []}
 use Rattle.std.proofs.Common.{◌∷◌, ◌++◌, length, map, replicate, Option, Some, None, refl, sym, ◌∙◌, ap, arith}
 use Rattle.std.specs.Prelude.{nat_lt}
@@ -23,7 +23,7 @@ use Rattle.bound_derivations.specs.Views.{derivations_of}
 use Rattle.bound_derivations.proofs.Room.{missing_few}
 use Rattle.bound_derivations.specs.Starting.{start_row, empty_rows, IsStartRow, AreStartTimes, AreFirstRows, AreStartSizes}
 
--- one of the same more
+-- one copy more of an element
 pub same_more : {A : Type 0} (x : A) (n : ℕ) → replicate (n + 1) x ≡ replicate n x ++ x ∷ []
 same_more x n = ap (λ (k : ℕ). replicate k x) (let next : n + 1 ≡ suc n = omega arith in next) ∙ go n
   where
@@ -31,7 +31,7 @@ same_more x n = ap (λ (k : ℕ). replicate k x) (let next : n + 1 ≡ suc n = o
     go zero = refl
     go (suc n) = ap (λ (xs : List _). x ∷ xs) (go n)
 
--- one time more that isn't known
+-- times with an unknown one more
 pub times_more : (n : ℕ) (times more : List (Option Stored)) → AreStartTimes n times → more ≡ times ++ None ∷ []
     → AreStartTimes (n + 1) more
 times_more n times more h e = record {
@@ -46,7 +46,7 @@ range_more : (n a j : ℕ) → a + n ≡ j → range_with_len a (suc n) ≡ rang
 range_more zero a j e = let same : a ≡ j = omega (arith, e) in ap (λ (x : ℕ). x ∷ []) same
 range_more (suc n) a j e = ap (λ (xs : List ℕ). a ∷ xs) (range_more n (a + 1) j (omega (arith, e)))
 
--- the size of one start argument more
+-- sizes with that of one start argument more
 pub arguments_more : (n : ℕ) (sizes more : List (Option Stored)) (s : Stored) → IsStartRow n sizes
     → more ≡ sizes ++ Some s ∷ [] → bound_stored (Some s) ≡ Some (Input n) → s.lemma ≡ 0 → IsStartRow (n + 1) more
 arguments_more n sizes more s h e bound number = record {
@@ -64,7 +64,7 @@ arguments_more n sizes more s h e bound number = record {
         ∙ (ap (map (λ i. Some (Input i))) (range_more n 0 n (omega arith))
         ∙ map-append (λ i. Some (Input i)) (range_with_len 0 n) (n ∷ []))
 
--- the row of one rule more
+-- rows with that of one rule more
 pub rows_more : (p : Program) (rules : List Rule) (r : Rule) (rows more : List (List (Option Stored)))
     (row : List (Option Stored)) → AreFirstRows p rules rows → more ≡ rows ++ row ∷ []
     → row ≡ replicate (arity_of p r.target) None → AreFirstRows p (rules ++ r ∷ []) more
@@ -77,7 +77,7 @@ rows_more p rules r rows more row h e is = record {
   row = h.row;
 }
 
--- of this many empty positions each is empty
+-- each of this many empty positions is empty
 empty_at : (n i : ℕ) → entry_at {A = Stored} (replicate n None) i ≡ None
 empty_at zero i = refl
 empty_at (suc n) zero = refl
@@ -126,7 +126,7 @@ argument_at k (suc n) (suc i) =
     ∙ (ap (λ (j : ℕ). cond (nat_lt i n) (Some (Input j)) None) e
     ∙ ap (λ (v : Bool). cond v (Some (Input (k + suc i))) None) (shift i n))
 
--- where all numbers are 0, so is each
+-- if all numbers are 0, the number at each position is
 zero_at : (os : List (Option Stored)) (n i : ℕ) → map lemma_stored os ≡ replicate n 0 → lemma_stored (entry_at os i) ≡ 0
 zero_at [] n i e = refl
 zero_at (o ∷ os) zero i e = absurd (let f : ⊥ = cc in f)

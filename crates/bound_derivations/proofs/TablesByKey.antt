@@ -19,7 +19,7 @@ pub bounds_by_derivations : (p : Program) (tab : Table) (derivations : List Deri
     → bounds_in tab ≡ plain.bounds_of p (derivations_of derivations)
 bounds_by_derivations p tab derivations derived = λ j t i. derived.bounds t i j
 
--- its times and sizes are those known with them
+-- the times and sizes of a table that is the index of derivations are those known with them
 pub table_by_derivations : (p : Program) (tab : Table) (derivations : List Derivation) → AreDerivedBounds p tab derivations
     → table_of tab ≡ over (plain.bounds_of p (derivations_of derivations))
 table_by_derivations p tab derivations derived = table_by_key tab ∙ ap over (bounds_by_derivations p tab derivations derived)

@@ -1,4 +1,4 @@
--- Worked values of tables by key, and of books.
+-- Worked values of tables by key, and of tables that are the index of derivations.
 use Rattle.std.proofs.Common.{cond, List, Option, Some, None, refl, ◌∙◌, ap}
 use Rattle.bound_fixpoint.specs.Keys.{has_key}
 use Rattle.outcome.specs.declared.entry.Stored.{Stored}

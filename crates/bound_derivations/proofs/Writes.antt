@@ -46,7 +46,7 @@ other old new u j t (suc i) s times rows n = (
       ∙ place_other (λ os m. is_free_at os m) free_other (rows_of old) u j t i s n,
 )
 
--- no key is the other one
+-- a key that isn't the only one of a list differs from it in its rule or its place
 apart : (k : ResultVariable) (t i : ℕ) → has_key (k ∷ []) t i ≡ false → k.rule ≡ t → k.place ≡ i → ⊥
 apart k t i m e f =
     true_false (sym (subst (λ (n : ℕ). has_key (k ∷ []) t n ≡ true) f
@@ -119,7 +119,7 @@ none_written old b n = record {
     all true = refl
     all false = refl
 
--- a key is among joined keys where it is among one of both
+-- a key is among appended lists exactly if it is in one of them
 pub has_key-join : (xs ys : List ResultVariable) (t i : ℕ) → has_key (xs ++ ys) t i ≡ (has_key xs t i || has_key ys t i)
 has_key-join [] ys t i = refl
 has_key-join (x ∷ xs) ys t i =

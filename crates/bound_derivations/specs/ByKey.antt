@@ -17,13 +17,13 @@ abbrev pub or_value : {A : Type 0} → Option A → A → Option A
 or_value None a = Some a
 or_value (Some b) a = Some b
 
--- a value is written at a position, where there is none
+-- a value is written at a position, if there is none
 abbrev pub put_entry : {A : Type 0} → List (Option A) → ℕ → A → List (Option A)
 put_entry [] n a = []
 put_entry (o ∷ os) zero a = or_value o a ∷ os
 put_entry (o ∷ os) (suc n) a = o ∷ put_entry os n a
 
--- among times it is written where the place is 0
+-- among times a value is written only if the place is 0
 abbrev pub put_time : {A : Type 0} → List (Option A) → ℕ → ℕ → A → List (Option A)
 put_time times t zero a = put_entry times t a
 put_time times t (suc i) a = times

@@ -1,4 +1,4 @@
--- The table before anything is found, list by list.
+-- The table of the bounds known initially, list by list.
 use Rattle.std.specs.Prelude.{◌≡◌, ℕ, List, ◌∷◌, map, replicate, Option, Some, None}
 use Rattle.std.specs.List.{range_with_len}
 use Rattle.model.specs.Bounds.{Bound, Constant, Input}

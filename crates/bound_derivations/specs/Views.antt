@@ -1,4 +1,4 @@
--- Finds as plain data.
+-- Derivations as plain data.
 use Rattle.std.specs.Prelude.{List, map}
 use Rattle.bound_expr.specs.Views.{bound_of}
 use Rattle.bound_fixpoint.specs.Derivations as plain

@@ -12,7 +12,7 @@ use Rattle.size_bounds.specs.Tables.{bounds_in}
 use Rattle.bound_derivations.specs.ByKey.{rows_of, put_time, put_place, is_free_at}
 use Rattle.bound_derivations.specs.Views.{derivation_of}
 
--- the time is read at place 0, and sizes from place 1; past the ends nothing is
+-- the time is read at place 0, and sizes from place 1; past the ends of the lists nothing is read
 pub record TablesAreReadByKey : Type 0 where
   pub time : (tab : Table) (s : Stored) → tab.times.items ≡ None ∷ Some s ∷ []
       → (bounds_in tab 1 0 ≡ Some (bound_of s.bound)) × (number_at tab 1 0 ≡ s.lemma)

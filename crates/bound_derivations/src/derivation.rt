@@ -1,4 +1,4 @@
-//! Finds: derived bounds.
+//! Derivations: nodes with their keys and bounds.
 
 use bound_expr::Bound;
 use cert_types::{EmptyNode, Member, RankNode, ResultVariable};

@@ -1,4 +1,4 @@
-//! The book before anything is found.
+//! The initial derived bounds.
 
 ghost use Rattle.std.specs.Prelude.{◌≡◌, map, length, replicate, IfOk, Some, None};
 ghost use Rattle.its_model.specs.Valid.{IsValid};
@@ -16,8 +16,8 @@ use outcome::Stored;
 use size_bounds::Table;
 use std::alloc::Global;
 
-/// The book before anything is found: the virtual entry occurs once, and its places have the sizes of the start
-/// arguments. Nothing is known of the rules.
+/// The initial derived bounds, without derivations: the virtual entry occurs once, and its places have the sizes of the
+/// start arguments. No bound of a rule is known.
 ///
 /// # Errors
 ///
@@ -35,7 +35,7 @@ pub fn derived_bounds_at_start(alloc: Global, p: &Program) -> Result<DerivedBoun
     })
 }
 
-// The time of the virtual entry, and this many that aren't known.
+// The time of the virtual entry, and this many times that aren't known.
 fn start_times(alloc: Global, rules: usize) -> Result<Vec<Option<Stored>>, Memory>
     ensures { IfOk result (λ times. AreStartTimes rules times.items) }
 {

@@ -30,23 +30,23 @@ min-mul a b limit =
 pub power_zero : (c : ℕ) → c ^ 0 ≡ 1
 power_zero c = pow-zero c
 
--- a power of a base of at least 2 is above its exponent
+-- a base of at least 2 to a power is greater than the exponent
 pub lt-pow : (c n : ℕ) → 2 ≤ c → n < c ^ n
 lt-pow c zero h = omega (arith, power_zero c)
 lt-pow c (suc n) h = omega (arith, pow-suc c n, le-mul (suc n) 2 (c ^ n) c (lt-pow c n h) h)
 
--- a power of a base of at least 2 with an exponent above the limit is above it, too
+-- a base of at least 2 to a power above the limit is above the limit, too
 min-pow_above : (c e limit : ℕ) → 2 ≤ c → limit < e → min (c ^ min e limit) limit ≡ min (c ^ e) limit
 min-pow_above c e limit h above =
     let least : min e limit ≡ limit = omega arith in
     ap (λ (v : ℕ). min (c ^ v) limit) least ∙ omega (arith, lt-pow c limit h, lt-pow c e h)
 
--- powers of 0 and of 1
+-- a positive power of 0 is 0
 zero-pow : (n : ℕ) → 0 < n → 0 ^ n ≡ 0
 zero-pow zero h = absurd (omega arith)
 zero-pow (suc n) h = pow-suc 0 n ∙ omega arith
 
--- a power of 1 is 1
+-- every power of 1 is 1
 one-pow : (n : ℕ) → 1 ^ n ≡ 1
 one-pow zero = refl
 one-pow (suc n) = pow-suc 1 n ∙ omega (arith, one-pow n)
@@ -63,7 +63,8 @@ min-pow c e limit p = elim (cases_lt limit e) [
     above (suc zero) h = ap (λ (v : ℕ). min v limit) (one-pow (min e limit) ∙ sym (one-pow e))
     above (suc (suc c)) h = min-pow_above (suc (suc c)) e limit (omega arith) h
 
--- squares and one more factor
+-- exponentiation by squaring: a power is the square of the power with half the exponent, times the base if the exponent
+-- is odd
 pub pow-halves : (c n : ℕ) → c ^ n ≡ c ^ (n % 2) * (c ^ (n / 2) * c ^ (n / 2))
 pow-halves c n =
     ap (λ (v : ℕ). c ^ v) (let parts : n ≡ n % 2 + (n / 2 + n / 2) = omega arith in parts)
@@ -90,14 +91,14 @@ min-pow_base b (suc n) limit =
     ∙ min-mul_left (b ^ n) b limit
     ∙ ap (λ (v : ℕ). min v limit) (sym (pow-suc b n))
 
--- a power of a square is a square of powers
+-- the power of a square is the square of the power
 pub square-pow : (b n : ℕ) → (b * b) ^ n ≡ b ^ n * b ^ n
 square-pow b zero = power_zero (b * b) ∙ sym (ap (λ (v : ℕ). v * v) (power_zero b))
 square-pow b (suc n) =
     pow-suc (b * b) n ∙ ap (λ (v : ℕ). v * (b * b)) (square-pow b n)
     ∙ (omega arith ∙ sym (ap (λ (v : ℕ). v * v) (pow-suc b n)))
 
--- a turn: the odd factor taken in, the base squared and the exponent halved make the same power
+-- a turn of the loop of exponentiation by squaring keeps the outcome times the remaining power, up to the limit
 pub min-pow_turn : (outcome square rest taken next limit : ℕ) → taken ≡ min (outcome * square ^ (rest % 2)) limit
     → next ≡ min (square * square) limit
     → min (taken * next ^ (rest / 2)) limit ≡ min (outcome * square ^ rest) limit

@@ -1,4 +1,4 @@
--- laws of values, caps, substitution and numbers of bounds
+-- Laws of values, caps, substitution and numbers of bounds.
 pub mod Views
 pub mod Lists
 pub mod Caps

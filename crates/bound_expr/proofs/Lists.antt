@@ -1,4 +1,4 @@
--- A loop over the parts of a bound: one more part at the end, and what the measures say of it.
+-- A loop over the parts of a bound: one more part at the end, and how the measures change with it.
 use Rattle.std.proofs.Common.{◌≡◌, ℕ, zero, suc, ◌+◌, ◌*◌, ◌<◌, max, List, [], ◌∷◌, ◌++◌, take, get_or, length, refl}
 use Rattle.std.proofs.Common.{ap, sym, ◌∙◌, subst, arith}
 use Rattle.std.proofs.lemmas.List.{take_more, map-append}
@@ -10,12 +10,12 @@ use Rattle.bound_expr.specs.Measure.{node_count, node_count_of_all, depth_of, ma
 use Rattle.bound_expr.specs.Numbers.{ReadsBelow, AllReadBelow}
 use Rattle.bound_expr.specs.Substitution.{substituted, all_substituted}
 
--- one more part at the end of a list
+-- the parts of a list with one more bound at the end are the parts of the list with that bound at the end
 pub parts_of-snoc : (bs : List plain.Bound) (b : plain.Bound) → parts_of (bs ++ b ∷ []) ≡ with_part (parts_of bs) b
 parts_of-snoc [] b = refl
 parts_of-snoc (c ∷ cs) b = ap (Part c) (parts_of-snoc cs b)
 
--- the parts after one more push
+-- pushing a bound appends one part
 pub parts_of-push : (xs : List Bound) (x : Bound)
     → parts_of (bounds_of (xs ++ x ∷ [])) ≡ with_part (parts_of (bounds_of xs)) (bound_of x)
 parts_of-push xs x = ap parts_of (map-append bound_of xs (x ∷ [])) ∙ parts_of-snoc (bounds_of xs) (bound_of x)
@@ -58,13 +58,13 @@ pub val_maximum-with_part : (bs : Parts) (b : plain.Bound) (m : List ℕ)
 val_maximum-with_part NoParts b m = omega arith
 val_maximum-with_part (Part c cs) b m = omega (arith, val_maximum-with_part cs b m)
 
--- one more part is substituted by itself
+-- substituting in one more part appends the substituted part
 pub substituted-with_part : (bs : Parts) (b : plain.Bound) (sizes : List plain.Bound)
     → all_substituted (with_part bs b) sizes ≡ with_part (all_substituted bs sizes) (substituted b sizes)
 substituted-with_part NoParts b sizes = refl
 substituted-with_part (Part c cs) b sizes = ap (Part (substituted c sizes)) (substituted-with_part cs b sizes)
 
--- the part at a place reads only inputs that all parts may read
+-- if all parts read only the first n inputs, so does the part at each position
 pub ReadsBelow-at : (n : ℕ) (xs : List Bound) (i : ℕ) (x : Bound) → AllReadBelow n (parts_of (bounds_of xs))
     → i < length xs
     → x ≡ get_or xs i x → ReadsBelow n (bound_of x)

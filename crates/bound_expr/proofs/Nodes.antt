@@ -7,7 +7,7 @@ use Rattle.bound_expr.specs.Numbers.{IsSmallConstant, IsTidyNumber, HasTidyNumbe
 use Rattle.bound_expr.specs.Tidy.{IsTidyNode, IsTidy}
 use Rattle.bound_expr.specs.Substitution.{substituted, all_substituted, SubstitutionKeeps}
 
--- a property of each node of a bound, if another one implies it at every node
+-- weakening: a property of each node, if another one implies it at every node
 mutual
   -- a property that another one implies at every node holds of all nodes of a bound that have the other
   pub EachNode-weaker : (P Q : Bound → Type 0) → ((b : Bound) → P b → Q b) → (b : Bound) → EachNode P b → EachNode Q b
@@ -18,7 +18,7 @@ mutual
   EachNode-weaker P Q step (MaximumOf bs) each = (step (MaximumOf bs) each.0, EachNodeOfAll-weaker P Q step bs each.1)
   EachNode-weaker P Q step (PowerOf c e) each = (step (PowerOf c e) each.0, EachNode-weaker P Q step e each.1)
 
-  -- it holds of all nodes of several bounds that have the other
+  -- a property that another one implies at every node holds of all nodes of several bounds that have the other
   pub EachNodeOfAll-weaker : (P Q : Bound → Type 0) → ((b : Bound) → P b → Q b) → (bs : Parts) → EachNodeOfAll P bs
       → EachNodeOfAll Q bs
   EachNodeOfAll-weaker P Q step NoParts each = tt
@@ -34,7 +34,7 @@ tidy_node-numbers (ProductOf bs) tidy = tt
 tidy_node-numbers (MaximumOf bs) tidy = tt
 tidy_node-numbers (PowerOf c e) tidy = tidy
 
--- a tidy bound has the bases and constants of one
+-- a tidy bound has tidy bases and constants
 pub IsTidy-numbers : (b : Bound) → IsTidy b → HasTidyNumbers b
 IsTidy-numbers b tidy = EachNode-weaker IsTidyNode IsTidyNumber tidy_node-numbers b tidy
 
@@ -59,7 +59,7 @@ pub record IsOfNumbers (P : Bound → Type 0) : Type 0 where
   pub maximum : (bs : Parts) → P (MaximumOf bs)
   pub power : (c : ℕ) (e f : Bound) → P (PowerOf c e) → P (PowerOf c f)
 
--- a fact of each of the sizes is a fact of the size of an input
+-- if a property holds of each node of all sizes, it holds of each node of the size that replaces an input
 EachNode-size : (Q : Bound → Type 0) → IsOfNumbers Q → (sizes : List Bound) → EachNodeOfAll Q (parts_of sizes) → (i : ℕ)
     → EachNode Q (slice_index_or sizes i (Constant 0))
 EachNode-size Q of [] each i = of.zero
@@ -87,7 +87,7 @@ module _ (P Q : Bound → Type 0) (of : IsOfNumbers Q) (constant : (c : ℕ) →
     EachNodeOfAll-substituted NoParts has = tt
     EachNodeOfAll-substituted (Part b bs) has = (EachNode-substituted b has.0, EachNodeOfAll-substituted bs has.1)
 
--- each fact of a number
+-- that bases are at least n is a property of numbers
 pub bases-of_numbers : (n : ℕ) → IsOfNumbers (IsBasedFrom n)
 bases-of_numbers n =
     record { zero = tt; sum = λ bs. tt; product = λ bs. tt; maximum = λ bs. tt; power = λ c e f has. has }
@@ -111,9 +111,9 @@ inputs-of_numbers n =
 abbrev pub IsAny : Bound → Type 0
 IsAny b = Unit {0}
 
--- a property that every bound has
+-- the property that every bound has, at each node
 mutual
-  -- each node of a bound has the fact that asks nothing
+  -- each node of a bound has the property that every bound has
   pub EachNode-any : (b : Bound) → EachNode IsAny b
   EachNode-any (Constant c) = tt
   EachNode-any (Input i) = tt

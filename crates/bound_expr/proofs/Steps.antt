@@ -13,7 +13,7 @@ use Rattle.bound_expr.proofs.Caps.{min-mul, min-pow}
 abbrev pub seen : List Bound → ℕ → Parts
 seen xs i = parts_of (bounds_of (take i xs))
 
--- the nodes of one more part, up to a limit
+-- one more part adds its nodes, up to a limit
 pub node_count-step : (xs : List Bound) (i : ℕ) (x : Bound) (before here after limit : ℕ) → i < length xs
     → x ≡ get_or xs i x
     → before ≡ min (node_count_of_all (seen xs i)) limit → here ≡ min (node_count (bound_of x)) limit
@@ -22,7 +22,7 @@ pub node_count-step : (xs : List Bound) (i : ℕ) (x : Bound) (before here after
 node_count-step xs i x before here after limit h e is_before is_here is_after =
     omega (arith, ap node_count_of_all (parts_of-take_more xs i x h e), node_count-with_part (seen xs i) (bound_of x))
 
--- the levels of one more part, up to a limit
+-- one more part may raise the number of levels, up to a limit
 pub depth-step : (xs : List Bound) (i : ℕ) (x : Bound) (before here after limit : ℕ) → i < length xs → x ≡ get_or xs i x
     → before ≡ min (maximum_depth (seen xs i)) limit → here ≡ min (depth_of (bound_of x)) limit
     → after ≡ max before here
@@ -30,7 +30,7 @@ pub depth-step : (xs : List Bound) (i : ℕ) (x : Bound) (before here after limi
 depth-step xs i x before here after limit h e is_before is_here is_after =
     omega (arith, ap maximum_depth (parts_of-take_more xs i x h e), depth-with_part (seen xs i) (bound_of x))
 
--- the value of one more part of a sum, up to a limit
+-- one more part of a sum adds its value, up to a limit
 pub val_sum-step : (xs : List Bound) (m : List ℕ) (i : ℕ) (x : Bound) (before here after limit : ℕ) → i < length xs
     → x ≡ get_or xs i x
     → before ≡ min (val_sum (seen xs i) m) limit → here ≡ min (val (bound_of x) m) limit
@@ -39,7 +39,7 @@ pub val_sum-step : (xs : List Bound) (m : List ℕ) (i : ℕ) (x : Bound) (befor
 val_sum-step xs m i x before here after limit h e is_before is_here is_after =
     omega (arith, ap (λ (ps : Parts). val_sum ps m) (parts_of-take_more xs i x h e), val_sum-with_part (seen xs i) (bound_of x) m)
 
--- the value of one more part of a maximum, up to a limit
+-- one more part of a maximum may raise its value, up to a limit
 pub val_maximum-step : (xs : List Bound) (m : List ℕ) (i : ℕ) (x : Bound) (before here after limit : ℕ) → i < length xs
     → x ≡ get_or xs i x
     → before ≡ min (val_maximum (seen xs i) m) limit → here ≡ min (val (bound_of x) m) limit → after ≡ max before here
@@ -47,7 +47,7 @@ pub val_maximum-step : (xs : List Bound) (m : List ℕ) (i : ℕ) (x : Bound) (b
 val_maximum-step xs m i x before here after limit h e is_before is_here is_after =
     omega (arith, ap (λ (ps : Parts). val_maximum ps m) (parts_of-take_more xs i x h e), val_maximum-with_part (seen xs i) (bound_of x) m)
 
--- the value of one more factor, up to a limit
+-- one more factor multiplies by its value, up to a limit
 pub val_product-step : (xs : List Bound) (m : List ℕ) (i : ℕ) (x : Bound) (before here after limit : ℕ) → i < length xs
     → x ≡ get_or xs i x
     → before ≡ min (val_product (seen xs i) m) limit → here ≡ min (val (bound_of x) m) limit
@@ -61,7 +61,7 @@ val_product-step xs m i x before here after limit h e is_before is_here is_after
     ∙ ap (λ (v : ℕ). min v limit)
     (sym (ap (λ (ps : Parts). val_product ps m) (parts_of-take_more xs i x h e) ∙ val_product-with_part (seen xs i) (bound_of x) m))
 
--- a power of the capped exponent
+-- the capped power of the capped exponent is the capped value of the power
 pub power-step : (c : ℕ) (e b : plain.Bound) (m : List ℕ) (base exponent outcome limit : ℕ) → 0 < limit
     → b ≡ PowerOf c e → base ≡ c
     → exponent ≡ min (val e m) limit → outcome ≡ min (base ^ exponent) limit → outcome ≡ min (val b m) limit

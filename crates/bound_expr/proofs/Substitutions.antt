@@ -5,7 +5,7 @@ use Rattle.model.specs.Bounds.{Bound, Constant, Input, SumOf, ProductOf, Maximum
 use Rattle.model.specs.Bounds.{val_sum, val_product, val_maximum}
 use Rattle.bound_expr.specs.Substitution.{substituted, all_substituted, values_of, SubstitutesValues}
 
--- the value of the size of an input
+-- the substitution for an input has the value of the size at its position
 val-slice_index : (sizes : List Bound) (i : ℕ) (m : List ℕ)
     → val (slice_index_or sizes i (Constant 0)) m ≡ slice_index (values_of sizes m) i
 val-slice_index [] i m = refl
@@ -13,7 +13,7 @@ val-slice_index (s ∷ sizes) zero m = refl
 val-slice_index (s ∷ sizes) (suc i) m = val-slice_index sizes i m
 
 mutual
-  -- a bound with sizes put for its inputs has the value that it has at the values of the sizes
+  -- a bound with sizes substituted for its inputs has the value that it has at the values of the sizes
   pub val-substituted : (b : Bound) (sizes : List Bound) (m : List ℕ)
       → val (substituted b sizes) m ≡ val b (values_of sizes m)
   val-substituted (Constant c) sizes m = refl

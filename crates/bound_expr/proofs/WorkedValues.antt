@@ -3,7 +3,7 @@ use Rattle.std.proofs.Common.{refl, arith}
 use Rattle.bound_expr.specs.Worked.{MeasuresAreWorkedOut, NumbersAreWorkedOut, TidyBoundsAreWorkedOut}
 use Rattle.bound_expr.specs.Worked.{SubstitutionIsWorkedOut}
 
--- nodes and levels
+-- the worked values of numbers of nodes and levels hold
 pub measures : MeasuresAreWorkedOut
 measures = record {
   nodes = refl;
@@ -16,7 +16,7 @@ measures = record {
   levels_beyond = refl;
 }
 
--- bases, constants and inputs
+-- the worked values of bases, constants and inputs hold
 pub numbers : NumbersAreWorkedOut
 numbers = record {
   based = (tt, ((omega arith, tt), tt));
@@ -31,7 +31,7 @@ numbers = record {
   reads_more = λ h. omega (arith, h.1.1.0.1);
 }
 
--- bounds that are tidy, and others
+-- the worked tidy bounds are tidy, and the others aren't
 pub tidy_bounds : TidyBoundsAreWorkedOut
 tidy_bounds = record {
   tidy = (
@@ -47,6 +47,6 @@ tidy_bounds = record {
   constant_beyond = λ h. omega (arith, h.1.1.0);
 }
 
--- a substitution
+-- the worked substitution has the result that was worked out by hand
 pub substitution : SubstitutionIsWorkedOut
 substitution = record { outcome = refl }

@@ -24,11 +24,11 @@ abbrev mutual
 abbrev pub values_of : List Bound → List ℕ → List ℕ
 values_of sizes m = map (λ s. val s m) sizes
 
--- at every m, what a substitution gives has the value of the bound at the values of the sizes
+-- a substituted bound has, at every m, the value of the bound at the values of the sizes
 pub record SubstitutesValues (b : Bound) (sizes : List Bound) (outcome : Bound) : Type 0 where
   pub each : (m : List ℕ) → val outcome m ≡ val b (values_of sizes m)
 
--- a property of the numbers of a bound and of the sizes is one of the substituted bound; its inputs are those of the
+-- a property of the numbers of a bound and of the sizes holds of the substituted bound; its inputs are those of the
 -- sizes
 pub record SubstitutionKeeps (b : Bound) (sizes : List Bound) (outcome : Bound) : Type 0 where
   pub bases : (n : ℕ) → HasBasesFrom n b → HaveBasesFrom n (parts_of sizes) → HasBasesFrom n outcome

@@ -30,10 +30,10 @@ bound_step (Prod bs) = ProductOf (parts_of bs.items)
 bound_step (Max bs) = MaximumOf (parts_of bs.items)
 bound_step (Power c e) = PowerOf c e.value
 
--- the expression that a bound is
+-- the plain expression of a bound of the code
 abbrev pub bound_of : Bound → plain.Bound
 bound_of = fold-Bound plain.Bound bound_step
 
--- the expressions that a list of bounds are
+-- the plain expressions of a list of bounds
 abbrev pub bounds_of : List Bound → List plain.Bound
 bounds_of bs = map bound_of bs

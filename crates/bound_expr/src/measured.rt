@@ -9,7 +9,7 @@ use crate::bound::Bound;
 use crate::limits::{DEPTH_LIMIT, NODE_LIMIT};
 
 impl Bound {
-    /// The number of nodes and the number of levels, a node without parts being one level.
+    /// The number of nodes and the number of levels; a node without parts has one level.
     ///
     /// Each is the lesser of the exact number and the maximum number of its type.
     pub fn measure(&self) -> (u64, u32)

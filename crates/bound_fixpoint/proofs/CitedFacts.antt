@@ -25,7 +25,7 @@ is_other n h = go (eqb_tells n 0)
     go (inl (t, e)) = absurd (h e)
     go (inr (t, e)) = ap not t
 
--- and a number that passes it isn't 0
+-- a number that passes that test isn't 0
 pub other_is : (n : ℕ) → not (n == 0) ≡ true → n ≢ 0
 other_is n h e = no_is_not_yes (not (n == 0)) (ap not (subst (λ (m : ℕ). (m == 0) ≡ true) (sym e) refl)) h
 
@@ -111,7 +111,7 @@ module _ (s : Setting) (past : List (List Fact)) where
       go false e (inl (t, z)) = absurd (no_is_not_yes (is_in 0 ns) e (subst (λ (x : ℕ). is_in x ns ≡ true) z m))
       go false e (inr (t, other)) = rw e (cited other)
 
-  -- all that is cited is accepted, where each number but 0 is that of an earlier lemma
+  -- citing lemmas is accepted if each number but 0 is that of an earlier lemma
   pub uses-accepted : (ns : List ℕ) → ((n : ℕ) → is_in n ns ≡ true → n ≢ 0 → IsNumbered past n) → AllAccepted s past
       (uses_from ns)
   uses-accepted ns h = go (is_in 0 ns) refl

@@ -25,7 +25,7 @@ use Rattle.bound_fixpoint.proofs.DerivationLists.{bounds_of-missing, found-here,
 use Rattle.bound_fixpoint.proofs.MissingBounds.{missing_before}
 use Rattle.bound_fixpoint.proofs.RuleNumbers.{rule_in, place_in}
 use Rattle.bound_fixpoint.proofs.DeadRules.{dead_by}
-use Rattle.bound_fixpoint.proofs.FirstDerivationsStand.{cuts, nevers}
+use Rattle.bound_fixpoint.proofs.FirstDerivationsAreJustified.{cuts, nevers}
 
 -- a listed place i has its key (t, i) among the keys of the list
 has_place_key : (t : ℕ) (js : List ℕ) (i : ℕ) → is_in i js ≡ true → has_key (map (λ j. key t j) js) t i ≡ true
@@ -87,9 +87,9 @@ module _ (q : Searches) (s : Setting) where
           (rule_in s.program t rule.rule rule.numbered) dead) (placed s.program t i place)
 
   -- a dead rule is marked dead by the initial derivations
-  told_dead : (fs : List Derivation) (h : AreFirst q s.program fs) → (t : ℕ) → IsRule s.program t
+  dead_marked : (fs : List Derivation) (h : AreFirst q s.program fs) → (t : ℕ) → IsRule s.program t
       → IsDead s.program h.is_empty t → is_dead h.is_empty h.is_unreached t ≡ true
-  told_dead fs h t rule dead = by_cases (h.is_empty t) (λ e. rw e refl) (λ e. rw e (live e dead))
+  dead_marked fs h t rule dead = by_cases (h.is_empty t) (λ e. rw e refl) (λ e. rw e (live e dead))
     where
       live : h.is_empty t ≡ false → IsDead s.program h.is_empty t → h.is_unreached t ≡ true
       live e (inl k) = absurd (no_is_not_yes (h.is_empty t) e k)
@@ -101,7 +101,7 @@ module _ (q : Searches) (s : Setting) where
         → bounds_of s.program fs t i ≡ None → ¬ (IsDead s.program are.is_empty t)
     missing_live fs (Begun h) t i rule place missing dead =
         first_known fs h t i rule place
-        (told_dead fs h t rule (dead_by s.program are.is_empty h.is_empty
+        (dead_marked fs h t rule (dead_by s.program are.is_empty h.is_empty
         (λ e is k. (h.empty e is).1 ((are.empty e is).0 k)) t rule dead)) missing
     missing_live fs (Made {fs = old} {more = more} m n) t i rule place missing dead =
         missing_live old m t i rule place (missing_before s.program old more t i missing) dead

@@ -31,7 +31,7 @@ pub first_of-missing : (x y : Option Bound) → first_of x y ≡ None → (x ≡
 first_of-missing None y e = (refl, e)
 first_of-missing (Some a) y e = absurd (none_some a (sym e))
 
--- taking the first of three
+-- `first_of` is associative
 pub first_of-assoc : (x y z : Option Bound) → first_of x (first_of y z) ≡ first_of (first_of x y) z
 first_of-assoc None y z = refl
 first_of-assoc (Some a) y z = refl

@@ -6,7 +6,7 @@ use Rattle.rule_questions.specs.cert_rules.Setting.{Setting}
 use Rattle.bound_fixpoint.specs.Keys.{has_key}
 use Rattle.bound_fixpoint.specs.Derivations.{Derivation, bounds_of}
 use Rattle.bound_fixpoint.specs.Searches.{Searches, Answers, searches_of, NoBound}
-use Rattle.bound_fixpoint.specs.Answers.{Target, TimeOf, SizesOf, Lacks, Tells}
+use Rattle.bound_fixpoint.specs.Answers.{Target, TimeOf, SizesOf, Lacks, AnswersTarget}
 use Rattle.bound_fixpoint.specs.Components.{AreApart, IsOneOf}
 use Rattle.bound_fixpoint.specs.Beginning.{AreFirst}
 use Rattle.bound_fixpoint.specs.Rounds.{IsRound, IsMade, Begun, Made, IsLast, IsAskedFor, IsNoBound}
@@ -14,7 +14,7 @@ use Rattle.bound_fixpoint.specs.Right.{AreOne}
 use Rattle.bound_fixpoint.specs.Laws.{LastDerivationsAreOne}
 use Rattle.bound_fixpoint.proofs.UniformComponents.{member_covered}
 use Rattle.bound_fixpoint.proofs.FirstIsOne.{first_one}
-use Rattle.bound_fixpoint.proofs.RoundIsOne.{tells_one, round_one}
+use Rattle.bound_fixpoint.proofs.RoundIsOne.{answer_is_one, round_one}
 use Rattle.bound_fixpoint.proofs.LastIsOne.{IsAfter, after_last, last_after_one}
 
 -- searches that are functions have one answer to each question
@@ -91,8 +91,8 @@ module _ (q : Searches) (one : AreOne q) (s : Setting) where
       → (v w : NoBound) → IsNoBound q s fs t i v → IsNoBound q s fs t i w → v ≡ w
   reason_by fs t i target v w h k =
       let same = target h.target k.target h.asked k.asked in
-      lacks_one v w (tells_one q one s (bounds_of s.program fs) k.target (Lacks v) (Lacks w)
-      (subst (λ (g : Target). Tells q s (bounds_of s.program fs) g (Lacks v)) same h.tells) k.tells)
+      lacks_one v w (answer_is_one q one s (bounds_of s.program fs) k.target (Lacks v) (Lacks w)
+      (subst (λ (g : Target). AnswersTarget q s (bounds_of s.program fs) g (Lacks v)) same h.is_answer) k.is_answer)
 
   -- a time can be queried in one way only
   one_time : (t : ℕ) (x y : Target) → IsAskedFor q s t 0 x → IsAskedFor q s t 0 y → x ≡ y

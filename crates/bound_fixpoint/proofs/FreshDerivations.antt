@@ -1,4 +1,5 @@
--- Finds whose keys are of rules that ascend are fresh one after the other, where each is at first.
+-- Derivations of ascending rules: if all keys are unknown at first, those of each derivation are unknown after the ones
+-- before it.
 use Rattle.std.proofs.Common.{◌≡◌, ℕ, zero, suc, ◌+◌, ◌<◌, ◌≤◌, Bool, true, false, List, [], ◌∷◌, ◌++◌, map, filter}
 use Rattle.std.proofs.Common.{None, refl, sym, ◌∙◌, ap, subst, arith, All}
 use Rattle.std.specs.List.{range_with_len}
@@ -9,7 +10,7 @@ use Rattle.rule_questions.specs.cert_rules.Nodes.{ResultVariable}
 use Rattle.rule_questions.specs.cert_rules.Setting.{Setting}
 use Rattle.bound_fixpoint.specs.Keys.{Bounds, at_key, has_key}
 use Rattle.bound_fixpoint.specs.Derivations.{Derivation, bound_found, bounds_of}
-use Rattle.bound_fixpoint.specs.Standing.{Stands, IsBeginning, StandAfter}
+use Rattle.bound_fixpoint.specs.Justification.{IsJustified, IsBeginning, AreJustifiedAfter}
 use Rattle.bound_fixpoint.proofs.Cases.{by_cases}
 use Rattle.bound_fixpoint.proofs.Keys.{has_key-all}
 use Rattle.bound_fixpoint.proofs.DerivationLists.{found-later}
@@ -20,7 +21,7 @@ abbrev pub AscendFrom : ℕ → List ℕ → Type 0
 AscendFrom n [] = Unit {0}
 AscendFrom n (m ∷ ms) = (n ≤ m) × AscendFrom (suc m) ms
 
--- from a lower one on they do too
+-- numbers that ascend from one number on ascend from a lower one on
 pub ascend_lower : (n m : ℕ) (ns : List ℕ) → n ≤ m → AscendFrom m ns → AscendFrom n ns
 ascend_lower n m [] low h = tt
 ascend_lower n m (k ∷ ns) low h = let least = h.0 in (omega (arith, low, least), h.1)
@@ -52,7 +53,7 @@ abbrev pub RulesAscend : ℕ → List Derivation → Type 0
 RulesAscend n [] = Unit {0}
 RulesAscend n (f ∷ fs) = (t : ℕ) × (n ≤ t) × AreOfRule t f.keys × RulesAscend (suc t) fs
 
--- from a lower one on they do too
+-- rules that ascend from one number on ascend from a lower one on
 pub rules_lower : (n m : ℕ) (fs : List Derivation) → n ≤ m → RulesAscend m fs → RulesAscend n fs
 rules_lower n m [] low h = tt
 rules_lower n m (f ∷ fs) low (t, least, own, rest) = (t, omega (arith, low, least), own, rest)
@@ -131,26 +132,26 @@ begins_itself fs = record { between = []; same = append-nil fs }
 
 -- derivations that are all justified over the same prefix, with keys unknown one after the other, are justified after
 -- the list
-pub stand_over : (s : Setting) (before earlier fs : List Derivation) → IsBeginning before earlier
-    → All (Stands s (bounds_of s.program before)) fs → FreshAfter s.program earlier fs → StandAfter s earlier fs
-stand_over s before earlier [] begins stand fresh = tt
-stand_over s before earlier (f ∷ fs) begins stand fresh = (
+pub justified_over : (s : Setting) (before earlier fs : List Derivation) → IsBeginning before earlier
+    → All (IsJustified s (bounds_of s.program before)) fs → FreshAfter s.program earlier fs → AreJustifiedAfter s earlier fs
+justified_over s before earlier [] begins stand fresh = tt
+justified_over s before earlier (f ∷ fs) begins stand fresh = (
   record {
     before = before;
     begins = begins;
-    stands = All-head (Stands s (bounds_of s.program before)) f fs stand;
+    stands = All-head (IsJustified s (bounds_of s.program before)) f fs stand;
     fresh = fresh.0;
   },
-  stand_over s before (earlier ++ f ∷ []) fs (begins_later before earlier (f ∷ []) begins)
-      (All-tail (Stands s (bounds_of s.program before)) f fs stand) fresh.1,
+  justified_over s before (earlier ++ f ∷ []) fs (begins_later before earlier (f ∷ []) begins)
+      (All-tail (IsJustified s (bounds_of s.program before)) f fs stand) fresh.1,
 )
 
 -- justified derivations after justified ones are justified together
-pub stand-append : (s : Setting) (earlier xs ys : List Derivation) → StandAfter s earlier xs → StandAfter s (earlier ++ xs) ys
-    → StandAfter s earlier (xs ++ ys)
-stand-append s earlier [] ys h k = subst (λ (fs : List Derivation). StandAfter s fs ys) (append-nil earlier) k
+pub stand-append : (s : Setting) (earlier xs ys : List Derivation) → AreJustifiedAfter s earlier xs → AreJustifiedAfter s (earlier ++ xs) ys
+    → AreJustifiedAfter s earlier (xs ++ ys)
+stand-append s earlier [] ys h k = subst (λ (fs : List Derivation). AreJustifiedAfter s fs ys) (append-nil earlier) k
 stand-append s earlier (x ∷ xs) ys h k = (
   h.0,
   stand-append s (earlier ++ x ∷ []) xs ys h.1
-      (subst (λ (fs : List Derivation). StandAfter s fs ys) (sym (append_assoc earlier (x ∷ []) xs)) k),
+      (subst (λ (fs : List Derivation). AreJustifiedAfter s fs ys) (sym (append_assoc earlier (x ∷ []) xs)) k),
 )

@@ -16,12 +16,12 @@ use Rattle.rule_questions.specs.cert_rules.AcceptsRank.{rank_time}
 use Rattle.bound_fixpoint.specs.Keys.{Bounds, over, rule_numbers}
 use Rattle.bound_fixpoint.specs.Derivations.{Node, RankBy, Derivation, bounds_of}
 use Rattle.bound_fixpoint.specs.Needs.{needs_of}
-use Rattle.bound_fixpoint.specs.Standing.{composed_bound}
+use Rattle.bound_fixpoint.specs.Justification.{composed_bound}
 use Rattle.bound_fixpoint.specs.Searches.{Answers, searches_of, Emptiness, NoPoint, HasPoint, EmptyHitLimit, Ranking}
 use Rattle.bound_fixpoint.specs.Searches.{Ranked, Unranked, RankHitLimit, SizeOutcome, SizedBy, Unsized, OfTime, OfSize}
 use Rattle.outcome.specs.Reports.{NoFunction, TimeHitLimit, TimeLarge}
 use Rattle.bound_fixpoint.specs.Answers.{Target, TimeOf, SizesOf, is_open, Answer, Found, Lacks, derivations_by, Composes}
-use Rattle.bound_fixpoint.specs.Answers.{TellsRanking, TellsSizing, TellsTime, Tells}
+use Rattle.bound_fixpoint.specs.Answers.{AnswersRanking, AnswersSizing, AnswersTime, AnswersTarget}
 use Rattle.bound_fixpoint.specs.Components.{IsEmpty, AreComponentsOf}
 use Rattle.bound_fixpoint.specs.Beginning.{empty_derivation, AreEmptyDerivations, first_derivations, AreFirst}
 use Rattle.bound_fixpoint.specs.Rounds.{Tries, Together, InTurn, TriesAll, IsRound, IsMade, Begun}
@@ -49,15 +49,15 @@ composes s bs node whole = by_cases (is_large whole) (λ e. none (λ h. no_is_no
         ))
 
 -- an answer to a rank question gives a result
-ranking_tells : (s : Setting) (bs : Bounds) (answer : Ranking) → (a : Answer) × TellsRanking s bs answer a
-ranking_tells s bs (Ranked node) = composes s bs (RankBy node) (rank_time s node (over bs))
-ranking_tells s bs (Unranked g) = (Lacks (OfTime (NoFunction g)), refl)
-ranking_tells s bs (RankHitLimit t) = (Lacks (OfTime (TimeHitLimit t)), refl)
+ranking_has_answer : (s : Setting) (bs : Bounds) (answer : Ranking) → (a : Answer) × AnswersRanking s bs answer a
+ranking_has_answer s bs (Ranked node) = composes s bs (RankBy node) (rank_time s node (over bs))
+ranking_has_answer s bs (Unranked g) = (Lacks (OfTime (NoFunction g)), refl)
+ranking_has_answer s bs (RankHitLimit t) = (Lacks (OfTime (TimeHitLimit t)), refl)
 
 -- there is an answer to each outcome for a component
-sizing_tells : (s : Setting) (bs : Bounds) (answer : SizeOutcome) → (a : Answer) × TellsSizing s bs answer a
-sizing_tells s bs (SizedBy node) = (Found node (needs_of s bs node) (composed_bound s bs node), refl)
-sizing_tells s bs (Unsized why) = (Lacks (OfSize why), refl)
+sizing_has_answer : (s : Setting) (bs : Bounds) (answer : SizeOutcome) → (a : Answer) × AnswersSizing s bs answer a
+sizing_has_answer s bs (SizedBy node) = (Found node (needs_of s bs node) (composed_bound s bs node), refl)
+sizing_has_answer s bs (Unsized why) = (Lacks (OfSize why), refl)
 
 -- whether multipliers show a rule empty
 abbrev says_empty : Emptiness → Bool
@@ -67,12 +67,12 @@ says_empty (EmptyHitLimit x) = false
 
 module _ (a : Answers) (s : Setting) where
   -- there is a result on the time of a rule
-  time_tells : (fs : List Derivation) (t : ℕ) → IsRule s.program t
-      → (x : Answer) × TellsTime (searches_of a) s (bounds_of s.program fs) t x
-  time_tells fs t rule =
+  time_answer : (fs : List Derivation) (t : ℕ) → IsRule s.program t
+      → (x : Answer) × AnswersTime (searches_of a) s (bounds_of s.program fs) t x
+  time_answer fs t rule =
       let set = set_there s.program (bounds_of s.program fs) (Constant 1, refl) t rule in
       let shut = shut_there s.program (bounds_of s.program fs) set.0 in
-      let by_cases = ranking_tells s (bounds_of s.program fs) (a.rank set.0 t shut.0) in (
+      let by_cases = ranking_has_answer s (bounds_of s.program fs) (a.rank set.0 t shut.0) in (
         by_cases.0,
         record {
           asked = record {
@@ -83,26 +83,26 @@ module _ (a : Answers) (s : Setting) where
             are_shut = shut.1;
             answered = refl;
           };
-          tells = by_cases.1;
+          is_answer = by_cases.1;
         },
       )
 
   -- there is an answer to the query for the size of a component
-  size_tells : (fs : List Derivation) (keys : List ResultVariable)
-      → (x : Answer) × Tells (searches_of a) s (bounds_of s.program fs) (SizesOf keys) x
-  size_tells fs keys =
-      let by_cases = sizing_tells s (bounds_of s.program fs) (a.size (bounds_of s.program fs) keys) in
-      (by_cases.0, record { answer = a.size (bounds_of s.program fs) keys; answered = refl; tells = by_cases.1 })
+  size_answer : (fs : List Derivation) (keys : List ResultVariable)
+      → (x : Answer) × AnswersTarget (searches_of a) s (bounds_of s.program fs) (SizesOf keys) x
+  size_answer fs keys =
+      let by_cases = sizing_has_answer s (bounds_of s.program fs) (a.size (bounds_of s.program fs) keys) in
+      (by_cases.0, record { answer = a.size (bounds_of s.program fs) keys; answered = refl; is_answer = by_cases.1 })
 
   -- an answer gives derivations
-  tries_there : (fs : List Derivation) (g : Target) → ((x : Answer) × Tells (searches_of a) s (bounds_of s.program fs) g x)
+  tries_there : (fs : List Derivation) (g : Target) → ((x : Answer) × AnswersTarget (searches_of a) s (bounds_of s.program fs) g x)
       → (more : List Derivation) × Tries (searches_of a) s fs g more
-  tries_there fs g tells = by_cases (is_open (bounds_of s.program fs) g) lacking known
+  tries_there fs g is_answer = by_cases (is_open (bounds_of s.program fs) g) lacking known
     where
       lacking : is_open (bounds_of s.program fs) g ≡ true → (more : List Derivation) × Tries (searches_of a) s fs g more
       lacking e = (
-        derivations_by g tells.0,
-        record { known = λ k. absurd (false_true (sym k ∙ e)); tried = λ k. (tells.0, tells.1, refl) },
+        derivations_by g is_answer.0,
+        record { known = λ k. absurd (false_true (sym k ∙ e)); tried = λ k. (is_answer.0, is_answer.1, refl) },
       )
 
       known : is_open (bounds_of s.program fs) g ≡ false → (more : List Derivation) × Tries (searches_of a) s fs g more
@@ -114,7 +114,7 @@ module _ (a : Answers) (s : Setting) where
   times_there fs [] rules = ([], refl)
   times_there fs (t ∷ ts) rules =
       let first = tries_there fs (TimeOf t)
-      (time_tells fs t (rules t (or_left (t == t) (is_in t ts) (same_number t)))) in
+      (time_answer fs t (rules t (or_left (t == t) (is_in t ts) (same_number t)))) in
       let rest = times_there fs ts (λ u m. rules u (or_right (u == t) (is_in u ts) m)) in
       (first.0 ++ rest.0, (first.0, first.1, (rest.0, refl, rest.1)))
 
@@ -123,7 +123,7 @@ module _ (a : Answers) (s : Setting) where
       → (more : List Derivation) × TriesAll (searches_of a) s InTurn fs (map SizesOf cs) more
   sizes_there fs [] = ([], refl)
   sizes_there fs (c ∷ cs) =
-      let first = tries_there fs (SizesOf c) (size_tells fs c) in
+      let first = tries_there fs (SizesOf c) (size_answer fs c) in
       let rest = sizes_there (fs ++ first.0) cs in
       (first.0 ++ rest.0, (first.0, first.1, (rest.0, refl, rest.1)))
 
@@ -162,9 +162,9 @@ module _ (a : Answers) (s : Setting) where
   abbrev is_cut_off : ℕ → Bool
   is_cut_off t = not (is_reached (source_of s.program t))
 
-  cut_told : (t : ℕ) → IsRule s.program t
+  cut_off_decided : (t : ℕ) → IsRule s.program t
       → (is_cut_off t ≡ true) ↔ IsUnreached s.program (λ e. not (says_empty (a.empty e))) t
-  cut_told t rule = (λ h. out h, λ u. cut u)
+  cut_off_decided t rule = (λ h. out h, λ u. cut u)
     where
       source : source_of s.program t ≡ Some rule.rule.source
       source = ap source_in rule.numbered
@@ -211,7 +211,7 @@ module _ (a : Answers) (s : Setting) where
           is_empty = λ t. says_empty (a.empty t);
           empty = λ t rule. empty_worked t;
           is_unreached = is_cut_off;
-          unreached = λ t rule e. cut_told t rule;
+          unreached = λ t rule e. cut_off_decided t rule;
           empties = empties.0;
           are_empties = empties.1;
           in_order = refl;

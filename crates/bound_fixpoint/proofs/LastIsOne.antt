@@ -1,4 +1,4 @@
--- Where the first is one, and each has one next, all last ones are the same.
+-- If the first state is unique, and each state has one next state, the last state is unique.
 use Rattle.std.proofs.Common.{◌≡◌, ◌⊎◌, inl, inr, ℕ, zero, suc, ◌+◌, sym, subst, arith}
 use Rattle.bound_fixpoint.proofs.Cases.{either}
 
@@ -15,7 +15,7 @@ module _ {A : Type 0} (Begins : A → Type 0) (Follows : A → A → Type 0) (be
       let before = after_one n h.0 k.0 h.1 k.1 in
       next_one k.0 a b (subst (λ (c : A). Follows c a) before h.2) k.2
 
-  -- after one that is its own next all are that one
+  -- after a state that is its own next one, all states are that one
   pub after_last : (n : ℕ) (a : A) → IsAfter n a → Follows a a → (k m : ℕ) → m ≡ k + n → (b : A) → IsAfter m b
       → b ≡ a
   after_last n a h closed zero m e b there =

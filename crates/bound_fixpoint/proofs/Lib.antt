@@ -1,4 +1,4 @@
--- telling cases apart, and counting
+-- case distinctions, and counting
 pub mod Cases
 pub mod Counts
 -- members of lists
@@ -12,33 +12,33 @@ pub mod RuleNumbers
 pub mod FactLists
 pub mod CitedFacts
 pub mod NeededFacts
--- over tables that agree on what nodes need, they compose the same bounds and are accepted alike
+-- if tables agree on the premises of nodes, nodes compose the same bounds over them and are accepted alike
 pub mod SameTimes
 pub mod SameSizes
 -- the lemma of each node is accepted, and states what the node composes
 pub mod NodeLemmas
 -- justified derivations give lemmas
 pub mod StartFacts
-pub mod StandingKeys
+pub mod JustifiedKeys
 pub mod DerivationFacts
-pub mod StandingLemmas
-pub mod StandingLaws
+pub mod JustifiedLemmas
+pub mod JustificationLaws
 -- missing bounds, and derivations of unknown keys
 pub mod MissingBounds
 pub mod FreshDerivations
--- nodes that are accepted, and what they need
+-- accepted nodes, and their premises
 pub mod EntryBounds
 pub mod AcceptedRanks
 pub mod KnownPremises
 -- derivations before the first round
 pub mod DeadRules
 pub mod ZeroTimes
-pub mod FirstDerivationsStand
+pub mod FirstDerivationsAreJustified
 -- derivations of rounds
-pub mod TimesStand
+pub mod TimesAreJustified
 pub mod UniformComponents
-pub mod SizesStand
--- empty rules have times
+pub mod SizesAreJustified
+-- infeasible rules have times
 pub mod EmptyTimes
 -- rounds end
 pub mod MissingFalls
@@ -65,7 +65,7 @@ pub mod WorkedRounds
 pub mod WorkedLaterRounds
 pub mod WorkedReasons
 pub mod WorkedUnreached
-pub mod WorkedStanding
+pub mod WorkedJustification
 pub mod WorkedStated
 pub mod WorkedFirst
 pub mod WorkedRight

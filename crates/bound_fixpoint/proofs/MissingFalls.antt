@@ -1,4 +1,4 @@
--- Where more is known, and a bound of a rule's place that was missing is, fewer bounds are missing.
+-- If no known bound is lost, and one that was missing is known, fewer bounds are missing.
 use Rattle.std.proofs.Common.{◌≡◌, ◌⊎◌, inl, inr, ℕ, ◌<◌, ◌≤◌, true, cond, List, [], ◌∷◌, Option, Some, None}
 use Rattle.std.proofs.Common.{refl, sym, subst, arith}
 use Rattle.std.specs.List.{count_by}
@@ -14,11 +14,11 @@ use Rattle.bound_fixpoint.proofs.Cases.{either, false_true, none_some, some_none
 use Rattle.bound_fixpoint.proofs.Counts.{count-first}
 use Rattle.bound_fixpoint.proofs.RuleNumbers.{rule_in, place_in}
 
--- the second knows all that the first does
+-- every bound that the first function gives is given by the second
 abbrev pub KnowsAll : (ℕ → Option Bound) → (ℕ → Option Bound) → Type 0
 KnowsAll f g = (n : ℕ) (b : Bound) → f n ≡ Some b → g n ≡ Some b
 
--- one bound: where it is known first it is known then
+-- of one key no more bounds are missing, if its bound is known wherever it was
 one_least : (x y : Option Bound) → ((b : Bound) → x ≡ Some b → y ≡ Some b)
     → cond (lacks y) 1 0 ≤ cond (lacks x) 1 0
 one_least None None known = omega arith
@@ -26,7 +26,7 @@ one_least None (Some c) known = omega arith
 one_least (Some b) None known = absurd (none_some b (known b refl))
 one_least (Some b) (Some c) known = omega arith
 
--- one that was missing is known
+-- of one key fewer bounds are missing, if its bound was missing and is known now
 one_less : (x y : Option Bound) (b : Bound) → x ≡ None → y ≡ Some b → cond (lacks y) 1 0 < cond (lacks x) 1 0
 one_less None None b e f = absurd (none_some b f)
 one_less None (Some c) b e f = omega arith
@@ -100,7 +100,7 @@ module _ (p : Program) (b c : Bounds) (known : (t : ℕ) → KnowsAll (b t) (c t
           let first = count_least (places_at p (target_of p u)) (b u) (c u) (known u) in
           omega (arith, first, less)
 
-  -- where such a bound was missing and is known, fewer bounds are missing
+  -- if the bound of a key of a rule was missing and is known now, fewer bounds are missing
   pub missing_falls : (t i : ℕ) (x : Bound) → IsKeyOfRule p t i → b t i ≡ None → c t i ≡ Some x
       → missing p c < missing p b
   missing_falls t i x is e k = by is.1

@@ -28,7 +28,7 @@ module _ (s : Setting) (past : List (List Fact)) (number : ℕ → ℕ → ℕ) 
   abbrev number_of : ResultVariable → ℕ
   number_of k = number k.rule k.place
 
-  -- the number of each needed bound is that of an earlier lemma, unless it is one of the virtual entry
+  -- the number of each premise is that of an earlier lemma, or it is a bound of the virtual entry
   pub premises_numbered : (n : ℕ) → is_in n (map number_of premises) ≡ true → n ≢ 0 → IsNumbered past n
   premises_numbered n m other =
       let k = map-contains number_of n premises (contains-is_in (map number_of premises) n m) in
@@ -41,11 +41,11 @@ module _ (s : Setting) (past : List (List Fact)) (number : ℕ → ℕ → ℕ) 
       at k c other (inl first) = absurd (other first.0)
       at k c other (inr there) = stating_numbered past (number_of k) (place_fact k.rule k.place c) there
 
-  -- all that is cited is accepted
+  -- all cited lemmas are accepted
   pub premises_accepted : AllAccepted s past (uses_for number premises)
   premises_accepted = uses-accepted s past (map number_of premises) premises_numbered
 
-  -- all that is cited states bounds that are known
+  -- the cited lemmas state only known bounds
   joined_of : AreFactsOf all (joined_facts s past (uses_for number premises))
   joined_of =
       uses-all s past (IsFactOf all) (map number_of premises) say.start
@@ -78,14 +78,14 @@ module _ (s : Setting) (past : List (List Fact)) (number : ℕ → ℕ → ℕ) 
           (contains-map number_of (key t i) premises (has_key-contained premises t i m)))
           (λ z. from_start z (say.stated t i here.0 here.1)) (λ other. from_lemma other (say.stated t i here.0 here.1))
 
-  -- each time that is a premise is looked up as it is known
+  -- the time at each key of a premise is looked up as it is known
   pub needed_time : (t : ℕ) → has_key premises t 0 ≡ true → time_in (joined_facts s past (uses_for number premises)) t ≡ b t 0
   needed_time t m =
       let h = need_stated t 0 m in
       same_time all (joined_facts s past (uses_for number premises)) joined_of t h.0 h.2
       ∙ (say.keeps t 0 h.0 h.1 ∙ sym h.1)
 
-  -- each size that is a premise is looked up as it is known
+  -- the size at each key of a premise is looked up as it is known
   pub needed_size : (t i : ℕ) → has_key premises t i ≡ true
       → size_in (joined_facts s past (uses_for number premises)) t i ≡ size_by b t i
   needed_size t zero m = no_size all (joined_facts s past (uses_for number premises)) joined_of t

@@ -1,4 +1,4 @@
--- The lemma of a node that is accepted over known bounds, where lemmas state these: it is accepted after them, and
+-- The lemma of a node that is accepted over known bounds, after lemmas that state these bounds: it is accepted, and
 -- states the bound that the node composes, for each of its keys.
 use Rattle.std.proofs.Common.{◌≡◌, ◌≢◌, ℕ, zero, suc, ◌<◌, ◌≤◌, not, Bool, true, List, [], ◌∷◌, map, Some, refl}
 use Rattle.std.proofs.Common.{sym, ◌∙◌, ap, subst, arith, All}
@@ -28,7 +28,7 @@ use Rattle.bound_fixpoint.specs.Keys.{Bounds, key, time_key, at_key, has_key, fa
 use Rattle.bound_fixpoint.specs.Derivations.{Node, EmptyBy, UnreachedBy, NeverBy, RankBy, SpreadBy, CycleBy, keys_of}
 use Rattle.bound_fixpoint.specs.Derivations.{keys_after}
 use Rattle.bound_fixpoint.specs.Needs.{rank_premises, spread_premises, cycle_premises, uses_for, lemma_by}
-use Rattle.bound_fixpoint.specs.Standing.{composed_bound, is_left, AreZeroTimes, NeverRuns, AcceptsOver, ArePremises}
+use Rattle.bound_fixpoint.specs.Justification.{composed_bound, is_left, AreZeroTimes, NeverRuns, AcceptsOver, ArePremises}
 use Rattle.bound_fixpoint.specs.Stated.{SayBounds}
 use Rattle.bound_fixpoint.proofs.Cases.{by_cases, none_some}
 use Rattle.bound_fixpoint.proofs.Keys.{has_key-all, has_key-left, has_key-right, has_time_key, size_fact}
@@ -42,8 +42,8 @@ use Rattle.bound_fixpoint.proofs.SameSizes.{spread_size-same, spread_accepted, c
 abbrev pub facts_with : Bound → List ResultVariable → List Fact
 facts_with c keys = map (λ k. fact_at k c) keys
 
--- a path of rules that are allowed is one of rules that others allow, where they allow each rule of the program that
--- these do
+-- if each rule of the program that the first test allows is allowed by the second, a path of rules that the first
+-- allows is one of rules that the second allows
 path_by : (p : Program) (f g : ℕ → Bool) → ((t : ℕ) → IsRule p t → f t ≡ true → g t ≡ true) → (a b : ℕ)
     → HasPath p f a b → HasPath p g a b
 path_by p f g h a b (Here e) = Here e
@@ -82,9 +82,9 @@ module _ (s : Setting) (past : List (List Fact)) (number : ℕ → ℕ → ℕ) 
   joined premises = joined_facts s past (uses_for number premises)
 
   module _ (premises : List ResultVariable) (known : All (λ k. IsKnown (at_key b k)) premises) where
-    -- a rule that is unreached by others than those whose times of 0 are needed
+    -- a rule that is not reached by rules other than those whose times of 0 are premises
     module _ (zeros : AreZeroTimes b premises) where
-      -- a needed time of 0 is stated
+      -- a time of 0 that is a premise is stated
       zero_stated : (t : ℕ) → has_key premises t 0 ≡ true → has_zero_time (joined premises) t ≡ true
       zero_stated t m =
           let h = need_stated s past number b all say premises known t 0 m in
@@ -102,7 +102,7 @@ module _ (s : Setting) (past : List (List Fact)) (number : ℕ → ℕ → ℕ) 
           by_cases (has_key premises t 0)
           (λ m. absurd (no_is_not_yes (may_run (joined premises) t) (ap not (zero_stated t m)) may)) (λ n. ap not n)
 
-      -- a rule that is unreached by the other rules is so by those that may run
+      -- a rule that the other rules don't reach is not reached by those that may run
       unreached_accepted : (t : ℕ) → AcceptsUnreached s.program (is_left premises) t
           → AcceptsUnreached s.program (may_run (joined premises)) t
       unreached_accepted t ok = record {
@@ -111,7 +111,7 @@ module _ (s : Setting) (past : List (List Fact)) (number : ℕ → ℕ → ℕ) 
             (path_by s.program (may_run (joined premises)) (is_left premises) left_of_all s.program.start r.source way);
       }
 
-      -- its lemma is accepted
+      -- the lemma of the unreached rule is accepted
       pub unreached_lemma : (t : ℕ) → AcceptsUnreached s.program (is_left premises) t
           → Accepts s past (lemma_by number (UnreachedBy t) premises)
       unreached_lemma t ok = (premises_accepted s past number b all say premises known, unreached_accepted t ok)
@@ -127,7 +127,7 @@ module _ (s : Setting) (past : List (List Fact)) (number : ℕ → ℕ → ℕ) 
     one_zero zero rule = absurd (none_some rule.rule rule.numbered)
     one_zero (suc u) rule = record { shape = tt; zero = refl }
 
-    -- its lemma is accepted
+    -- the lemma of the sizes after it is accepted
     pub never_lemma : Accepts s past (Never (Cite (number t 0)))
     never_lemma =
         let there = stating_numbered past (number t 0) (Time t (Constant 0))
@@ -168,7 +168,7 @@ module _ (s : Setting) (past : List (List Fact)) (number : ℕ → ℕ → ℕ) 
         needed_size s past number b all say (rank_premises s.program node) known e (suc j)
         (size_needed s.program node e j m reads)
 
-    -- its lemma is accepted
+    -- the lemma of the ranking function is accepted
     pub rank_lemma : Accepts s past (Rank node (uses_for number (rank_premises s.program node)))
     rank_lemma = (
       premises_accepted s past number b all say (rank_premises s.program node) known,
@@ -190,7 +190,7 @@ module _ (s : Setting) (past : List (List Fact)) (number : ℕ → ℕ → ℕ) 
         → (table_of (joined (spread_premises s m))).size t i ≡ (over b).size t i
     spread_same = needed_size s past number b all say (spread_premises s m) known
 
-    -- its lemma is accepted
+    -- the lemma of the spread node is accepted
     pub spread_lemma : Accepts s past (Spread m (uses_for number (spread_premises s m)))
     spread_lemma = (
       premises_accepted s past number b all say (spread_premises s m) known,
@@ -209,14 +209,14 @@ module _ (s : Setting) (past : List (List Fact)) (number : ℕ → ℕ → ℕ) 
   -- a loop
   module _ (members : List Member) (known : All (λ k. IsKnown (at_key b k)) (cycle_premises s (over b) members))
       (ok : AcceptsCycle s (over b) members) where
-    -- the sizes and the times that it needs
+    -- the keys of the sizes that a loop node needs, and the rules whose times it needs
     abbrev loop_sizes : List ResultVariable
     loop_sizes = needed_into s members members
 
     abbrev loop_times : List ℕ
     loop_times = needed_times s (over b) members
 
-    -- the sizes are stated as they are known
+    -- the sizes that the loop node needs are looked up as they are known
     loop_sizes_same : (t i : ℕ) → has_key loop_sizes t i ≡ true
         → (table_of (joined (cycle_premises s (over b) members))).size t i ≡ (over b).size t i
     loop_sizes_same t i m =
@@ -230,7 +230,7 @@ module _ (s : Setting) (past : List (List Fact)) (number : ℕ → ℕ → ℕ) 
         needed_time s past number b all say (cycle_premises s (over b) members) known t
         (has_key-right loop_sizes (map time_key loop_times) t 0 (has_time_key loop_times t m))
 
-    -- its lemma is accepted
+    -- the lemma of the loop node is accepted
     pub cycle_lemma : Accepts s past (Cycle members (uses_for number (cycle_premises s (over b) members)))
     cycle_lemma = (
       premises_accepted s past number b all say (cycle_premises s (over b) members) known,
@@ -247,7 +247,7 @@ module _ (s : Setting) (past : List (List Fact)) (number : ℕ → ℕ → ℕ) 
         loop_times_same)
         ∙ cycle_facts_at s (s.rewrite (cycle_size s (over b) members)) members ok.shape.each
 
-  -- the lemma of a node that is accepted with what it needs, all of which is known, is accepted
+  -- the lemma of a node that is accepted with its premises, all of which are known, is accepted
   pub node_lemma : (node : Node) (premises : List ResultVariable) → AcceptsOver s b node premises → ArePremises s b node premises
       → All (λ k. IsKnown (at_key b k)) premises → Accepts s past (lemma_by number node premises)
   node_lemma (EmptyBy t multipliers) premises ok are known = ok

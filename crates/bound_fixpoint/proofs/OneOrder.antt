@@ -1,4 +1,4 @@
--- Two lists in a strict order that contain the same are one.
+-- Two lists in a strict order with the same members are equal.
 use Rattle.std.proofs.Common.{◌≡◌, inl, inr, ℕ, ◌<◌, List, [], ◌∷◌, ◌++◌, refl, sym, ◌∙◌, ap, subst, arith}
 use Rattle.std.specs.List.{Contains}
 use Rattle.rule_questions.specs.model.Programs.{Program}
@@ -6,7 +6,7 @@ use Rattle.rule_questions.proofs.model.Membership.{contains-is_in, is_in-contain
 use Rattle.rule_questions.specs.cert_rules.Gaps.{SymbolPlace}
 use Rattle.bound_fixpoint.specs.Keys.{Bounds}
 use Rattle.rule_questions.specs.cert_rules.Numbers.{IsAscending}
-use Rattle.bound_fixpoint.specs.Sets.{IsSetOfRule, StandsBefore, ArePlacesInOrder, AreShutOf}
+use Rattle.bound_fixpoint.specs.Sets.{IsSetOfRule, PlaceIsBefore, ArePlacesInOrder, AreShutOf}
 use Rattle.bound_fixpoint.proofs.Cases.{either}
 use Rattle.bound_fixpoint.proofs.ListMembers.{contains-cases, contains-none, contains-first, contains-later}
 
@@ -16,7 +16,7 @@ IsChain R [] = Unit {0}
 IsChain R (x ∷ []) = Unit {0}
 IsChain R (x ∷ y ∷ rest) = R x y × IsChain R (y ∷ rest)
 
--- two lists one after the other, where all elements of the first come before all of the second
+-- two chains are a chain when appended, if all elements of the first come before all of the second
 pub chain-append : {A : Type 0} (R : A → A → Type 0) (xs ys : List A) → IsChain R xs → IsChain R ys
     → ((x y : A) → Contains xs x → Contains ys y → R x y) → IsChain R (xs ++ ys)
 chain-append R [] ys a b h = b
@@ -47,7 +47,7 @@ module _ {A : Type 0} (R : A → A → Type 0) (irreflexive : (x : A) → ¬ (R 
       (λ same. absurd (irreflexive x (subst (λ (w : A). R x w) (sym (e ∙ same)) (first_before x xs chain z c))))
       (λ m. m)
 
-  -- two lists in a strict order that contain the same are one
+  -- two lists in a strict order with the same members are equal
   pub ordered_one : (xs ys : List A) → IsChain R xs → IsChain R ys → ((z : A) → Contains xs z → Contains ys z)
       → ((z : A) → Contains ys z → Contains xs z) → xs ≡ ys
   ordered_one [] [] a b f g = refl
@@ -66,12 +66,12 @@ ascending_chain [] h = tt
 ascending_chain (x ∷ []) h = tt
 ascending_chain (x ∷ y ∷ xs) h = (h.0, ascending_chain (y ∷ xs) h.1)
 
-order_chain : (xs : List SymbolPlace) → ArePlacesInOrder xs → IsChain StandsBefore xs
+order_chain : (xs : List SymbolPlace) → ArePlacesInOrder xs → IsChain PlaceIsBefore xs
 order_chain [] h = tt
 order_chain (x ∷ []) h = tt
 order_chain (x ∷ y ∷ xs) h = (h.0, order_chain (y ∷ xs) h.1)
 
--- the set of a rule is one list
+-- the list of the set of a rule is unique
 pub sets_one : (p : Program) (bs : Bounds) (t : ℕ) (xs ys : List ℕ) → IsSetOfRule p bs t xs → IsSetOfRule p bs t ys
     → xs ≡ ys
 sets_one p bs t xs ys a b =
@@ -81,11 +81,11 @@ sets_one p bs t xs ys a b =
     (λ z c. contains-is_in ys z ((b.members z).1 ((a.members z).0 (is_in-contained xs z c))))
     (λ z c. contains-is_in xs z ((a.members z).1 ((b.members z).0 (is_in-contained ys z c))))
 
-no_place_before_itself : (s : SymbolPlace) → StandsBefore s s → ⊥
+no_place_before_itself : (s : SymbolPlace) → PlaceIsBefore s s → ⊥
 no_place_before_itself s (inl h) = omega (arith, h)
 no_place_before_itself s (inr h) = let low = h.1 in omega (arith, low)
 
-before_in_turn : (s q r : SymbolPlace) → StandsBefore s q → StandsBefore q r → StandsBefore s r
+before_in_turn : (s q r : SymbolPlace) → PlaceIsBefore s q → PlaceIsBefore q r → PlaceIsBefore s r
 before_in_turn s q r (inl h) (inl k) = inl (omega (arith, h, k))
 before_in_turn s q r (inl h) (inr k) = let e = k.0 in inl (omega (arith, h, e))
 before_in_turn s q r (inr h) (inl k) = let e = h.0 in inl (omega (arith, k, e))
@@ -95,6 +95,6 @@ before_in_turn s q r (inr h) (inr k) = let a = h.1 in let b = k.1 in inr (h.0 �
 pub shut_one : (p : Program) (bs : Bounds) (set : List ℕ) (xs ys : List SymbolPlace) → AreShutOf p bs set xs
     → AreShutOf p bs set ys → xs ≡ ys
 shut_one p bs set xs ys a b =
-    ordered_one StandsBefore no_place_before_itself before_in_turn xs ys (order_chain xs a.order)
+    ordered_one PlaceIsBefore no_place_before_itself before_in_turn xs ys (order_chain xs a.order)
     (order_chain ys b.order)
     (λ z c. (b.places z).1 ((a.places z).0 c)) (λ z c. (a.places z).1 ((b.places z).0 c))

@@ -16,7 +16,7 @@ use Rattle.bound_fixpoint.proofs.Counts.{counts-first}
 use Rattle.bound_fixpoint.proofs.RuleNumbers.{rule_in}
 use Rattle.bound_fixpoint.proofs.EntryBounds.{edge_by, one_symbol}
 
--- of two tests of which the second passes what the first does, the second passes more, or the same
+-- two tests of numbers: the second passes each number that the first does; it passes a further one, or is the same
 record MoreOrSame (ns : List ℕ) (f g : ℕ → Bool) : Type 0 where
   pub cases : (count_by f ns < count_by g ns) ⊎ ((count_by f ns ≡ count_by g ns) ×
       ((n : ℕ) → is_in n ns ≡ true → g n ≡ f n))
@@ -138,7 +138,7 @@ module _ (p : Program) (f : ℕ → Bool) (a : ℕ) where
   complete k b stable (Here e) = subst (λ (n : ℕ). reaches (suc k) n ≡ true) e (at_start (suc k))
   complete k b stable (Onward {b = x} r edge) = step k x b edge stable (complete k x stable r)
 
-  -- after some number of rules no further symbol is left
+  -- after some number of rules no edge leads to a further symbol
   leaves_more : (k t : ℕ) → leaves (reaches k) t ≡ true → leaves (reaches (suc k)) t ≡ true
   leaves_more k t h =
       let both = and_parts (f t) (passes_at (reaches k) (source_of p t)) h in rw

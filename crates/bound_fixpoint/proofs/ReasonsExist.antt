@@ -12,7 +12,7 @@ use Rattle.bound_fixpoint.specs.Keys.{Bounds, has_key, at_key, lacks, rule_numbe
 use Rattle.bound_fixpoint.specs.Derivations.{Derivation, bounds_of}
 use Rattle.bound_fixpoint.specs.Searches.{Searches, searches_of, NoBound}
 use Rattle.bound_fixpoint.specs.Answers.{Target, TimeOf, SizesOf, keys_asked, are_open, Answer, Found, Lacks}
-use Rattle.bound_fixpoint.specs.Answers.{derivations_by, Tells}
+use Rattle.bound_fixpoint.specs.Answers.{derivations_by, AnswersTarget}
 use Rattle.bound_fixpoint.specs.Components.{IsCovered, IsOneOf}
 use Rattle.bound_fixpoint.specs.Rounds.{Tries, Manner, Together, InTurn, known_next, TriesAll, IsClosed}
 use Rattle.bound_fixpoint.specs.Rounds.{IsAskedFor, IsNoBound}
@@ -22,7 +22,7 @@ use Rattle.bound_fixpoint.proofs.RuleNumbers.{rule_in}
 use Rattle.bound_fixpoint.proofs.DeadPlaces.{missing_live}
 use Rattle.bound_fixpoint.proofs.DerivationsAreOne.{append-none}
 
--- a key that is among some and has no bound makes one of them open
+-- if a key among these has no bound, one of these keys is open
 pub open_by : (bs : Bounds) (keys : List ResultVariable) (t i : ℕ) → has_key keys t i ≡ true → bs t i ≡ None
     → are_open bs keys ≡ true
 open_by bs [] t i m e = absurd (no_is_not_yes false refl m)
@@ -37,7 +37,7 @@ open_by bs (k ∷ keys) t i m e = go ((k.rule == t) && (k.place == i)) refl m (o
         ∙ (ap (λ (n : ℕ). bs t n) (same_number-sound k.place i both.1) ∙ e)))
     go false other there rest = or_right (lacks (at_key bs k)) (are_open bs keys) (rest there e)
 
--- lists of which nothing is left when they are joined have nothing
+-- if appended lists are empty, both lists are
 append-nothing : (fs gs : List Derivation) → [] ≡ fs ++ gs → (fs ≡ []) × (gs ≡ [])
 append-nothing [] gs e = (refl, sym e)
 append-nothing (f ∷ fs) gs e = absurd (nothing e)
@@ -72,7 +72,7 @@ covered_member (c ∷ cs) t i (inr h) =
     let rest = covered_member cs t i h in (rest.0, inr rest.1, rest.2)
 
 module _ (q : Searches) (s : Setting) (fs : List Derivation) where
-  -- where nothing is found, what is known to the next is what was known
+  -- if nothing is derived, the next query knows what was known before
   stays : (manner : Manner) (first : List Derivation) → first ≡ [] → known_next manner fs first ≡ fs
   stays Together first e = refl
   stays InTurn first e = ap (λ (gs : List Derivation). fs ++ gs) e ∙ append-none fs
@@ -90,16 +90,16 @@ module _ (q : Searches) (s : Setting) (fs : List Derivation) where
       (subst (λ (zs : List Derivation). TriesAll q s manner zs gs []) (stays manner h.0 none.0)
       (subst (λ (zs : List Derivation). TriesAll q s manner (known_next manner fs h.0) gs zs) none.1 h.2.2)) g m
 
-  -- an answer without a derivation gives a reason
+  -- an answer without a derivation is a reason
   says_why : (g : Target) (t i : ℕ) → bounds_of s.program fs t i ≡ None → IsAskedFor q s t i g
-      → (a : Answer) → Tells q s (bounds_of s.program fs) g a → [] ≡ derivations_by g a
+      → (a : Answer) → AnswersTarget q s (bounds_of s.program fs) g a → [] ≡ derivations_by g a
       → (why : NoBound) × IsNoBound q s fs t i why
-  says_why g t i missing asked (Found node premises bound) tells e = absurd (nothing e)
+  says_why g t i missing asked (Found node premises bound) is_answer e = absurd (nothing e)
     where
       nothing : {x : Derivation} {xs : List Derivation} → [] ≡ x ∷ xs → ⊥
       nothing n = cc
-  says_why g t i missing asked (Lacks why) tells e =
-      (why, record { missing = missing; target = g; asked = asked; tells = tells })
+  says_why g t i missing asked (Lacks why) is_answer e =
+      (why, record { missing = missing; target = g; asked = asked; is_answer = is_answer })
 
   -- each missing key of a queried target has a reason
   why_of : (g : Target) → Tries q s fs g [] → (t i : ℕ) → IsAskedFor q s t i g → has_key (keys_asked g) t i ≡ true
@@ -144,8 +144,8 @@ module _ (q : Searches) (s : Setting) (fs : List Derivation) where
 
 -- where a round derives nothing, each missing time of a rule and each missing size in a component has a reason; and
 -- with the last derivations each missing size of a place after a rule has one
-pub reasons_stand : MissingBoundsHaveReasons
-reasons_stand = record {
+pub reasons_justified : MissingBoundsHaveReasons
+reasons_justified = record {
   times = λ a s fs closed t rule missing. time_why (searches_of a) s fs closed t rule missing;
   sizes = λ a s fs closed t i covered missing. size_why (searches_of a) s fs closed t i
       (subst (λ (cs : List (List ResultVariable)). IsCovered cs t i) closed.are_components covered) missing;

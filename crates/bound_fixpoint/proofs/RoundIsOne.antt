@@ -11,7 +11,7 @@ use Rattle.bound_fixpoint.specs.Sets.{AreShutOf}
 use Rattle.bound_fixpoint.specs.Searches.{Searches, Ranking, Ranked, Unranked, RankHitLimit, SizeOutcome, SizedBy, Unsized}
 use Rattle.bound_fixpoint.specs.Searches.{NoBound}
 use Rattle.bound_fixpoint.specs.Answers.{Target, TimeOf, SizesOf, is_open, Answer, Found, Lacks, derivations_by, Composes}
-use Rattle.bound_fixpoint.specs.Answers.{TellsRanking, TellsSizing, TellsTime, TellsSize, Tells}
+use Rattle.bound_fixpoint.specs.Answers.{AnswersRanking, AnswersSizing, AnswersTime, AnswersSize, AnswersTarget}
 use Rattle.bound_fixpoint.specs.Rounds.{Tries, Manner, Together, InTurn, known_next, TriesAll, IsRound}
 use Rattle.bound_fixpoint.specs.Right.{AreOne}
 use Rattle.bound_fixpoint.proofs.Cases.{by_cases}
@@ -28,21 +28,21 @@ composes_one s bs node whole (Lacks v) (Found m more c) h k = absurd (h.0 k.0)
 composes_one s bs node whole (Lacks v) (Lacks w) h k = ap (λ (a : NoBound). Lacks a) (h.1 ∙ sym k.1)
 
 -- an answer to a rank question gives one result
-ranking_one : (s : Setting) (bs : Bounds) (answer : Ranking) (x y : Answer) → TellsRanking s bs answer x
-    → TellsRanking s bs answer y → x ≡ y
+ranking_one : (s : Setting) (bs : Bounds) (answer : Ranking) (x y : Answer) → AnswersRanking s bs answer x
+    → AnswersRanking s bs answer y → x ≡ y
 ranking_one s bs (Ranked node) x y h k = composes_one s bs (RankBy node) (rank_time s node (over bs)) x y h k
 ranking_one s bs (Unranked g) x y h k = h ∙ sym k
 ranking_one s bs (RankHitLimit t) x y h k = h ∙ sym k
 
 -- the answer to an outcome for a component is unique
-sizing_one : (s : Setting) (bs : Bounds) (answer : SizeOutcome) (x y : Answer) → TellsSizing s bs answer x
-    → TellsSizing s bs answer y → x ≡ y
+sizing_one : (s : Setting) (bs : Bounds) (answer : SizeOutcome) (x y : Answer) → AnswersSizing s bs answer x
+    → AnswersSizing s bs answer y → x ≡ y
 sizing_one s bs (SizedBy node) x y h k = h ∙ sym k
 sizing_one s bs (Unsized why) x y h k = h ∙ sym k
 
 module _ (q : Searches) (one : AreOne q) (s : Setting) where
   -- there is one result on a time
-  time_one : (bs : Bounds) (t : ℕ) (x y : Answer) → TellsTime q s bs t x → TellsTime q s bs t y → x ≡ y
+  time_one : (bs : Bounds) (t : ℕ) (x y : Answer) → AnswersTime q s bs t x → AnswersTime q s bs t y → x ≡ y
   time_one bs t x y a b =
       let set = sets_one s.program bs t a.asked.set b.asked.set a.asked.is_set b.asked.is_set in
       let there = subst (λ (zs : List ℕ). AreShutOf s.program bs zs a.asked.shut) set a.asked.are_shut in
@@ -50,19 +50,19 @@ module _ (q : Searches) (one : AreOne q) (s : Setting) where
       let answered = subst (λ (zs : List SymbolPlace). q.Ranks b.asked.set t zs a.asked.answer) shut
       (subst (λ (zs : List ℕ). q.Ranks zs t a.asked.shut a.asked.answer) set a.asked.answered) in
       let answer = one.ranks b.asked.set t b.asked.shut a.asked.answer b.asked.answer answered b.asked.answered in
-      ranking_one s bs b.asked.answer x y (subst (λ (r : Ranking). TellsRanking s bs r x) answer a.tells) b.tells
+      ranking_one s bs b.asked.answer x y (subst (λ (r : Ranking). AnswersRanking s bs r x) answer a.is_answer) b.is_answer
 
   -- the answer to the query for a size is unique
-  size_one : (bs : Bounds) (keys : List ResultVariable) (x y : Answer) → TellsSize q s bs keys x → TellsSize q s bs keys y
+  size_one : (bs : Bounds) (keys : List ResultVariable) (x y : Answer) → AnswersSize q s bs keys x → AnswersSize q s bs keys y
       → x ≡ y
   size_one bs keys x y a b =
       let answer = one.sizes bs keys a.answer b.answer a.answered b.answered in
-      sizing_one s bs b.answer x y (subst (λ (r : SizeOutcome). TellsSizing s bs r x) answer a.tells) b.tells
+      sizing_one s bs b.answer x y (subst (λ (r : SizeOutcome). AnswersSizing s bs r x) answer a.is_answer) b.is_answer
 
-  -- there is one result on anything that is queried
-  pub tells_one : (bs : Bounds) (g : Target) (x y : Answer) → Tells q s bs g x → Tells q s bs g y → x ≡ y
-  tells_one bs (TimeOf t) x y a b = time_one bs t x y a b
-  tells_one bs (SizesOf keys) x y a b = size_one bs keys x y a b
+  -- there is one result on each target
+  pub answer_is_one : (bs : Bounds) (g : Target) (x y : Answer) → AnswersTarget q s bs g x → AnswersTarget q s bs g y → x ≡ y
+  answer_is_one bs (TimeOf t) x y a b = time_one bs t x y a b
+  answer_is_one bs (SizesOf keys) x y a b = size_one bs keys x y a b
 
   -- the derivations for a target are unique
   tries_one : (fs : List Derivation) (g : Target) (x y : List Derivation) → Tries q s fs g x → Tries q s fs g y → x ≡ y
@@ -73,7 +73,7 @@ module _ (q : Searches) (one : AreOne q) (s : Setting) where
       missing e =
           let a = h.tried e in
           let b = k.tried e in
-          a.2 ∙ (ap (derivations_by g) (tells_one (bounds_of s.program fs) g a.0 b.0 a.1 b.1) ∙ sym b.2)
+          a.2 ∙ (ap (derivations_by g) (answer_is_one (bounds_of s.program fs) g a.0 b.0 a.1 b.1) ∙ sym b.2)
 
   -- the derivations for a list of targets are unique
   tries_all_one : (manner : Manner) (fs : List Derivation) (gs : List Target) (x y : List Derivation)

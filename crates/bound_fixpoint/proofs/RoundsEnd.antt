@@ -1,4 +1,4 @@
--- Each derivation of a round has a key whose bound was missing before the round: so rounds end.
+-- Rounds end: each derivation of a round has a key whose bound was missing before the round.
 use Rattle.std.proofs.Common.{◌≡◌, ◌⊎◌, inl, inr, ℕ, ◌<◌, ◌==◌, true, List, [], ◌∷◌, ◌++◌, map, None, refl, sym}
 use Rattle.std.proofs.Common.{◌∙◌, subst, All}
 use Rattle.std.proofs.lemmas.Bool.{or_left, or_right}
@@ -21,7 +21,7 @@ use Rattle.bound_fixpoint.proofs.DerivationLists.{bounds_of-new, bounds_of-kept,
 use Rattle.bound_fixpoint.proofs.MissingBounds.{missing_before}
 use Rattle.bound_fixpoint.proofs.MissingFalls.{IsKeyOfRule, missing_falls}
 use Rattle.bound_fixpoint.proofs.RuleNumbers.{in_rules}
-use Rattle.bound_fixpoint.proofs.TimesStand.{by_answer, open_time}
+use Rattle.bound_fixpoint.proofs.TimesAreJustified.{by_answer, open_time}
 use Rattle.bound_fixpoint.proofs.UniformComponents.{open_one, member_covered}
 
 -- a derivation has a key of a rule whose bound is missing after the earlier ones
@@ -32,7 +32,7 @@ pub record FindsMissing (p : Program) (fs : List Derivation) (f : Derivation) : 
   pub rule : IsKeyOfRule p number place
   pub missing : bounds_of p fs number place ≡ None
 
--- it was missing with fewer of them too
+-- a key that is missing after derivations was missing after fewer of them
 derivations_before : (p : Program) (fs gs : List Derivation) (f : Derivation) → FindsMissing p (fs ++ gs) f → FindsMissing p fs f
 derivations_before p fs gs f h = record {
   number = h.number;
@@ -52,7 +52,7 @@ module _ (q : Searches) (s : Setting) where
       subst (λ (xs : List Derivation). All (FindsMissing s.program fs) xs) (sym e)
       (All-append (FindsMissing s.program fs) first rest
       (by_answer (λ (xs : List Derivation). All (FindsMissing s.program fs) xs) q s fs (TimeOf t) first tries
-      (All-nil (FindsMissing s.program fs)) (λ open_now a tells. answer open_now a))
+      (All-nil (FindsMissing s.program fs)) (λ open_now a is_answer. answer open_now a))
       (times_missing fs ts (λ u m. rules u (or_right (u == t) (is_in u ts) m)) rest later))
     where
       answer : is_open (bounds_of s.program fs) (TimeOf t) ≡ true → (a : Answer)
@@ -79,7 +79,7 @@ module _ (q : Searches) (s : Setting) where
       subst (λ (xs : List Derivation). All (FindsMissing s.program fs) xs) (sym e)
       (All-append (FindsMissing s.program fs) first rest
       (by_answer (λ (xs : List Derivation). All (FindsMissing s.program fs) xs) q s fs (SizesOf d) first tries
-      (All-nil (FindsMissing s.program fs)) (λ open_now a tells. answer open_now a))
+      (All-nil (FindsMissing s.program fs)) (λ open_now a is_answer. answer open_now a))
       (All-weaker (FindsMissing s.program (fs ++ first)) (FindsMissing s.program fs)
       (derivations_before s.program fs first) rest
       (sizes_missing cs are (fs ++ first) ds (λ x k. all x (inr k)) rest later)))

@@ -1,4 +1,5 @@
--- Over tables with the same bounds where a node of a size looks, it composes the same size and is accepted alike.
+-- Tables with the same bounds wherever a size node reads: over them the node composes the same size and is accepted
+-- alike.
 use Rattle.std.proofs.Common.{◌≡◌, ◌≢◌, ℕ, suc, ◌==◌, ◌||◌, Bool, true, false, cond, List, [], ◌∷◌, ◌++◌}
 use Rattle.std.proofs.Common.{Option, Some, None, refl, sym, ◌∙◌, ap, subst}
 use Rattle.std.specs.Prelude.{pos, nat_abs}
@@ -38,7 +39,7 @@ use Rattle.bound_fixpoint.proofs.Keys.{has_key-first, has_key-later}
 use Rattle.bound_fixpoint.proofs.SameTimes.{place_parts-same, parts_for-same}
 use Rattle.rule_questions.proofs.int_laws.ZeroLaws.{not_zero-complete as not_zero_told}
 
--- a polynomial with the same bounds at its variables
+-- a polynomial has the same bound over sizes that agree on its variables
 monomials-same : (q : Polynomial) (f g : ℕ → Bound) → ((j : ℕ) → has_variable (Some q) j ≡ true → f j ≡ g j)
     → monomial_parts q f ≡ monomial_parts q g
 monomials-same [] f g h = refl
@@ -54,7 +55,7 @@ polynomial-same : (o : Option Polynomial) (f g : ℕ → Bound) → ((j : ℕ) �
 polynomial-same None f g h = refl
 polynomial-same (Some q) f g h = ap (λ (bs : Parts). SumOf bs) (monomials-same q f g h)
 
--- a form with the same bounds where its coefficients aren't 0
+-- a form has the same bound over sizes that agree where its coefficients aren't 0
 rest-same : (form : Form) (den : ℕ) (left_out : ℕ → Bool) (f g : ℕ → Bound)
     → ((j : ℕ) → at form.coefs j ≢ pos 0 → left_out j ≡ false → f j ≡ g j)
     → rest_bound form den left_out f ≡ rest_bound form den left_out g
@@ -62,18 +63,18 @@ rest-same form den left_out f g h =
     ap (λ (bs : Parts). SumOf (Part (Constant (rounded_up (height form.constant) den)) bs))
     (place_parts-same form.coefs den left_out f g h)
 
--- a side bound with the same bounds where it reads
+-- a side bound has the same bound over sizes that agree where it reads
 pub side_bound-same : (o : Option Polynomial) (side_bound : SideBound) (f g : ℕ → Bound) → ((j : ℕ) → reads o side_bound j ≡ true → f j ≡ g j)
     → composed_side_bound o side_bound f ≡ composed_side_bound o side_bound g
 side_bound-same o (Linear den form ms) f g h =
     rest-same form den no_place f g (λ j n out. h j (not_zero_told (at form.coefs j) n))
 side_bound-same o Poly f g h = polynomial-same o f g h
 
--- a table that knows the sizes of these places alone
+-- the table that has the sizes of these result variables alone
 abbrev listed_table : List ResultVariable → Table
 listed_table result_variables = record { time = λ t. None; size = λ t i. cond (has_key result_variables t i) (Some (Constant 0)) None }
 
--- it knows the size of each of these
+-- the table has the size of each of these result variables
 listed_known : (result_variables : List ResultVariable) (t i : ℕ) → has_key result_variables t i ≡ true → IsKnown ((listed_table result_variables).size t i)
 listed_known result_variables t i m = (Constant 0, rw m refl)
 
@@ -84,7 +85,7 @@ known_listed result_variables t i h = by_cases (has_key result_variables t i) (�
     nothing : (b : Bound) → None ≡ Some b → ⊥
     nothing b e = cc
 
--- it has the sizes of result variables that are all among these
+-- the table has the sizes of result variables that are all among its own
 each_listed : (all xs : List ResultVariable) → ((t i : ℕ) → has_key xs t i ≡ true → has_key all t i ≡ true)
     → AllByRecursion (HasSize (listed_table all)) xs
 each_listed all [] h = tt
@@ -93,7 +94,7 @@ each_listed all (x ∷ xs) h = (
   each_listed all xs (λ t i m. h t i (has_key-later x xs t i m)),
 )
 
--- sizes that are known are so in a table with the same ones
+-- sizes that are known in one table are known in a table with the same ones
 pub still_known : (a b : Table) (xs : List ResultVariable) → AllByRecursion (HasSize a) xs
     → ((t i : ℕ) → has_key xs t i ≡ true → b.size t i ≡ a.size t i) → AllByRecursion (HasSize b) xs
 still_known a b [] h k = tt
@@ -183,7 +184,7 @@ module _ (s : Setting) (members : List Member) (a b : ℕ → ℕ → Option Bou
       ∙ ap (λ (fs : List Flow). flows_from s members b m (pre s.program m.result_variable.rule) ++ fs)
       (flows_into-same ms h.1 straight.1)
 
--- times that are the same where a rule multiplies or adds give the same parts
+-- times that agree on the rules that multiply or add give the same factors and summands
 growth-same : (fs : List Flow) (f g : ℕ → Option Bound) (ts : List ℕ) (last : Bound)
     → ((t : ℕ) → is_in t ts ≡ true → multiplies fs t ≡ true → f t ≡ g t)
     → growth_parts fs f ts last ≡ growth_parts fs g ts last
@@ -236,8 +237,8 @@ loop-same s fs f g ts h =
     ∙ ap (λ (bs : Parts). growth_parts fs g ts (SumOf (Part (base_of fs) bs)))
     (addition-same s fs f g ts (λ t i m. h t i (or_right (multiplies fs t) (adds s fs t) m))))
 
--- a node of a size over a second table with the same bounds at all that it needs: it composes the same size, and is
--- accepted where it is over the first
+-- a size node over two tables with the same bounds at all its premises: it composes the same size, and is accepted over
+-- the second if it is over the first
 module _ (s : Setting) (a b : Table) (m : Member) (ok : AcceptsSpread s a m)
     (sizes : (t i : ℕ) → has_key (needed_into s [] (m ∷ [])) t i ≡ true → b.size t i ≡ a.size t i) where
   -- a spread composes the same size over a table that agrees on the sizes that it needs
@@ -284,7 +285,7 @@ module _ (s : Setting) (a b : Table) (members : List Member) (ok : AcceptsCycle 
   lows : AllByRecursion (AcceptsLow s) members
   lows = recursion_from_All (AcceptsLow s) members ok.low
 
-  -- all that flows in a loop is the same over a table that agrees on the sizes that it needs
+  -- all flows of a loop are the same over a table that agrees on its premises
   pub flows-same : flows s members b.size ≡ flows s members a.size
   flows-same =
       flows_into-same s members b.size a.size members (agree_all s members b.size a.size members shapes ups lows sizes)

@@ -1,5 +1,5 @@
--- Over tables with the same bounds where a ranking node looks, it composes the same time and is accepted alike; and
--- what it needs are all bounds at which it looks.
+-- Tables with the same bounds wherever a ranking node reads: over them the node composes the same time and is accepted
+-- alike; and the bounds that it reads are its premises.
 use Rattle.std.proofs.Common.{◌≡◌, ◌≢◌, ℕ, zero, suc, ◌+◌, ◌==◌, Bool, true, false, List, [], ◌∷◌}
 use Rattle.std.proofs.Common.{map, refl, sym, ◌∙◌, ap, subst, arith}
 use Rattle.std.specs.Prelude.{ℤ, pos, nat_abs, Option}
@@ -25,9 +25,9 @@ use Rattle.bound_fixpoint.specs.Keys.{key, time_key, has_key}
 use Rattle.bound_fixpoint.specs.Needs.{read_places, entry_premises, premises_of_all, rank_premises}
 use Rattle.bound_fixpoint.proofs.Cases.{either, by_cases}
 use Rattle.bound_fixpoint.proofs.Keys.{has_key-first, has_key-later, has_key-left, has_key-right}
-use Rattle.rule_questions.proofs.int_laws.ZeroLaws.{is_zero-true as zero_told}
+use Rattle.rule_questions.proofs.int_laws.ZeroLaws.{is_zero-true as zero_decided}
 
--- bounds of places that are the same where a coefficient isn't 0 and which aren't left out give the same parts
+-- bounds that agree at each place with a coefficient other than 0, if the place isn't left out, give the same parts
 pub place_parts-same : (cs : List ℤ) (den : ℕ) (left_out : ℕ → Bool) (f g : ℕ → Bound)
     → ((j : ℕ) → at cs j ≢ pos 0 → left_out j ≡ false → f j ≡ g j)
     → place_parts cs den left_out f ≡ place_parts cs den left_out g
@@ -100,7 +100,7 @@ pub read-in : (cs : List ℤ) (i j : ℕ) → at cs j ≢ pos 0 → is_in (j + i
 read-in [] i j h = absurd (h refl)
 read-in (c ∷ cs) i zero h =
     subst (λ (m : ℕ). is_in m (read_places i (c ∷ cs)) ≡ true) (omega arith)
-    (by_cases (is_zero c) (λ e. absurd (h (zero_told c e))) here)
+    (by_cases (is_zero c) (λ e. absurd (h (zero_decided c e))) here)
   where
     here : is_zero c ≡ false → is_in i (read_places i (c ∷ cs)) ≡ true
     here e = rw e (or_left (i == i) (is_in i (read_places (suc i) cs)) (same_number i))
@@ -137,7 +137,7 @@ module _ (p : Program) (node : RankNode) where
       (subst (λ (n : ℕ). has_key (entry_premises p node n) t i ≡ true) same h))
       (λ later. has_key-right (entry_premises p node x) (premises_of_all p node es) t i (entry_among es e t i later h))
 
-  -- a node needs each entry's time
+  -- each entry's time is a premise of the node
   pub time_needed : (e : ℕ) → is_in e (entries p node.set) ≡ true → has_key (rank_premises p node) e 0 ≡ true
   time_needed e m =
       entry_among (entries p node.set) e e 0 m

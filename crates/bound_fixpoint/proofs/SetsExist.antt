@@ -17,7 +17,7 @@ use Rattle.rule_questions.specs.cert_rules.Known.{IsKnown}
 use Rattle.rule_questions.specs.cert_rules.Numbers.{IsAscending}
 use Rattle.rule_questions.specs.cert_rules.AcceptsPlain.{IsRule, places_at}
 use Rattle.bound_fixpoint.specs.Keys.{Bounds, rule_numbers, lacks, is_untimed}
-use Rattle.bound_fixpoint.specs.Sets.{IsSetOfRule, IsShut, StandsBefore, ArePlacesInOrder, AreShutOf}
+use Rattle.bound_fixpoint.specs.Sets.{IsSetOfRule, IsShut, PlaceIsBefore, ArePlacesInOrder, AreShutOf}
 use Rattle.bound_fixpoint.proofs.Cases.{either, some_same, by_cases, lacks_none}
 use Rattle.bound_fixpoint.proofs.RuleNumbers.{rule_in, place_in, in_places}
 use Rattle.bound_fixpoint.proofs.EntryBounds.{one_symbol}
@@ -174,19 +174,19 @@ module _ (p : Program) (bs : Bounds) where
         (λ l. contains-right (place a i) (map (place x) (shut_at x)) (shut_of_all symbols) (all_among symbols a i l h))
 
     -- the places of a symbol are in order
-    places_chain : (a : ℕ) (is : List ℕ) → IsAscending is → IsChain StandsBefore (map (place a) is)
+    places_chain : (a : ℕ) (is : List ℕ) → IsAscending is → IsChain PlaceIsBefore (map (place a) is)
     places_chain a [] h = tt
     places_chain a (i ∷ []) h = tt
     places_chain a (i ∷ k ∷ is) h = (inr (refl, h.0), places_chain a (k ∷ is) h.1)
 
-    all_chain : (n a : ℕ) → IsChain StandsBefore (shut_of_all (range_with_len a n))
+    all_chain : (n a : ℕ) → IsChain PlaceIsBefore (shut_of_all (range_with_len a n))
     all_chain zero a = tt
     all_chain (suc n) a =
-        chain-append StandsBefore (map (place a) (shut_at a)) (shut_of_all (range_with_len (a + 1) n))
+        chain-append PlaceIsBefore (map (place a) (shut_at a)) (shut_of_all (range_with_len (a + 1) n))
         (places_chain a (shut_at a) (filtered_ascends (is_open a) (arity_of p a) 1)) (all_chain n (a + 1)) before
       where
         before : (s r : SymbolPlace) → Contains (map (place a) (shut_at a)) s → Contains
-            (shut_of_all (range_with_len (a + 1) n)) r → StandsBefore s r
+            (shut_of_all (range_with_len (a + 1) n)) r → PlaceIsBefore s r
         before s r c d =
             let low = (in_places_of a (shut_at a) s c).0 in
             let high = from_first n (a + 1) r.symbol (in_all (range_with_len (a + 1) n) r d).0 in
@@ -247,7 +247,7 @@ module _ (p : Program) (bs : Bounds) where
                 (ap (arity_of p) symbol ∙ nothing) h.place.last in
                 absurd (omega (arith, last, h.place.least))
 
-    chain_order : (xs : List SymbolPlace) → IsChain StandsBefore xs → ArePlacesInOrder xs
+    chain_order : (xs : List SymbolPlace) → IsChain PlaceIsBefore xs → ArePlacesInOrder xs
     chain_order [] h = tt
     chain_order (x ∷ []) h = tt
     chain_order (x ∷ y ∷ xs) h = (h.0, chain_order (y ∷ xs) h.1)

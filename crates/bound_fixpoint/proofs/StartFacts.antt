@@ -19,7 +19,7 @@ use Rattle.bound_fixpoint.proofs.ListMembers.{contains-first, contains-later}
 use Rattle.bound_fixpoint.proofs.RuleNumbers.{in_range}
 use Rattle.bound_fixpoint.specs.Stated.{IsFactOf, AreFactsOf}
 
--- bounds have what is known at first
+-- the bounds known initially are among these bounds
 pub record HaveStart (p : Program) (b : Bounds) : Type 0 where
   pub each : (t i : ℕ) (c : Bound) → start_bounds p t i ≡ Some c → b t i ≡ Some c
 

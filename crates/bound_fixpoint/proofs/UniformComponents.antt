@@ -1,4 +1,5 @@
--- Each derivation has all members of a component among its keys, or none: so they have one bound, or none has one.
+-- Each derivation has all members of a component among its keys, or none; so all members have one bound, or none has
+-- one.
 use Rattle.std.proofs.Common.{◌≡◌, ◌⊎◌, inl, inr, ℕ, ◌≤◌, true, false, List, [], ◌∷◌, ◌++◌, map}
 use Rattle.std.proofs.Common.{None, refl, sym, ◌∙◌, subst, arith, All}
 use Rattle.std.proofs.lemmas.Bool.{or_cases, false_from_ne_true}
@@ -21,16 +22,16 @@ use Rattle.bound_fixpoint.proofs.MissingBounds.{rule_bounds}
 use Rattle.bound_fixpoint.proofs.KnownPremises.{of_each_in}
 use Rattle.bound_fixpoint.proofs.DeadRules.{dead_by}
 use Rattle.bound_fixpoint.proofs.ZeroTimes.{AreZeroTimesOf, empties_zero, unreached_zero, only_time}
-use Rattle.bound_fixpoint.proofs.FirstDerivationsStand.{empty_ones, cut_ones, sized_ones, dead_keys, cuts, nevers, sized_rule}
-use Rattle.bound_fixpoint.proofs.FirstDerivationsStand.{keys_after-sound}
-use Rattle.bound_fixpoint.proofs.TimesStand.{by_answer}
+use Rattle.bound_fixpoint.proofs.FirstDerivationsAreJustified.{empty_ones, cut_ones, sized_ones, dead_keys, cuts, nevers, sized_rule}
+use Rattle.bound_fixpoint.proofs.FirstDerivationsAreJustified.{keys_after-sound}
+use Rattle.bound_fixpoint.proofs.TimesAreJustified.{by_answer}
 
 -- a derivation has all members of a component among its keys, or none
 abbrev pub IsWhole : List ResultVariable → Derivation → Type 0
 IsWhole c f = ((t i : ℕ) → has_key c t i ≡ true → has_key f.keys t i ≡ true)
     ⊎ ((t i : ℕ) → has_key c t i ≡ true → has_key f.keys t i ≡ false)
 
--- the members are derived with one bound, or none is
+-- all members have one derived bound, or none has one
 pub uniform_found : (c : List ResultVariable) (fs : List Derivation) → All (IsWhole c) fs → AreUniform (bound_found fs) c
 uniform_found c [] whole t i u j m n = refl
 uniform_found c (f ∷ fs) whole t i u j m n =
@@ -40,7 +41,7 @@ uniform_found c (f ∷ fs) whole t i u j m n =
     go (inl all) rest = found-here f fs t i (all t i m) ∙ sym (found-here f fs u j (all u j n))
     go (inr none) rest = found-later f fs t i (none t i m) ∙ (rest ∙ sym (found-later f fs u j (none u j n)))
 
--- where a bound of these keys is missing, here is one
+-- if a bound of these keys is missing, here is a key without one
 pub open_one : (b : Bounds) (c : List ResultVariable) → are_open b c ≡ true → (t : ℕ) × ((i : ℕ) × (has_key c t i ≡ true) ×
     (b t i ≡ None))
 open_one b [] h = absurd (false_true h)
@@ -59,7 +60,7 @@ pub open_all : (b : Bounds) (c : List ResultVariable) → AreUniform b c → are
 open_all b c uniform h t i m =
     let one = open_one b c h in uniform t i one.0 one.1.0 m one.1.1 ∙ one.1.2
 
--- a member of one of the components is in one of them
+-- a member of one of the components is covered by the components
 pub member_covered : (cs : List (List ResultVariable)) (c : List ResultVariable) (t i : ℕ) → IsOneOf cs c → has_key c t i ≡ true
     → IsCovered cs t i
 member_covered [] c t i one m = absurd one
@@ -134,7 +135,7 @@ module _ (q : Searches) (s : Setting) (cs : List (List ResultVariable)) (are : A
       subst (λ (xs : List Derivation). All (IsWhole c) xs) (sym e)
       (All-append (IsWhole c) first rest
       (by_answer (λ (xs : List Derivation). All (IsWhole c) xs) q s fs (TimeOf t) first tries (All-nil (IsWhole c))
-      (λ open_now a tells. answer a))
+      (λ open_now a is_answer. answer a))
       (times_whole fs ts rest later))
     where
       answer : (a : Answer) → All (IsWhole c) (derivations_by (TimeOf t) a)
@@ -158,7 +159,7 @@ module _ (q : Searches) (s : Setting) (cs : List (List ResultVariable)) (are : A
       → Tries q s fs (SizesOf d) more → All (IsWhole c) more
   tried_whole fs d two more tries =
       by_answer (λ (xs : List Derivation). All (IsWhole c) xs) q s fs (SizesOf d) more tries (All-nil (IsWhole c))
-      (λ open_now a tells. size_whole d two a)
+      (λ open_now a is_answer. size_whole d two a)
 
   pub sizes_whole : (fs : List Derivation) (ds : List (List ResultVariable)) → ((d : List ResultVariable) → IsOneOf ds d → IsOneOf cs d)
       → (sizes : List Derivation) → TriesAll q s InTurn fs (map SizesOf ds) sizes → All (IsWhole c) sizes
@@ -177,7 +178,7 @@ module _ (q : Searches) (s : Setting) (cs : List (List ResultVariable)) (are : A
 
 module _ (q : Searches) (s : Setting) (cs : List (List ResultVariable)) (are : AreComponentsOf q s.program cs)
     (only : (ds : List (List ResultVariable)) → q.AreComponents ds → ds ≡ cs) where
-  -- all that is found in a round has all members of a component, or none
+  -- each derivation of a round has all members of a component among its keys, or none
   pub round_whole : (fs more : List Derivation) → IsRound q s fs more → (c : List ResultVariable) → IsOneOf cs c → All (IsWhole c) more
   round_whole fs more n c one =
       subst (λ (xs : List Derivation). All (IsWhole c) xs) (sym n.all)

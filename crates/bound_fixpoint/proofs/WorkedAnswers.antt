@@ -26,7 +26,7 @@ use Rattle.bound_fixpoint.specs.WorkedSets.{nothing_known, once_known}
 use Rattle.bound_fixpoint.specs.WorkedAnswers.{AnswersAreWorkedOut, RightSizesAreWorkedOut, MissingIsWorkedOut}
 use Rattle.bound_fixpoint.proofs.Cases.{either, false_true}
 use Rattle.bound_fixpoint.proofs.Keys.{has_key-cases, has_key-none}
-use Rattle.bound_fixpoint.proofs.WorkedStanding.{entered_ok, looped_ok}
+use Rattle.bound_fixpoint.proofs.WorkedJustification.{entered_ok, looped_ok}
 
 pub answers_worked : AnswersAreWorkedOut
 answers_worked = record {
@@ -63,7 +63,7 @@ answers_worked = record {
     rules : Lacks (OfSize (SizeUntimed 2)) ≡ Lacks (OfSize (SizeUntimed 1)) → ⊥
     rules e = let n : ◌≡◌ {A = ℕ} 2 1 = cc in omega (arith, n)
 
--- of no places no node states the size
+-- no node states the size of no places
 no_sizing : (b : Bounds) (node : Node) → IsSizingOf counting b [] node → ⊥
 no_sizing b (EmptyBy t m) h = h.accepted
 no_sizing b (UnreachedBy t) h = h.accepted
@@ -125,7 +125,7 @@ abbrev rule_of_keys : List ResultVariable → ℕ
 rule_of_keys [] = 0
 rule_of_keys (k ∷ keys) = k.rule
 
--- with only the time of rule 1 known, the size after rule 1 is missing for the loop
+-- if only the time of rule 1 is known, the size after rule 1 is a missing premise of the loop node
 too_early : IsSizingOf counting once_known (key 2 1 ∷ []) (CycleBy (looped_member ∷ [])) → ⊥
 too_early h =
     let sizes = All-head (HasSizesBefore counting (over once_known) (looped_member ∷ [])) looped_member []
@@ -169,7 +169,7 @@ of_both P a b t i m =
     (λ l. either (has_key-cases (key 2 1) [] t i l) (λ e. subst (λ (k : ResultVariable). P k.rule k.place) e b)
     (λ n. absurd (has_key-none t i n)))
 
--- where both have this bound, or none, they are uniform
+-- if both places have this bound, or both have none, they are uniform
 uniform_by : (bs : Bounds) (o : Option Bound) → bs 1 1 ≡ o → bs 2 1 ≡ o → AreUniform bs (key 1 1 ∷ key 2 1 ∷ [])
 uniform_by bs o a b t i u j m n =
     of_both (λ v k. bs v k ≡ o) a b t i m ∙ sym (of_both (λ v k. bs v k ≡ o) a b u j n)

@@ -15,7 +15,7 @@ use Rattle.bound_fixpoint.specs.Derivations.{Derivation, bounds_of}
 use Rattle.bound_fixpoint.specs.Searches.{searches_of, NoPoint, HasPoint}
 use Rattle.bound_fixpoint.specs.Components.{IsEmpty}
 use Rattle.bound_fixpoint.specs.Beginning.{empty_derivation, unreached_derivation, never_derivation, AreFirst}
-use Rattle.bound_fixpoint.specs.Standing.{Stands, AllStand}
+use Rattle.bound_fixpoint.specs.Justification.{IsJustified, AreJustified}
 use Rattle.bound_fixpoint.specs.WorkedDerivations.{once_derivation}
 use Rattle.bound_fixpoint.specs.WorkedFirst.{cut_off, no_answers}
 use Rattle.bound_fixpoint.specs.WorkedBeginnings.{first_two_empty, second_empty, empty_answers, six_derivations, six_on_one}
@@ -66,7 +66,7 @@ no_fourth t h = none h.rule h.numbered
     none : (r : Rule) → None ≡ Some r → ⊥
     none r e = cc
 
--- without both entries no way leads to l
+-- if neither entry is allowed, no path leads to l
 edge_to_l : (a b : ℕ) → HasEdge two_ways_in (λ e. not (are_two e)) a b → b ≡ 1 → a ≡ 1
 edge_to_l a b h e = go h.number h.rule h.numbered h.allowed h.source
   where
@@ -199,7 +199,7 @@ no_place = record {
     out (suc zero) rule e = absurd (true_false e)
     out (suc (suc t)) rule e = absurd (no_rule_after t rule)
 
--- how many needs the third derivation has
+-- how many premises the third derivation has
 abbrev third_premises : List Derivation → ℕ
 third_premises [] = 0
 third_premises (f ∷ []) = 0
@@ -236,8 +236,8 @@ beginnings_worked = record {
 abbrev known_with : List Derivation → Bounds
 known_with fs = bounds_of stuck.program fs
 
-empty_stands : Stands stuck (known_with []) (empty_derivation 2 (1 ∷ 1 ∷ []))
-empty_stands = record {
+empty_justified : IsJustified stuck (known_with []) (empty_derivation 2 (1 ∷ 1 ∷ []))
+empty_justified = record {
   keys = refl;
   accepted = plain_nodes.empty;
   premises = refl;
@@ -248,7 +248,7 @@ empty_stands = record {
 abbrev after_empty : Bounds
 after_empty = known_with (empty_derivation 2 (1 ∷ 1 ∷ []) ∷ [])
 
-never_stands : Stands stuck after_empty (never_derivation stuck.program 2)
+never_stands : IsJustified stuck after_empty (never_derivation stuck.program 2)
 never_stands = record {
   keys = refl;
   accepted = record { rule = plain_nodes.empty.shape.rule; zero = refl };
@@ -257,13 +257,13 @@ never_stands = record {
   bound = refl;
 }
 
-stand : AllStand stuck (empty_derivation 2 (1 ∷ 1 ∷ []) ∷ never_derivation stuck.program 2 ∷ [])
+stand : AreJustified stuck (empty_derivation 2 (1 ∷ 1 ∷ []) ∷ never_derivation stuck.program 2 ∷ [])
 stand = record {
   each = (
     record {
       before = [];
       begins = record { between = []; same = refl };
-      stands = empty_stands;
+      stands = empty_justified;
       fresh = All-cons (IsNew (known_with [])) (time_key 2) [] refl (All-nil (IsNew (known_with [])));
     },
     (
@@ -278,8 +278,8 @@ stand = record {
   );
 }
 
--- a time that isn't 0 is known with no beginning as 0
-not_running : AllStand counting (once_derivation ∷ never_derivation counting.program 1 ∷ []) → ⊥
+-- the time of rule 1, which isn't 0, isn't known to be 0 over any prefix
+not_running : AreJustified counting (once_derivation ∷ never_derivation counting.program 1 ∷ []) → ⊥
 not_running h =
     let a = h.each.1.0 in
     other (subst (λ (fs : List Derivation). bounds_of counting.program fs 1 0 ≡ Some (Constant 0)) a.begins.same

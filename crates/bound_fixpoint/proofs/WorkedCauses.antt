@@ -34,7 +34,7 @@ use Rattle.bound_fixpoint.specs.WorkedCauses.{sizes_alone, origin, RightCausesAr
 use Rattle.bound_fixpoint.proofs.Cases.{either, true_false}
 use Rattle.bound_fixpoint.proofs.Keys.{has_key-first, has_key-later, has_key-cases, has_key-none}
 
--- checks of which none has this reason are passed by before one that has it
+-- checks without this reason, before a check with it, are passed
 passed_by : {A : Type 0} (r : Reason) (f : A → Check) (xs : List A) (rest : List Check)
     → ((x : A) → (f x).reason ≡ r → ⊥) → IsFirstAmong (for_each f xs rest) r → IsFirstAmong rest r
 passed_by r f [] rest other h = h
@@ -85,7 +85,7 @@ large_other n t i e = cc
 abbrev looped_by : LocalBound → Member
 looped_by l = record { result_variable = key 2 1; local = l }
 
--- one that doesn't loop needs nothing of its own
+-- a member that doesn't loop doesn't need its own size
 premises_alone : (l : LocalBound) → do_loop counting (looped_by l ∷ []) ≡ false
     → has_key (needed_into counting [] (looped_by l ∷ [])) 2 1 ≡ false
 premises_alone l h = go (reads None l.up 0) (reads None l.low 0) refl refl
@@ -126,7 +126,7 @@ spread_other l out (inr (shape, inr (up, inr (low, rest)))) =
         large_other (large_nodes counting.rewrite (spread_size counting (over entered_known) (looped_by l))) 2 1 fails.1
     last (inr none) = none.1
 
--- the last checks of a loop: its size is small; and before that, those of its times
+-- the last checks of a loop node: those of its times, and then that its size is small
 abbrev ends_of : LocalBound → List Check
 ends_of l = check_small counting (cycle_size counting (over entered_known) (looped_by l ∷ [])) ∷ []
 
@@ -162,7 +162,7 @@ cycle_other l (inr (shape, inr (up, inr (low, rest)))) =
     straight (inr (a, inr (b, inr (c, inl fails)))) = nonlinear_other 2 1 2 1 fails.1
     straight (inr (a, inr (b, inr (c, inr (d, rest))))) = times rest
 
--- the place itself is no reason
+-- a result variable isn't the reason for its own missing size
 own_alone : (m : Member) → key 2 1 ∷ [] ≡ m.result_variable ∷ [] → do_loop counting (m ∷ []) ≡ false
     → Fails (spread_checks counting (over entered_known) m) → ⊥
 own_alone m only out first =
@@ -193,7 +193,7 @@ its_own (r, is, inr f) =
     own_together f.all f.result_variables
     (subst (λ (x : Reason). IsFirstAmong (cycle_checks counting (over entered_known) f.all) x) is f.first)
 
--- the free variable may be anything
+-- the new value of the free variable is unbounded upwards
 guessed : IsUnboundedAt guessing (key 1 1) Up (pos 0 ∷ pos 1 ∷ []) (origin 1)
 guessed = record {
   asked = λ h. none_some h.polynomial h.nonlinear;

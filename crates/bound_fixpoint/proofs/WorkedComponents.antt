@@ -24,7 +24,7 @@ rule_1 = record { rule = enter; numbered = refl }
 pub rule_2 : IsRule counting.program 2
 rule_2 = record { rule = count_down; numbered = refl }
 
--- rules 1 and 2 are all there are
+-- the program has rules 1 and 2 alone
 pub no_rule_0 : IsRule counting.program 0 → ⊥
 no_rule_0 h = none h.rule h.numbered
   where
@@ -37,7 +37,7 @@ no_rule_3 t h = none h.rule h.numbered
     none : (r : Rule) → None ≡ Some r → ⊥
     none r e = cc
 
--- both are reached
+-- both rules are reached
 reached_1 : IsReached counting.program (λ e. true) 1
 reached_1 = Onward (Here refl)
     (record { number = 1; rule = enter; numbered = refl; allowed = refl; source = refl; target = refl })
@@ -49,7 +49,7 @@ alive (suc zero) rule (inr u) = u enter refl (Here refl)
 alive (suc (suc zero)) rule (inr u) = u count_down refl reached_1
 alive (suc (suc (suc t))) rule (inr u) = no_rule_3 t rule
 
--- a key among one is that
+-- a key among a single key is that key
 pub lone-sound : (m : ResultVariable) (t i : ℕ) → has_key (m ∷ []) t i ≡ true → (m.rule ≡ t) × (m.place ≡ i)
 lone-sound m t i h = go ((m.rule == t) && (m.place == i)) refl h
   where
@@ -80,7 +80,7 @@ after_2 t i m =
     subst (λ (n : ℕ). IsLivePlace n i) same.0
     (rule_2, alive 2 rule_2, subst (λ (n : ℕ). IsPlace counting.program 2 n) same.1 place_2)
 
--- the places of live rules are those two
+-- the places of live rules are the two covered ones
 pub covered_place : (t i : ℕ) → IsCovered alone t i → IsLivePlace t i
 covered_place t i (inl m) = after_1 t i m
 covered_place t i (inr (inl m)) = after_2 t i m
@@ -94,7 +94,7 @@ is_covered (suc (suc zero)) i rule place = inr (inl
     (subst (λ (n : ℕ). has_key (key 2 1 ∷ []) 2 n ≡ true) (sym (place_after_2 i place)) refl))
 is_covered (suc (suc (suc t))) i rule place = absurd (no_rule_3 t rule)
 
--- the two components in the other order
+-- the two components, in the other order, cover the same places
 turned_alone : (t i : ℕ) → IsCovered turned t i → IsCovered alone t i
 turned_alone t i (inl m) = inr (inl m)
 turned_alone t i (inr (inl m)) = inl m
@@ -117,7 +117,7 @@ module _ (rank : List ℕ → ℕ → List SymbolPlace → Ranking) (cs : List (
   not_empty : (t : ℕ) (m : List ℕ) → (answers_with rank cs).empty t ≡ NoPoint m → ⊥
   not_empty t m e = cc
 
-  -- each place of a live rule is in one of them
+  -- each place of a live rule is in one of the two components
   pub components : AreComponentsOf (searches_of (answers_with rank cs)) counting.program alone
   components = record {
     is_empty = λ t. false;
@@ -141,7 +141,7 @@ module _ (rank : List ℕ → ℕ → List SymbolPlace → Ranking) (cs : List (
     );
   }
 
-  -- a list that lacks a place isn't right, nor one that has a place twice
+  -- a list of components that lacks a place isn't right, nor is one that has a place twice
   pub not_lacking : AreComponentsOf (searches_of (answers_with rank cs)) counting.program ((key 1 1 ∷ []) ∷ []) → ⊥
   not_lacking h = by ((h.live 2 1).1 (rule_2, not_dead, place_2))
     where
@@ -173,7 +173,7 @@ module _ (rank : List ℕ → ℕ → List SymbolPlace → Ranking) (cs : List (
       ((key 1 1 ∷ []) ∷ (key 1 1 ∷ []) ∷ (key 2 1 ∷ []) ∷ []) → ⊥
   not_twice h = h.apart.0 1 1 refl (inl refl)
 
-  -- a list with descending members isn't right, nor one with a place after the virtual entry
+  -- a component with descending members isn't right, nor is one with a place after the virtual entry
   pub not_descending : AreComponentsOf (searches_of (answers_with rank cs)) counting.program
       ((key 2 1 ∷ key 1 1 ∷ []) ∷ []) → ⊥
   not_descending h = turned_round (All-head AreResultVariablesAscending (key 2 1 ∷ key 1 1 ∷ []) [] h.ascending).0

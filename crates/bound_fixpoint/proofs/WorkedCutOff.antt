@@ -16,7 +16,7 @@ use Rattle.rule_questions.specs.cert_rules.WorkedSettings.{rule_over}
 use Rattle.rule_questions.proofs.cert_rules.WorkedAccepted.{implies_one, small}
 use Rattle.bound_fixpoint.specs.Keys.{Bounds, time_key}
 use Rattle.bound_fixpoint.specs.Derivations.{Derivation, bounds_of}
-use Rattle.bound_fixpoint.specs.Standing.{is_left, Stands, AllStand}
+use Rattle.bound_fixpoint.specs.Justification.{is_left, IsJustified, AreJustified}
 use Rattle.bound_fixpoint.specs.Beginning.{empty_derivation, unreached_derivation}
 use Rattle.bound_fixpoint.specs.WorkedBeginnings.{never_enter, cut_short}
 use Rattle.bound_fixpoint.proofs.Cases.{false_true}
@@ -28,7 +28,7 @@ rule_1 = record { rule = never_enter; numbered = refl }
 rule_2 : IsRule cut_short.program 2
 rule_2 = record { rule = rule_over 1 1 0 (Variable 0) []; numbered = refl }
 
--- the rows of rule 1 have no point
+-- the rows of rule 1 have no point, as these multipliers show
 empty_1 : AcceptsEmpty cut_short 1 (1 ∷ 1 ∷ [])
 empty_1 = record {
   shape = record {
@@ -43,7 +43,7 @@ empty_1 = record {
   empty = implies_one (cut_short.rows 1) (1 ∷ 1 ∷ []) minus_one refl refl (λ u. refl) (omega (arith, ints));
 }
 
--- without it no way leads to l
+-- without rule 1 no path leads to l
 edge_to_l : (a b : ℕ) → HasEdge cut_short.program (is_left (time_key 1 ∷ [])) a b → b ≡ 1 → a ≡ 1
 edge_to_l a b h e = go h.number h.rule h.numbered h.allowed h.source
   where
@@ -86,8 +86,8 @@ IsTime k = k.place ≡ 0
 abbrev IsZeroTime : Bounds → ResultVariable → Type 0
 IsZeroTime bs k = bs k.rule 0 ≡ Some (Constant 0)
 
-empty_stands : Stands cut_short (known_with []) (empty_derivation 1 (1 ∷ 1 ∷ []))
-empty_stands = record {
+empty_justified : IsJustified cut_short (known_with []) (empty_derivation 1 (1 ∷ 1 ∷ []))
+empty_justified = record {
   keys = refl;
   accepted = empty_1;
   premises = refl;
@@ -95,8 +95,8 @@ empty_stands = record {
   bound = refl;
 }
 
-cut_stands : Stands cut_short (known_with first_alone) (unreached_derivation (time_key 1 ∷ []) 2)
-cut_stands = record {
+cut_justified : IsJustified cut_short (known_with first_alone) (unreached_derivation (time_key 1 ∷ []) 2)
+cut_justified = record {
   keys = refl;
   accepted = (
     record {
@@ -112,20 +112,20 @@ cut_stands = record {
   bound = refl;
 }
 
-pub on_empty : AllStand cut_short (empty_derivation 1 (1 ∷ 1 ∷ []) ∷ unreached_derivation (time_key 1 ∷ []) 2 ∷ [])
+pub on_empty : AreJustified cut_short (empty_derivation 1 (1 ∷ 1 ∷ []) ∷ unreached_derivation (time_key 1 ∷ []) 2 ∷ [])
 on_empty = record {
   each = (
     record {
       before = [];
       begins = record { between = []; same = refl };
-      stands = empty_stands;
+      stands = empty_justified;
       fresh = All-cons (IsNew (known_with [])) (time_key 1) [] refl (All-nil (IsNew (known_with [])));
     },
     (
       record {
         before = first_alone;
         begins = record { between = []; same = refl };
-        stands = cut_stands;
+        stands = cut_justified;
         fresh = All-cons (IsNew (known_with first_alone)) (time_key 2) [] refl
             (All-nil (IsNew (known_with first_alone)));
       },
@@ -134,12 +134,12 @@ on_empty = record {
   );
 }
 
-pub not_before_empty : AllStand cut_short (unreached_derivation (time_key 1 ∷ []) 2 ∷ empty_derivation 1 (1 ∷ 1 ∷ []) ∷ []) → ⊥
+pub not_before_empty : AreJustified cut_short (unreached_derivation (time_key 1 ∷ []) 2 ∷ empty_derivation 1 (1 ∷ 1 ∷ []) ∷ []) → ⊥
 not_before_empty h =
     none_some (Constant 0) (All-head (IsZeroTime (known_with [])) (time_key 1) []
     (first_over cut_short (unreached_derivation (time_key 1 ∷ []) 2) (empty_derivation 1 (1 ∷ 1 ∷ []) ∷ []) h).accepted.0.zero)
 
-pub not_on_nothing : AllStand cut_short (empty_derivation 1 (1 ∷ 1 ∷ []) ∷ unreached_derivation [] 2 ∷ []) → ⊥
+pub not_on_nothing : AreJustified cut_short (empty_derivation 1 (1 ∷ 1 ∷ []) ∷ unreached_derivation [] 2 ∷ []) → ⊥
 not_on_nothing h =
     h.each.1.0.stands.accepted.1.reached (rule_over 1 1 0 (Variable 0) []) refl
     (Onward (Here refl)

@@ -14,7 +14,7 @@ use Rattle.bound_fixpoint.specs.Keys.{Bounds, IsPlace, key, time_key, has_key}
 use Rattle.bound_fixpoint.specs.Derivations.{Derivation, bounds_of}
 use Rattle.bound_fixpoint.specs.Searches.{Searches, searches_of, NoPoint, HasPoint, RankHitLimit, Unsized, OfTime, OfSize}
 use Rattle.outcome.specs.Reports.{TimeHitLimit, SizeHitLimit}
-use Rattle.bound_fixpoint.specs.Answers.{TimeOf, SizesOf, Lacks, TellsTime, TellsSize}
+use Rattle.bound_fixpoint.specs.Answers.{TimeOf, SizesOf, Lacks, AnswersTime, AnswersSize}
 use Rattle.bound_fixpoint.specs.Components.{IsEmpty, IsDead, AreResultVariablesAscending, IsCovered, AreComponentsOf}
 use Rattle.bound_fixpoint.specs.Beginning.{empty_derivation, unreached_derivation, never_derivation, AreFirst}
 use Rattle.bound_fixpoint.specs.Rounds.{IsClosed, Begun}
@@ -26,7 +26,7 @@ use Rattle.bound_fixpoint.proofs.DerivationsAreOne.{answers_one}
 use Rattle.bound_fixpoint.proofs.SetsExist.{set_there, shut_there}
 use Rattle.bound_fixpoint.proofs.WorkedComponents.{lone-sound}
 use Rattle.bound_fixpoint.proofs.WorkedComponents as counted
-use Rattle.bound_fixpoint.proofs.WorkedRounds.{tells_tries, known_tries}
+use Rattle.bound_fixpoint.proofs.WorkedRounds.{answer_of_tries, known_tries}
 use Rattle.bound_fixpoint.proofs.WorkedUnreached.{rule_1, no_rule_0, no_rule_3, no_way, reached}
 
 abbrev by_hits_limit : Searches
@@ -38,7 +38,7 @@ is_second (suc zero) = false
 is_second (suc (suc zero)) = true
 is_second (suc (suc (suc t))) = false
 
--- of the rules rule 2 is unreached
+-- among the rules exactly rule 2 is unreached
 unreached : (t : ℕ) → IsRule apart.program t → (is_second t ≡ true) ↔ IsUnreached apart.program (λ e. true) t
 unreached zero rule = absurd (no_rule_0 rule)
 unreached (suc zero) rule = (λ e. absurd (false_true e), λ out. absurd (reached (λ e. true) out))
@@ -63,7 +63,7 @@ first = record {
 other_first : (fs : List Derivation) → AreFirst by_hits_limit apart.program fs → fs ≡ two_derivations
 other_first fs h = first_one by_hits_limit (answers_one all_hits_limit) apart.program fs two_derivations h first
 
--- after rule 1 the place of l is place 1, and that is the only place of a live rule
+-- the only place of l is place 1; after rule 1 it is the only place of a live rule
 place_of_l : (i : ℕ) → IsPlace apart.program 1 i → i ≡ 1
 place_of_l i h =
     let symbol = some_same 1 h.symbol h.target in
@@ -109,8 +109,8 @@ abbrev two_known : Bounds
 two_known = bounds_of apart.program two_derivations
 
 -- the ranking question of rule 1 hits a limit, whatever its set, and so does the size after it
-time_tells : TellsTime by_hits_limit apart two_known 1 (Lacks (OfTime (TimeHitLimit (limit_hit (asked.Rank 1)))))
-time_tells =
+time_answer : AnswersTime by_hits_limit apart two_known 1 (Lacks (OfTime (TimeHitLimit (limit_hit (asked.Rank 1)))))
+time_answer =
     let set = set_there apart.program two_known (Constant 1, refl) 1 rule_1 in
     let shut = shut_there apart.program two_known set.0 in
     record {
@@ -122,18 +122,18 @@ time_tells =
         are_shut = shut.1;
         answered = refl;
       };
-      tells = refl;
+      is_answer = refl;
     }
 
-size_tells : TellsSize by_hits_limit apart two_known (key 1 1 ∷ []) (Lacks (OfSize (SizeHitLimit (limit_hit (asked.Local 1 1)))))
-size_tells = record { answer = Unsized (SizeHitLimit (limit_hit (asked.Local 1 1))); answered = refl; tells = refl }
+size_answer : AnswersSize by_hits_limit apart two_known (key 1 1 ∷ []) (Lacks (OfSize (SizeHitLimit (limit_hit (asked.Local 1 1)))))
+size_answer = record { answer = Unsized (SizeHitLimit (limit_hit (asked.Local 1 1))); answered = refl; is_answer = refl }
 
 closed : IsClosed by_hits_limit apart two_derivations
 closed = record {
   times = [];
   timed = (
     [],
-    tells_tries by_hits_limit apart two_derivations (TimeOf 1) (Lacks (OfTime (TimeHitLimit (limit_hit (asked.Rank 1))))) refl time_tells,
+    answer_of_tries by_hits_limit apart two_derivations (TimeOf 1) (Lacks (OfTime (TimeHitLimit (limit_hit (asked.Rank 1))))) refl time_answer,
     ([], refl, ([], known_tries by_hits_limit apart two_derivations (TimeOf 2) refl, ([], refl, refl))),
   );
   components = (key 1 1 ∷ []) ∷ [];
@@ -142,8 +142,8 @@ closed = record {
   sizes = [];
   sized = (
     [],
-    tells_tries by_hits_limit apart two_derivations (SizesOf (key 1 1 ∷ [])) (Lacks (OfSize (SizeHitLimit (limit_hit (asked.Local 1 1))))) refl
-        size_tells,
+    answer_of_tries by_hits_limit apart two_derivations (SizesOf (key 1 1 ∷ [])) (Lacks (OfSize (SizeHitLimit (limit_hit (asked.Local 1 1))))) refl
+        size_answer,
     ([], refl, refl),
   );
   all = refl;
@@ -242,12 +242,12 @@ first_worked = record {
   not_twice = λ h. three (other_first
       (unreached_derivation [] 2 ∷ never_derivation apart.program 2 ∷ never_derivation apart.program 2 ∷ []) h);
   last = record { made = Begun first; closed = closed };
-  reason = record { missing = refl; target = TimeOf 1; asked = (rule_1, refl); tells = time_tells };
+  reason = record { missing = refl; target = TimeOf 1; asked = (rule_1, refl); is_answer = time_answer };
   size_reason = record {
     missing = refl;
     target = SizesOf (key 1 1 ∷ []);
     asked = ((key 1 1 ∷ []) ∷ [], refl, inl refl, refl);
-    tells = size_tells;
+    is_answer = size_answer;
   };
   four = four;
   not_resting_on_nothing = λ h. resting (other_four

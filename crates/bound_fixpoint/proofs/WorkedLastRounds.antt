@@ -12,10 +12,10 @@ use Rattle.rule_questions.specs.cert_types.declared.answer.Question.TheVariants 
 use Rattle.bound_fixpoint.specs.Keys.{key, time_key, has_key}
 use Rattle.bound_fixpoint.specs.Derivations.{RankBy, SpreadBy, CycleBy, Derivation, bounds_of}
 use Rattle.bound_fixpoint.specs.Needs.{needs_of}
-use Rattle.bound_fixpoint.specs.Standing.{composed_bound}
+use Rattle.bound_fixpoint.specs.Justification.{composed_bound}
 use Rattle.bound_fixpoint.specs.Searches.{Searches, searches_of, NoPoint, Ranked, RankHitLimit, SizedBy, Unsized, OfTime, OfSize}
 use Rattle.outcome.specs.Reports.{TimeHitLimit, TimeLarge, SizeMissing}
-use Rattle.bound_fixpoint.specs.Answers.{TimeOf, SizesOf, Found, Lacks, TellsTime}
+use Rattle.bound_fixpoint.specs.Answers.{TimeOf, SizesOf, Found, Lacks, AnswersTime}
 use Rattle.bound_fixpoint.specs.Components.{AreResultVariablesAscending, IsCovered, AreComponentsOf}
 use Rattle.bound_fixpoint.specs.Rounds.{IsRound, IsClosed, Begun, Made}
 use Rattle.bound_fixpoint.specs.WorkedDerivations.{entered_derivation, looped_derivation}
@@ -33,24 +33,24 @@ use Rattle.bound_fixpoint.proofs.SetsExist.{set_there, shut_there}
 use Rattle.bound_fixpoint.proofs.WorkedSets.{first as first_set, second as second_set}
 use Rattle.bound_fixpoint.proofs.WorkedShut.{none_shut, none_shut_first, open_places}
 use Rattle.bound_fixpoint.proofs.WorkedComponents as parts
-use Rattle.bound_fixpoint.proofs.WorkedRounds.{tells_tries, known_tries, time-sound, nothing_first, entered_answer}
+use Rattle.bound_fixpoint.proofs.WorkedRounds.{answer_of_tries, known_tries, time-sound, nothing_first, entered_answer}
 use Rattle.bound_fixpoint.proofs.WorkedRounds.{looped_answer}
 
 abbrev by_turned : Searches
 by_turned = searches_of value_turned
 
 -- over no bounds both rules are ranked, each over its set
-first_tells : TellsTime by_turned counting nothing_known 1
+first_time_answer : AnswersTime by_turned counting nothing_known 1
     (Found (RankBy (value_ranks (1 ∷ []) 1)) (time_key 0 ∷ key 0 1 ∷ []) down_time)
-first_tells =
+first_time_answer =
     time-sound ranks_open turned nothing_known 1 (1 ∷ []) [] first_set
     (open_places nothing_known (1 ∷ []) (none_shut_first nothing_known refl))
     (Found (RankBy (value_ranks (1 ∷ []) 1)) (time_key 0 ∷ key 0 1 ∷ []) down_time)
     (record { before = refl; after = refl }, refl, refl, refl)
 
-second_tells : TellsTime by_turned counting nothing_known 2
+second_time_answer : AnswersTime by_turned counting nothing_known 2
     (Found (RankBy (value_ranks (1 ∷ 2 ∷ []) 2)) (time_key 0 ∷ key 0 1 ∷ []) down_time)
-second_tells =
+second_time_answer =
     time-sound ranks_open turned nothing_known 2 (1 ∷ 2 ∷ []) [] second_set
     (open_places nothing_known (1 ∷ 2 ∷ []) (none_shut nothing_known refl))
     (Found (RankBy (value_ranks (1 ∷ 2 ∷ []) 2)) (time_key 0 ∷ key 0 1 ∷ []) down_time)
@@ -68,15 +68,15 @@ first_round = record {
   times = first_time ∷ second_time ∷ [];
   timed = (
     first_time ∷ [],
-    tells_tries by_turned counting [] (TimeOf 1)
-        (Found (RankBy (value_ranks (1 ∷ []) 1)) (time_key 0 ∷ key 0 1 ∷ []) down_time) refl first_tells,
+    answer_of_tries by_turned counting [] (TimeOf 1)
+        (Found (RankBy (value_ranks (1 ∷ []) 1)) (time_key 0 ∷ key 0 1 ∷ []) down_time) refl first_time_answer,
     (
       second_time ∷ [],
       refl,
       (
         second_time ∷ [],
-        tells_tries by_turned counting [] (TimeOf 2)
-            (Found (RankBy (value_ranks (1 ∷ 2 ∷ []) 2)) (time_key 0 ∷ key 0 1 ∷ []) down_time) refl second_tells,
+        answer_of_tries by_turned counting [] (TimeOf 2)
+            (Found (RankBy (value_ranks (1 ∷ 2 ∷ []) 2)) (time_key 0 ∷ key 0 1 ∷ []) down_time) refl second_time_answer,
         ([], refl, refl),
       ),
     ),
@@ -87,16 +87,16 @@ first_round = record {
   sizes = entered_derivation ∷ [];
   sized = (
     [],
-    tells_tries by_turned counting (first_time ∷ second_time ∷ []) (SizesOf (key 2 1 ∷ []))
+    answer_of_tries by_turned counting (first_time ∷ second_time ∷ []) (SizesOf (key 2 1 ∷ []))
         (Lacks (OfSize (SizeMissing (key 1 1)))) refl
-        (record { answer = Unsized (SizeMissing (key 1 1)); answered = refl; tells = refl }),
+        (record { answer = Unsized (SizeMissing (key 1 1)); answered = refl; is_answer = refl }),
     (
       entered_derivation ∷ [],
       refl,
       (
         entered_derivation ∷ [],
-        tells_tries by_turned counting (first_time ∷ second_time ∷ []) (SizesOf (key 1 1 ∷ [])) entered_answer refl
-            (record { answer = SizedBy (SpreadBy entered_member); answered = refl; tells = refl }),
+        answer_of_tries by_turned counting (first_time ∷ second_time ∷ []) (SizesOf (key 1 1 ∷ [])) entered_answer refl
+            (record { answer = SizedBy (SpreadBy entered_member); answered = refl; is_answer = refl }),
         ([], refl, refl),
       ),
     ),
@@ -119,8 +119,8 @@ second_round = record {
   sizes = looped_derivation ∷ [];
   sized = (
     looped_derivation ∷ [],
-    tells_tries by_turned counting three (SizesOf (key 2 1 ∷ [])) looped_answer refl
-        (record { answer = SizedBy (CycleBy (looped_member ∷ [])); answered = refl; tells = refl }),
+    answer_of_tries by_turned counting three (SizesOf (key 2 1 ∷ [])) looped_answer refl
+        (record { answer = SizedBy (CycleBy (looped_member ∷ [])); answered = refl; is_answer = refl }),
     ([], refl, ([], known_tries by_turned counting four (SizesOf (key 1 1 ∷ [])) refl, ([], refl, refl))),
   );
   all = refl;
@@ -148,9 +148,9 @@ closed = record {
 }
 
 -- a time whose bound is 201 levels deep
-large_tells : TellsTime (searches_of (answers_with once_ranks alone)) towering (bounds_of towering.program []) 1
+large_time_answer : AnswersTime (searches_of (answers_with once_ranks alone)) towering (bounds_of towering.program []) 1
     (Lacks (OfTime (TimeLarge 201)))
-large_tells =
+large_time_answer =
     let set = set_there towering.program (bounds_of towering.program []) (Constant 1, refl) 1 parts.rule_1 in
     let shut = shut_there towering.program (bounds_of towering.program []) set.0 in
     record {
@@ -162,7 +162,7 @@ large_tells =
         are_shut = shut.1;
         answered = refl;
       };
-      tells = (λ h. no_is_not_yes true h.after refl, refl);
+      is_answer = (λ h. no_is_not_yes true h.after refl, refl);
     }
 
 abbrev by_both : Searches
@@ -199,7 +199,7 @@ both_live = record {
 
 -- ranking questions hit a limit, whatever their sets
 hits_limit : (t : ℕ) → IsRule counting.program t
-    → TellsTime by_both counting nothing_known t (Lacks (OfTime (TimeHitLimit (limit_hit (asked.Rank t)))))
+    → AnswersTime by_both counting nothing_known t (Lacks (OfTime (TimeHitLimit (limit_hit (asked.Rank t)))))
 hits_limit t rule =
     let set = set_there counting.program nothing_known (Constant 1, refl) t rule in
     let shut = shut_there counting.program nothing_known set.0 in
@@ -212,7 +212,7 @@ hits_limit t rule =
         are_shut = shut.1;
         answered = refl;
       };
-      tells = refl;
+      is_answer = refl;
     }
 
 both : IsRound by_both counting [] (sized_derivation together ∷ [])
@@ -220,13 +220,13 @@ both = record {
   times = [];
   timed = (
     [],
-    tells_tries by_both counting [] (TimeOf 1) (Lacks (OfTime (TimeHitLimit (limit_hit (asked.Rank 1))))) refl (hits_limit 1 parts.rule_1),
+    answer_of_tries by_both counting [] (TimeOf 1) (Lacks (OfTime (TimeHitLimit (limit_hit (asked.Rank 1))))) refl (hits_limit 1 parts.rule_1),
     (
       [],
       refl,
       (
         [],
-        tells_tries by_both counting [] (TimeOf 2) (Lacks (OfTime (TimeHitLimit (limit_hit (asked.Rank 2))))) refl
+        answer_of_tries by_both counting [] (TimeOf 2) (Lacks (OfTime (TimeHitLimit (limit_hit (asked.Rank 2))))) refl
             (hits_limit 2 parts.rule_2),
         ([], refl, refl),
       ),
@@ -238,10 +238,10 @@ both = record {
   sizes = sized_derivation together ∷ [];
   sized = (
     sized_derivation together ∷ [],
-    tells_tries by_both counting [] (SizesOf together)
+    answer_of_tries by_both counting [] (SizesOf together)
         (Found loop_of_both (needs_of counting nothing_known loop_of_both)
         (composed_bound counting nothing_known loop_of_both)) refl
-        (record { answer = SizedBy loop_of_both; answered = refl; tells = refl }),
+        (record { answer = SizedBy loop_of_both; answered = refl; is_answer = refl }),
     ([], refl, refl),
   );
   all = refl;
@@ -262,7 +262,7 @@ last_rounds = record {
     closed = closed;
   };
   not_in_one = λ h. in_one (round_one by_turned (answers_one value_turned) counting [] four three h first_round);
-  large = record { missing = refl; target = TimeOf 1; asked = (parts.rule_1, refl); tells = large_tells };
+  large = record { missing = refl; target = TimeOf 1; asked = (parts.rule_1, refl); is_answer = large_time_answer };
   both = both;
   not_each = λ h. each (other (sized_derivation (key 1 1 ∷ []) ∷ sized_derivation (key 2 1 ∷ []) ∷ []) h);
   not_one_key = λ h. one_key (other (sized_derivation (key 1 1 ∷ []) ∷ []) h);

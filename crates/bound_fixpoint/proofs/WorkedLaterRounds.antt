@@ -7,7 +7,7 @@ use Rattle.bound_fixpoint.specs.Keys.{key, time_key}
 use Rattle.bound_fixpoint.specs.Derivations.{RankBy, SpreadBy, CycleBy, Derivation, bounds_of}
 use Rattle.bound_fixpoint.specs.Searches.{Searches, searches_of, SizedBy, Unsized, OfTime, OfSize}
 use Rattle.outcome.specs.Reports.{NoFunction, SizeMissing}
-use Rattle.bound_fixpoint.specs.Answers.{TimeOf, SizesOf, Answer, Found, Lacks, TellsTime}
+use Rattle.bound_fixpoint.specs.Answers.{TimeOf, SizesOf, Answer, Found, Lacks, AnswersTime}
 use Rattle.bound_fixpoint.specs.Rounds.{TriesAll, Together, IsRound}
 use Rattle.bound_fixpoint.specs.WorkedDerivations.{once_derivation, entered_derivation, looped_derivation, alone_time}
 use Rattle.bound_fixpoint.specs.WorkedSets.{once_known, place}
@@ -18,7 +18,7 @@ use Rattle.bound_fixpoint.proofs.DerivationsAreOne.{answers_one}
 use Rattle.bound_fixpoint.proofs.WorkedSets.{alone_set}
 use Rattle.bound_fixpoint.proofs.WorkedShut.{none_shut_alone, open_places, one_shut}
 use Rattle.bound_fixpoint.proofs.WorkedComponents as parts
-use Rattle.bound_fixpoint.proofs.WorkedRounds.{tells_tries, known_tries, time-sound, closed_by, by_value, entered_answer}
+use Rattle.bound_fixpoint.proofs.WorkedRounds.{answer_of_tries, known_tries, time-sound, closed_by, by_value, entered_answer}
 use Rattle.bound_fixpoint.proofs.WorkedRounds.{looped_answer}
 
 abbrev by_turned : Searches
@@ -32,12 +32,12 @@ by_open cs = searches_of (answers_with ranks_open cs)
 abbrev shut_answer : Answer
 shut_answer = Lacks (OfTime (NoFunction (gap_over (2 ∷ []) 2 (place 1 1 ∷ []))))
 
-shut_tells : (cs : List (List ResultVariable)) → TellsTime (by_open cs) counting once_known 2 shut_answer
-shut_tells cs =
+shut_time_answer : (cs : List (List ResultVariable)) → AnswersTime (by_open cs) counting once_known 2 shut_answer
+shut_time_answer cs =
     time-sound ranks_open cs once_known 2 (2 ∷ []) (place 1 1 ∷ []) (alone_set once_known refl refl)
     (one_shut once_known refl) shut_answer refl
 
--- no time is derived
+-- in the round the times aren't queried, or give no derivation
 times_of_round : (cs : List (List ResultVariable)) → TriesAll (by_open cs) counting Together (once_derivation ∷ [])
     (TimeOf 1 ∷ TimeOf 2 ∷ []) []
 times_of_round cs = (
@@ -48,7 +48,7 @@ times_of_round cs = (
     refl,
     (
       [],
-      tells_tries (by_open cs) counting (once_derivation ∷ []) (TimeOf 2) shut_answer refl (shut_tells cs),
+      answer_of_tries (by_open cs) counting (once_derivation ∷ []) (TimeOf 2) shut_answer refl (shut_time_answer cs),
       ([], refl, refl),
     ),
   ),
@@ -65,15 +65,15 @@ sizes = record {
   sizes = entered_derivation ∷ looped_derivation ∷ [];
   sized = (
     entered_derivation ∷ [],
-    tells_tries by_value counting (once_derivation ∷ []) (SizesOf (key 1 1 ∷ [])) entered_answer refl
-        (record { answer = SizedBy (SpreadBy entered_member); answered = refl; tells = refl }),
+    answer_of_tries by_value counting (once_derivation ∷ []) (SizesOf (key 1 1 ∷ [])) entered_answer refl
+        (record { answer = SizedBy (SpreadBy entered_member); answered = refl; is_answer = refl }),
     (
       looped_derivation ∷ [],
       refl,
       (
         looped_derivation ∷ [],
-        tells_tries by_value counting (once_derivation ∷ entered_derivation ∷ []) (SizesOf (key 2 1 ∷ [])) looped_answer refl
-            (record { answer = SizedBy (CycleBy (looped_member ∷ [])); answered = refl; tells = refl }),
+        answer_of_tries by_value counting (once_derivation ∷ entered_derivation ∷ []) (SizesOf (key 2 1 ∷ [])) looped_answer refl
+            (record { answer = SizedBy (CycleBy (looped_member ∷ [])); answered = refl; is_answer = refl }),
         ([], refl, refl),
       ),
     ),
@@ -81,7 +81,7 @@ sizes = record {
   all = refl;
 }
 
--- turned round, that after rule 1 alone
+-- with the components in the other order, the first round derives only the size after rule 1
 in_turn : IsRound by_turned counting (once_derivation ∷ []) (entered_derivation ∷ [])
 in_turn = record {
   times = [];
@@ -92,15 +92,15 @@ in_turn = record {
   sizes = entered_derivation ∷ [];
   sized = (
     [],
-    tells_tries by_turned counting (once_derivation ∷ []) (SizesOf (key 2 1 ∷ [])) (Lacks (OfSize (SizeMissing (key 1 1)))) refl
-        (record { answer = Unsized (SizeMissing (key 1 1)); answered = refl; tells = refl }),
+    answer_of_tries by_turned counting (once_derivation ∷ []) (SizesOf (key 2 1 ∷ [])) (Lacks (OfSize (SizeMissing (key 1 1)))) refl
+        (record { answer = Unsized (SizeMissing (key 1 1)); answered = refl; is_answer = refl }),
     (
       entered_derivation ∷ [],
       refl,
       (
         entered_derivation ∷ [],
-        tells_tries by_turned counting (once_derivation ∷ []) (SizesOf (key 1 1 ∷ [])) entered_answer refl
-            (record { answer = SizedBy (SpreadBy entered_member); answered = refl; tells = refl }),
+        answer_of_tries by_turned counting (once_derivation ∷ []) (SizesOf (key 1 1 ∷ [])) entered_answer refl
+            (record { answer = SizedBy (SpreadBy entered_member); answered = refl; is_answer = refl }),
         ([], refl, refl),
       ),
     ),
@@ -115,8 +115,8 @@ three = once_derivation ∷ entered_derivation ∷ looped_derivation ∷ []
 abbrev later_answer : Answer
 later_answer = Found (RankBy (value_ranks (2 ∷ []) 2)) (time_key 1 ∷ key 1 1 ∷ []) alone_time
 
-later_tells : TellsTime by_value counting (bounds_of counting.program three) 2 later_answer
-later_tells =
+later_time_answer : AnswersTime by_value counting (bounds_of counting.program three) 2 later_answer
+later_time_answer =
     time-sound ranks_open alone (bounds_of counting.program three) 2 (2 ∷ []) []
     (alone_set (bounds_of counting.program three) refl refl)
     (open_places (bounds_of counting.program three) (2 ∷ [])
@@ -134,7 +134,7 @@ time = record {
       refl,
       (
         later_time ∷ [],
-        tells_tries by_value counting three (TimeOf 2) later_answer refl later_tells,
+        answer_of_tries by_value counting three (TimeOf 2) later_answer refl later_time_answer,
         ([], refl, refl),
       ),
     ),

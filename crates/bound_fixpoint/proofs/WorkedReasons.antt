@@ -1,4 +1,4 @@
--- Reasons of the program that counts down, where nothing ranks.
+-- Reasons for missing bounds of the program that counts down, if no function ranks a rule.
 use Rattle.std.proofs.Common.{◌≡◌, inl, inr, ℕ, List, [], ◌∷◌, refl, sym, ap, subst, arith}
 use Rattle.rule_questions.proofs.model.Cases.{some_none}
 use Rattle.rule_questions.specs.cert_rules.Gaps.{Gap}
@@ -8,7 +8,7 @@ use Rattle.rule_questions.specs.cert_rules.Worked.{once_time}
 use Rattle.bound_fixpoint.specs.Keys.{key}
 use Rattle.bound_fixpoint.specs.Searches.{Searches, searches_of, Unsized, NoBound, OfTime, OfSize}
 use Rattle.outcome.specs.Reports.{NoFunction, TimeLarge, SizeMissing, SizeUntimed}
-use Rattle.bound_fixpoint.specs.Answers.{Target, TimeOf, SizesOf, Lacks, TellsTime, TellsSize}
+use Rattle.bound_fixpoint.specs.Answers.{Target, TimeOf, SizesOf, Lacks, AnswersTime, AnswersSize}
 use Rattle.bound_fixpoint.specs.Components.{IsOneOf}
 use Rattle.bound_fixpoint.specs.Rounds.{IsClosed, Begun, IsAskedFor, IsNoBound}
 use Rattle.bound_fixpoint.specs.WorkedSets.{nothing_known}
@@ -18,44 +18,44 @@ use Rattle.bound_fixpoint.proofs.UniformComponents.{member_covered}
 use Rattle.bound_fixpoint.proofs.WorkedSets.{first as first_set, second as second_set}
 use Rattle.bound_fixpoint.proofs.WorkedShut.{none_shut, none_shut_first, open_places, place_after_2}
 use Rattle.bound_fixpoint.proofs.WorkedComponents as parts
-use Rattle.bound_fixpoint.proofs.WorkedRounds.{tells_tries, time-sound, nothing_first}
+use Rattle.bound_fixpoint.proofs.WorkedRounds.{answer_of_tries, time-sound, nothing_first}
 
 abbrev by_none : Searches
 by_none = searches_of nothing_ranks
 
 -- each rule is queried over its set, and no function ranks it
-first_tells : TellsTime by_none counting nothing_known 1 (Lacks (OfTime (NoFunction (gap_over (1 ∷ []) 1 []))))
-first_tells =
+first_time_answer : AnswersTime by_none counting nothing_known 1 (Lacks (OfTime (NoFunction (gap_over (1 ∷ []) 1 []))))
+first_time_answer =
     time-sound never_ranks alone nothing_known 1 (1 ∷ []) [] first_set
     (open_places nothing_known (1 ∷ []) (none_shut_first nothing_known refl))
     (Lacks (OfTime (NoFunction (gap_over (1 ∷ []) 1 [])))) refl
 
-second_tells : TellsTime by_none counting nothing_known 2 (Lacks (OfTime (NoFunction (gap_over (1 ∷ 2 ∷ []) 2 []))))
-second_tells =
+second_time_answer : AnswersTime by_none counting nothing_known 2 (Lacks (OfTime (NoFunction (gap_over (1 ∷ 2 ∷ []) 2 []))))
+second_time_answer =
     time-sound never_ranks alone nothing_known 2 (1 ∷ 2 ∷ []) [] second_set
     (open_places nothing_known (1 ∷ 2 ∷ []) (none_shut nothing_known refl))
     (Lacks (OfTime (NoFunction (gap_over (1 ∷ 2 ∷ []) 2 [])))) refl
 
 -- neither size is derived
-first_size_tells : TellsSize by_none counting nothing_known (key 1 1 ∷ []) (Lacks (OfSize (SizeUntimed 1)))
-first_size_tells = record { answer = Unsized (SizeUntimed 1); answered = refl; tells = refl }
+first_size_answer : AnswersSize by_none counting nothing_known (key 1 1 ∷ []) (Lacks (OfSize (SizeUntimed 1)))
+first_size_answer = record { answer = Unsized (SizeUntimed 1); answered = refl; is_answer = refl }
 
-second_size_tells : TellsSize by_none counting nothing_known (key 2 1 ∷ []) (Lacks (OfSize (SizeMissing (key 1 1))))
-second_size_tells = record { answer = Unsized (SizeMissing (key 1 1)); answered = refl; tells = refl }
+second_size_answer : AnswersSize by_none counting nothing_known (key 2 1 ∷ []) (Lacks (OfSize (SizeMissing (key 1 1))))
+second_size_answer = record { answer = Unsized (SizeMissing (key 1 1)); answered = refl; is_answer = refl }
 
 closed : IsClosed by_none counting []
 closed = record {
   times = [];
   timed = (
     [],
-    tells_tries by_none counting [] (TimeOf 1) (Lacks (OfTime (NoFunction (gap_over (1 ∷ []) 1 [])))) refl first_tells,
+    answer_of_tries by_none counting [] (TimeOf 1) (Lacks (OfTime (NoFunction (gap_over (1 ∷ []) 1 [])))) refl first_time_answer,
     (
       [],
       refl,
       (
         [],
-        tells_tries by_none counting [] (TimeOf 2) (Lacks (OfTime (NoFunction (gap_over (1 ∷ 2 ∷ []) 2 [])))) refl
-            second_tells,
+        answer_of_tries by_none counting [] (TimeOf 2) (Lacks (OfTime (NoFunction (gap_over (1 ∷ 2 ∷ []) 2 [])))) refl
+            second_time_answer,
         ([], refl, refl),
       ),
     ),
@@ -66,13 +66,13 @@ closed = record {
   sizes = [];
   sized = (
     [],
-    tells_tries by_none counting [] (SizesOf (key 1 1 ∷ [])) (Lacks (OfSize (SizeUntimed 1))) refl first_size_tells,
+    answer_of_tries by_none counting [] (SizesOf (key 1 1 ∷ [])) (Lacks (OfSize (SizeUntimed 1))) refl first_size_answer,
     (
       [],
       refl,
       (
         [],
-        tells_tries by_none counting [] (SizesOf (key 2 1 ∷ [])) (Lacks (OfSize (SizeMissing (key 1 1)))) refl second_size_tells,
+        answer_of_tries by_none counting [] (SizesOf (key 2 1 ∷ [])) (Lacks (OfSize (SizeMissing (key 1 1)))) refl second_size_answer,
         ([], refl, refl),
       ),
     ),
@@ -81,14 +81,14 @@ closed = record {
 }
 
 second_time : IsNoBound by_none counting [] 2 0 (OfTime (NoFunction (gap_over (1 ∷ 2 ∷ []) 2 [])))
-second_time = record { missing = refl; target = TimeOf 2; asked = (parts.rule_2, refl); tells = second_tells }
+second_time = record { missing = refl; target = TimeOf 2; asked = (parts.rule_2, refl); is_answer = second_time_answer }
 
 second_size : IsNoBound by_none counting [] 2 1 (OfSize (SizeMissing (key 1 1)))
 second_size = record {
   missing = refl;
   target = SizesOf (key 2 1 ∷ []);
   asked = (alone, refl, inr (inl refl), refl);
-  tells = second_size_tells;
+  is_answer = second_size_answer;
 }
 
 -- there is no other reason
@@ -131,13 +131,13 @@ reasons_worked = record {
   not_descending = parts.not_descending never_ranks alone;
   not_of_entry = parts.not_of_entry never_ranks alone;
   last = record { made = Begun (nothing_first never_ranks alone); closed = closed };
-  first_time = record { missing = refl; target = TimeOf 1; asked = (parts.rule_1, refl); tells = first_tells };
+  first_time = record { missing = refl; target = TimeOf 1; asked = (parts.rule_1, refl); is_answer = first_time_answer };
   second_time = second_time;
   first_size = record {
     missing = refl;
     target = SizesOf (key 1 1 ∷ []);
     asked = (alone, refl, inl refl, refl);
-    tells = first_size_tells;
+    is_answer = first_size_answer;
   };
   second_size = second_size;
   not_alone = λ h. gaps_differ (one_reason 2 0 (OfTime (NoFunction (gap_over (2 ∷ []) 2 [])))

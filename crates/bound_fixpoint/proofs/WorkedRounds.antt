@@ -13,7 +13,7 @@ use Rattle.bound_fixpoint.specs.Sets.{IsSetOfRule, AreShutOf}
 use Rattle.bound_fixpoint.specs.Searches.{Searches, searches_of, NoPoint, Ranking}
 use Rattle.bound_fixpoint.specs.Searches.{SizedBy}
 use Rattle.bound_fixpoint.specs.Answers.{Target, TimeOf, SizesOf, is_open, Answer, Found, derivations_by}
-use Rattle.bound_fixpoint.specs.Answers.{TellsRanking, TellsTime, Tells}
+use Rattle.bound_fixpoint.specs.Answers.{AnswersRanking, AnswersTime, AnswersTarget}
 use Rattle.bound_fixpoint.specs.Beginning.{AreFirst}
 use Rattle.bound_fixpoint.specs.Rounds.{Tries, TriesAll, InTurn, IsRound, IsClosed, Begun, Made}
 use Rattle.bound_fixpoint.specs.WorkedDerivations.{once_derivation, entered_derivation, looped_derivation}
@@ -29,18 +29,18 @@ use Rattle.bound_fixpoint.proofs.WorkedSets.{first as first_set, second as secon
 use Rattle.bound_fixpoint.proofs.WorkedShut.{none_shut, none_shut_first, open_places}
 use Rattle.bound_fixpoint.proofs.WorkedComponents as parts
 
--- the result on a missing bound is what is found
-pub tells_tries : (q : Searches) (s : Setting) (fs : List Derivation) (g : Target) (a : Answer)
-    → is_open (bounds_of s.program fs) g ≡ true → Tells q s (bounds_of s.program fs) g a → Tries q s fs g (derivations_by g a)
-tells_tries q s fs g a e tells =
-    record { known = λ k. absurd (false_true (sym k ∙ e)); tried = λ k. (a, tells, refl) }
+-- querying a target whose bound is missing gives the derivations of the result
+pub answer_of_tries : (q : Searches) (s : Setting) (fs : List Derivation) (g : Target) (a : Answer)
+    → is_open (bounds_of s.program fs) g ≡ true → AnswersTarget q s (bounds_of s.program fs) g a → Tries q s fs g (derivations_by g a)
+answer_of_tries q s fs g a e is_answer =
+    record { known = λ k. absurd (false_true (sym k ∙ e)); tried = λ k. (a, is_answer, refl) }
 
--- a known bound isn't queried
+-- querying a target whose bounds are known gives no derivation
 pub known_tries : (q : Searches) (s : Setting) (fs : List Derivation) (g : Target)
     → is_open (bounds_of s.program fs) g ≡ false → Tries q s fs g []
 known_tries q s fs g e = record { known = λ k. refl; tried = λ k. absurd (false_true (sym e ∙ k)) }
 
--- lists of other lengths are others
+-- lists of different lengths differ
 lengths : (xs ys : List Derivation) → xs ≡ ys → length xs ≡ length ys
 lengths xs ys e = ap length e
 
@@ -59,9 +59,9 @@ module _ (rank : List ℕ → ℕ → List SymbolPlace → Ranking) (cs : List (
 
   -- the rank question of a rule has its answer
   pub time-sound : (bs : Bounds) (t : ℕ) (set : List ℕ) (shut : List SymbolPlace) → IsSetOfRule counting.program bs t set
-      → AreShutOf counting.program bs set shut → (a : Answer) → TellsRanking counting bs (rank set t shut) a
-      → TellsTime q counting bs t a
-  time-sound bs t set shut is are a tells = record {
+      → AreShutOf counting.program bs set shut → (a : Answer) → AnswersRanking counting bs (rank set t shut) a
+      → AnswersTime q counting bs t a
+  time-sound bs t set shut is are a is_answer = record {
     asked = record {
       set = set;
       shut = shut;
@@ -70,10 +70,10 @@ module _ (rank : List ℕ → ℕ → List SymbolPlace → Ranking) (cs : List (
       are_shut = are;
       answered = refl;
     };
-    tells = tells;
+    is_answer = is_answer;
   }
 
-  -- before the first round nothing is found
+  -- before the first round there are no derivations
   pub nothing_first : AreFirst q counting.program []
   nothing_first = record {
     is_empty = λ t. false;
@@ -92,17 +92,17 @@ abbrev pub by_value : Searches
 by_value = searches_of value_where_open
 
 -- over no bounds both rules are ranked, each over its set
-first_tells : TellsTime by_value counting nothing_known 1
+first_time_answer : AnswersTime by_value counting nothing_known 1
     (Found (RankBy (value_ranks (1 ∷ []) 1)) (time_key 0 ∷ key 0 1 ∷ []) down_time)
-first_tells =
+first_time_answer =
     time-sound ranks_open alone nothing_known 1 (1 ∷ []) [] first_set
     (open_places nothing_known (1 ∷ []) (none_shut_first nothing_known refl))
     (Found (RankBy (value_ranks (1 ∷ []) 1)) (time_key 0 ∷ key 0 1 ∷ []) down_time)
     (record { before = refl; after = refl }, refl, refl, refl)
 
-second_tells : TellsTime by_value counting nothing_known 2
+second_time_answer : AnswersTime by_value counting nothing_known 2
     (Found (RankBy (value_ranks (1 ∷ 2 ∷ []) 2)) (time_key 0 ∷ key 0 1 ∷ []) down_time)
-second_tells =
+second_time_answer =
     time-sound ranks_open alone nothing_known 2 (1 ∷ 2 ∷ []) [] second_set
     (open_places nothing_known (1 ∷ 2 ∷ []) (none_shut nothing_known refl))
     (Found (RankBy (value_ranks (1 ∷ 2 ∷ []) 2)) (time_key 0 ∷ key 0 1 ∷ []) down_time)
@@ -120,15 +120,15 @@ round = record {
   times = first_time ∷ second_time ∷ [];
   timed = (
     first_time ∷ [],
-    tells_tries by_value counting [] (TimeOf 1)
-        (Found (RankBy (value_ranks (1 ∷ []) 1)) (time_key 0 ∷ key 0 1 ∷ []) down_time) refl first_tells,
+    answer_of_tries by_value counting [] (TimeOf 1)
+        (Found (RankBy (value_ranks (1 ∷ []) 1)) (time_key 0 ∷ key 0 1 ∷ []) down_time) refl first_time_answer,
     (
       second_time ∷ [],
       refl,
       (
         second_time ∷ [],
-        tells_tries by_value counting [] (TimeOf 2)
-            (Found (RankBy (value_ranks (1 ∷ 2 ∷ []) 2)) (time_key 0 ∷ key 0 1 ∷ []) down_time) refl second_tells,
+        answer_of_tries by_value counting [] (TimeOf 2)
+            (Found (RankBy (value_ranks (1 ∷ 2 ∷ []) 2)) (time_key 0 ∷ key 0 1 ∷ []) down_time) refl second_time_answer,
         ([], refl, refl),
       ),
     ),
@@ -139,16 +139,16 @@ round = record {
   sizes = entered_derivation ∷ looped_derivation ∷ [];
   sized = (
     entered_derivation ∷ [],
-    tells_tries by_value counting (first_time ∷ second_time ∷ []) (SizesOf (key 1 1 ∷ [])) entered_answer refl
-        (record { answer = SizedBy (SpreadBy entered_member); answered = refl; tells = refl }),
+    answer_of_tries by_value counting (first_time ∷ second_time ∷ []) (SizesOf (key 1 1 ∷ [])) entered_answer refl
+        (record { answer = SizedBy (SpreadBy entered_member); answered = refl; is_answer = refl }),
     (
       looped_derivation ∷ [],
       refl,
       (
         looped_derivation ∷ [],
-        tells_tries by_value counting (first_time ∷ second_time ∷ entered_derivation ∷ []) (SizesOf (key 2 1 ∷ []))
+        answer_of_tries by_value counting (first_time ∷ second_time ∷ entered_derivation ∷ []) (SizesOf (key 2 1 ∷ []))
             looped_answer refl
-            (record { answer = SizedBy (CycleBy (looped_member ∷ [])); answered = refl; tells = refl }),
+            (record { answer = SizedBy (CycleBy (looped_member ∷ [])); answered = refl; is_answer = refl }),
         ([], refl, refl),
       ),
     ),
@@ -188,7 +188,7 @@ closed_by fs a b same c d = record {
 abbrev four : List Derivation
 four = first_time ∷ second_time ∷ entered_derivation ∷ looped_derivation ∷ []
 
--- a round derives no other list
+-- any other list isn't that of a round
 other : (xs : List Derivation) → IsRound by_value counting [] xs → xs ≡ four
 other xs h = round_one by_value (answers_one value_where_open) counting [] xs four h round
 

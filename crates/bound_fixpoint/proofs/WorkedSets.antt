@@ -68,7 +68,7 @@ first = record {
   members = λ e. (λ h. inl (in_first e h), λ h. first_member e h);
 }
 
--- the set of rule 2 is both, and with a time of rule 1 rule 2 alone
+-- the set of rule 2 is both rules, and with a time of rule 1 rule 2 alone
 in_both : (e : ℕ) → is_in e (1 ∷ 2 ∷ []) ≡ true → (e ≡ 1) ⊎ (e ≡ 2)
 in_both zero h = absurd (false_true h)
 in_both (suc zero) h = inl refl
@@ -102,7 +102,7 @@ in_second (suc zero) h = absurd (false_true h)
 in_second (suc (suc zero)) h = refl
 in_second (suc (suc (suc n))) h = grind arith
 
--- where rule 1 has a time and the virtual entry too, the set of rule 2 is rule 2 alone
+-- if rule 1 and the virtual entry have times, the set of rule 2 is rule 2 alone
 module _ (bs : Bounds) (entry : is_untimed bs 0 ≡ false) (once : is_untimed bs 1 ≡ false) where
   alone_member : (e : ℕ) → IsInSet counting.program (is_untimed bs) 2 e → is_in e (2 ∷ []) ≡ true
   alone_member e (inl same) = subst (λ (n : ℕ). is_in n (2 ∷ []) ≡ true) (sym same) refl
@@ -118,7 +118,7 @@ module _ (bs : Bounds) (entry : is_untimed bs 0 ≡ false) (once : is_untimed bs
     members = λ e. (λ h. inl (in_second e h), λ h. alone_member e h);
   }
 
--- other lists aren't
+-- these lists are the sets of the rules, and other lists aren't
 pub sets_worked : SetsOfCounting
 sets_worked = record {
   first = first;

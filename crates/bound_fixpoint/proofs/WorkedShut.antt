@@ -12,7 +12,7 @@ use Rattle.rule_questions.specs.cert_rules.Gaps.{SymbolPlace}
 use Rattle.rule_questions.specs.cert_rules.WorkedSettings.{counting}
 use Rattle.rule_questions.specs.cert_rules.Worked.{entered_size}
 use Rattle.bound_fixpoint.specs.Keys.{Bounds, IsPlace}
-use Rattle.bound_fixpoint.specs.Sets.{StandsBefore, IsShut, AreShutOf}
+use Rattle.bound_fixpoint.specs.Sets.{PlaceIsBefore, IsShut, AreShutOf}
 use Rattle.bound_fixpoint.specs.WorkedSets.{nothing_known, once_known, entered_known, place, ShutOfCounting}
 use Rattle.bound_fixpoint.proofs.Cases.{false_true}
 use Rattle.bound_fixpoint.proofs.ListMembers.{contains-cases, contains-none, contains-first}
@@ -48,7 +48,7 @@ entry_open bs set entry b known only lone s enters h =
     let missing = subst (λ (n : ℕ). bs n s.place ≡ None) same h.missing in
     some_none b (sym known ∙ subst (λ (i : ℕ). bs entry i ≡ None) (only s.place there) missing)
 
--- the member of a list of one number is that number
+-- a member of a list of one number is that number
 pub lone_number : (n e : ℕ) → is_in e (n ∷ []) ≡ true → e ≡ n
 lone_number n e m = go (is_in-cases e n [] m)
   where
@@ -119,7 +119,7 @@ one_shut bs missing = record {
 symbols_differ : place 1 1 ≡ place 0 1 → ⊥
 symbols_differ e = let symbols : ◌≡◌ {A = ℕ} 1 0 = ap (λ (s : SymbolPlace). s.symbol) e in omega (arith, symbols)
 
-twice : StandsBefore (place 1 1) (place 1 1) → ⊥
+twice : PlaceIsBefore (place 1 1) (place 1 1) → ⊥
 twice (inl h) = omega (arith, h)
 twice (inr h) = let low = h.1 in omega (arith, low)
 

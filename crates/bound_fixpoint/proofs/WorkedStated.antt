@@ -1,4 +1,4 @@
--- Lists of facts that say what is known with the time of the first rule of the program that counts down, and others
+-- Lists of facts that state what is known with the time of the first rule of the program that counts down, and others
 -- that don't.
 use Rattle.std.proofs.Common.{◌≡◌, ℕ, List, [], ◌∷◌, length, refl, ap, arith}
 use Rattle.std.proofs.lemmas.List.Elements.{All-head}
@@ -11,9 +11,9 @@ use Rattle.bound_fixpoint.specs.Derivations.{number_in}
 use Rattle.bound_fixpoint.specs.Stated.{IsFactOf, AreFactsOf}
 use Rattle.bound_fixpoint.specs.WorkedDerivations.{once_derivation}
 use Rattle.bound_fixpoint.specs.WorkedStated.{once_known, SayOnce, BoundsAreSaidAsWorkedOut}
-use Rattle.bound_fixpoint.proofs.StandingLemmas.{all_have_lemmas, derivations_say}
+use Rattle.bound_fixpoint.proofs.JustifiedLemmas.{all_have_lemmas, derivations_say}
 use Rattle.bound_fixpoint.proofs.WorkedComponents.{rule_1}
-use Rattle.bound_fixpoint.proofs.WorkedStanding.{once_alone}
+use Rattle.bound_fixpoint.proofs.WorkedJustification.{once_alone}
 
 said : SayOnce ((Time 1 once_time ∷ []) ∷ []) (number_in (once_derivation ∷ []))
 said = derivations_say counting (once_derivation ∷ []) (all_have_lemmas counting (once_derivation ∷ []) once_alone).sound

@@ -14,7 +14,7 @@ use Rattle.rule_questions.specs.cert_rules.AcceptsPlain.{IsRule, IsUnreached}
 use Rattle.rule_questions.specs.cert_rules.WorkedSettings.{apart, enter, rule_over}
 use Rattle.bound_fixpoint.specs.Keys.{Bounds, key, time_key, at_key}
 use Rattle.bound_fixpoint.specs.Derivations.{Derivation, bounds_of}
-use Rattle.bound_fixpoint.specs.Standing.{is_left, Stands, IsBeginning, AllStand}
+use Rattle.bound_fixpoint.specs.Justification.{is_left, IsJustified, IsBeginning, AreJustified}
 use Rattle.bound_fixpoint.specs.Beginning.{unreached_derivation, never_derivation}
 
 pub rule_1 : IsRule apart.program 1
@@ -23,7 +23,7 @@ rule_1 = record { rule = enter; numbered = refl }
 pub rule_2 : IsRule apart.program 2
 rule_2 = record { rule = rule_over 2 2 0 (Variable 0) []; numbered = refl }
 
--- rules 1 and 2 are all there are
+-- the program has rules 1 and 2 alone
 pub no_rule_0 : IsRule apart.program 0 → ⊥
 no_rule_0 h = none h.rule h.numbered
   where
@@ -85,8 +85,8 @@ IsTime k = k.place ≡ 0
 abbrev IsZeroTime : Bounds → ResultVariable → Type 0
 IsZeroTime bs k = bs k.rule 0 ≡ Some (Constant 0)
 
-time_stands : Stands apart (known_with []) (unreached_derivation [] 2)
-time_stands = record {
+time_justified : IsJustified apart (known_with []) (unreached_derivation [] 2)
+time_justified = record {
   keys = refl;
   accepted = (
     record { times = All-nil IsTime; zero = All-nil (IsZeroTime (known_with [])) },
@@ -97,8 +97,8 @@ time_stands = record {
   bound = refl;
 }
 
-size_stands : Stands apart (known_with (unreached_derivation [] 2 ∷ [])) (never_derivation apart.program 2)
-size_stands = record {
+size_justified : IsJustified apart (known_with (unreached_derivation [] 2 ∷ [])) (never_derivation apart.program 2)
+size_justified = record {
   keys = refl;
   accepted = record { rule = rule_2; zero = refl };
   premises = refl;
@@ -107,20 +107,20 @@ size_stands = record {
   bound = refl;
 }
 
-pub stands : AllStand apart (unreached_derivation [] 2 ∷ never_derivation apart.program 2 ∷ [])
+pub stands : AreJustified apart (unreached_derivation [] 2 ∷ never_derivation apart.program 2 ∷ [])
 stands = record {
   each = (
     record {
       before = [];
       begins = record { between = []; same = refl };
-      stands = time_stands;
+      stands = time_justified;
       fresh = All-cons (IsNew (known_with [])) (time_key 2) [] refl (All-nil (IsNew (known_with [])));
     },
     (
       record {
         before = unreached_derivation [] 2 ∷ [];
         begins = record { between = []; same = refl };
-        stands = size_stands;
+        stands = size_justified;
         fresh = All-cons (IsNew (known_with (unreached_derivation [] 2 ∷ []))) (key 2 1) [] refl
             (All-nil (IsNew (known_with (unreached_derivation [] 2 ∷ []))));
       },
@@ -138,15 +138,15 @@ begins_nothing (f ∷ fs) h = absurd (some h.same)
     some e = cc
 
 -- the first derivation is justified over no bounds
-pub first_over : (s : Setting) (f : Derivation) (fs : List Derivation) → AllStand s (f ∷ fs) → Stands s (bounds_of s.program []) f
+pub first_over : (s : Setting) (f : Derivation) (fs : List Derivation) → AreJustified s (f ∷ fs) → IsJustified s (bounds_of s.program []) f
 first_over s f fs h =
-    subst (λ (before : List Derivation). Stands s (bounds_of s.program before) f)
+    subst (λ (before : List Derivation). IsJustified s (bounds_of s.program before) f)
     (begins_nothing h.each.0.before h.each.0.begins) h.each.0.stands
 
-pub not_without_time : AllStand apart (never_derivation apart.program 2 ∷ []) → ⊥
+pub not_without_time : AreJustified apart (never_derivation apart.program 2 ∷ []) → ⊥
 not_without_time h = none_some (Constant 0) (first_over apart (never_derivation apart.program 2) [] h).accepted.zero
 
-pub not_resting_on_others : AllStand apart (unreached_derivation (time_key 1 ∷ []) 2 ∷ []) → ⊥
+pub not_resting_on_others : AreJustified apart (unreached_derivation (time_key 1 ∷ []) 2 ∷ []) → ⊥
 not_resting_on_others h =
     none_some (Constant 0) (All-head (IsZeroTime (known_with [])) (time_key 1) []
     (first_over apart (unreached_derivation (time_key 1 ∷ []) 2) [] h).accepted.0.zero)

@@ -1,4 +1,4 @@
--- Finds that say of each of these rules that its time is 0.
+-- Derivations that state of each of these rules that its time is 0.
 use Rattle.std.proofs.Common.{◌≡◌, ℕ, suc, ◌==◌, true, false, List, [], ◌∷◌, ◌++◌, map, Some, None}
 use Rattle.std.proofs.Common.{refl, sym, ◌∙◌, ap, subst}
 use Rattle.std.proofs.lemmas.Bool.{or_left, or_right}
@@ -21,18 +21,18 @@ pub record IsZeroTime (t : ℕ) (f : Derivation) : Type 0 where
   pub keys : f.keys ≡ time_key t ∷ []
   pub bound : f.bound ≡ Constant 0
 
--- one such derivation for each of these rules, in order
+-- one derivation of the time 0 for each of these rules, in order
 abbrev pub AreZeroTimesOf : List ℕ → List Derivation → Type 0
 AreZeroTimesOf [] fs = fs ≡ []
 AreZeroTimesOf (t ∷ ts) fs = (f : Derivation) × (rest : List Derivation) × (fs ≡ f ∷ rest) × IsZeroTime t f × AreZeroTimesOf ts rest
 
--- the derivations of infeasible rules are such
+-- the derivations of infeasible rules state times of 0
 pub empties_zero : (q : Searches) (ts : List ℕ) (fs : List Derivation) → AreEmptyDerivations q ts fs → AreZeroTimesOf ts fs
 empties_zero q [] fs h = h
 empties_zero q (t ∷ ts) fs (m, shown, (rest, e, later)) =
     (empty_derivation t m, rest, e, record { keys = refl; bound = refl }, empties_zero q ts rest later)
 
--- the derivations of unreached rules are such
+-- the derivations of unreached rules state times of 0
 pub unreached_zero : (dead : List ResultVariable) (ts : List ℕ) → AreZeroTimesOf ts (map (unreached_derivation dead) ts)
 unreached_zero dead [] = refl
 unreached_zero dead (t ∷ ts) = (
@@ -43,14 +43,14 @@ unreached_zero dead (t ∷ ts) = (
   unreached_zero dead ts,
 )
 
--- such derivations for appended lists of rules
+-- derivations of zero times for appended lists of rules
 pub zero_times-append : (ts us : List ℕ) (fs gs : List Derivation) → AreZeroTimesOf ts fs → AreZeroTimesOf us gs
     → AreZeroTimesOf (ts ++ us) (fs ++ gs)
 zero_times-append [] us fs gs h k = subst (λ (xs : List Derivation). AreZeroTimesOf us (xs ++ gs)) (sym h) k
 zero_times-append (t ∷ ts) us fs gs (f, rest, e, is, later) k =
     (f, rest ++ gs, ap (λ (xs : List Derivation). xs ++ gs) e, is, zero_times-append ts us rest gs later k)
 
--- the rules of such derivations ascend, if the listed ones do
+-- the rules of derivations of zero times ascend, if the listed rules do
 pub zero_times_ascend : (n : ℕ) (ts : List ℕ) (fs : List Derivation) → AscendFrom n ts → AreZeroTimesOf ts fs
     → RulesAscend n fs
 zero_times_ascend n [] fs up h = subst (λ (xs : List Derivation). RulesAscend n xs) (sym h) tt
@@ -63,13 +63,13 @@ zero_times_ascend n (t ∷ ts) fs up (f, rest, e, is, later) =
       zero_times_ascend (suc t) ts rest up.1 later,
     )
 
--- a key of a time of a rule is that of the rule alone
+-- a key among the key of a rule's time is this key
 pub only_time : (u t i : ℕ) → has_key (time_key u ∷ []) t i ≡ true → (u ≡ t) × (0 ≡ i)
 only_time u t i m =
     either (has_key-cases (time_key u) [] t i m)
     (λ e. (ap (λ (k : ResultVariable). k.rule) e, ap (λ (k : ResultVariable). k.place) e)) (λ none. absurd (has_key-none t i none))
 
--- the time of each of these rules is found to be 0
+-- each of these rules has a derived time of 0
 pub zero_found : (ts : List ℕ) (fs : List Derivation) → AreZeroTimesOf ts fs → (t : ℕ) → is_in t ts ≡ true
     → bound_found fs t 0 ≡ Some (Constant 0)
 zero_found [] fs h t m = absurd (no_is_not_yes false refl m)
@@ -90,7 +90,7 @@ zero_found (u ∷ ts) fs (f, rest, e, is, later) t m =
             (subst (λ (ks : List ResultVariable). has_key ks t 0 ≡ true) (sym is.keys)
             (subst (λ (n : ℕ). has_key (time_key n ∷ []) t 0 ≡ true) same (has_key-first (time_key t) []))))
 
--- such derivations have no other key
+-- derivations of zero times derive no other key
 pub zero_missing : (ts : List ℕ) (fs : List Derivation) → AreZeroTimesOf ts fs → (t i : ℕ)
     → (is_in t ts ≡ true → 0 ≡ i → ⊥) → bound_found fs t i ≡ None
 zero_missing [] fs h t i other = subst (λ (xs : List Derivation). bound_found xs t i ≡ None) (sym h) refl
@@ -105,7 +105,7 @@ zero_missing (u ∷ ts) fs (f, rest, e, is, later) t i other =
         absurd (other (or_left (t == u) (is_in t ts) (subst (λ (n : ℕ). (t == n) ≡ true) (sym only.0) (same_number t)))
         only.1)
 
--- the keys of such derivations are unknown, if these times are missing
+-- the keys of derivations of zero times are unknown, if these times are missing
 pub zero_fresh : (b : Bounds) (ts : List ℕ) (fs : List Derivation) → AreZeroTimesOf ts fs
     → ((t : ℕ) → is_in t ts ≡ true → b t 0 ≡ None) → AllFresh b fs
 zero_fresh b [] fs h missing =

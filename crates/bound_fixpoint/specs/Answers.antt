@@ -10,7 +10,7 @@ use Rattle.rule_questions.specs.cert_rules.Gaps.{SymbolPlace}
 use Rattle.bound_fixpoint.specs.Keys.{Bounds, time_key, at_key, lacks, over}
 use Rattle.bound_fixpoint.specs.Derivations.{Node, RankBy, Derivation}
 use Rattle.bound_fixpoint.specs.Needs.{needs_of}
-use Rattle.bound_fixpoint.specs.Standing.{composed_bound}
+use Rattle.bound_fixpoint.specs.Justification.{composed_bound}
 use Rattle.bound_fixpoint.specs.Sets.{IsSetOfRule, AreShutOf}
 use Rattle.bound_fixpoint.specs.Searches.{Searches, Ranking, Ranked, Unranked, RankHitLimit, SizeOutcome, SizedBy, Unsized}
 use Rattle.bound_fixpoint.specs.Searches.{NoBound, OfTime, OfSize}
@@ -35,7 +35,7 @@ are_open b (k ∷ keys) = lacks (at_key b k) || are_open b keys
 abbrev pub is_open : Bounds → Target → Bool
 is_open b g = are_open b (keys_asked g)
 
--- a node with what it needs, and the bound that it composes; or why there is none
+-- a node with its premises, and the bound that it composes; or the reason why there is none
 pub data Answer : Type 0 where
   Found : Node → List ResultVariable → Bound → Answer
   Lacks : NoBound → Answer
@@ -45,8 +45,8 @@ abbrev pub derivations_by : Target → Answer → List Derivation
 derivations_by g (Found node premises bound) = record { keys = keys_asked g; node = node; premises = premises; bound = bound } ∷ []
 derivations_by g (Lacks why) = []
 
--- the answer for a node over bounds that composes this bound: the rewritten bound, if it is small; else none, as the
--- large bound has this many nodes
+-- the answer for a node over bounds that composes this bound: a derivation of the rewritten bound, if it is small; else
+-- that the bound is too large, with its number of nodes
 abbrev pub Composes : Setting → Bounds → Node → Bound → Answer → Type 0
 Composes s b node whole (Found n premises bound) = IsSmallComposed s.rewrite whole × (n ≡ node)
     × (premises ≡ needs_of s b node) × (bound ≡ s.rewrite whole)
@@ -54,15 +54,15 @@ Composes s b node whole (Lacks why) = (¬ (IsSmallComposed s.rewrite whole))
     × (why ≡ OfTime (TimeLarge (large_nodes s.rewrite whole)))
 
 -- the result of an answer to a rank question
-abbrev pub TellsRanking : Setting → Bounds → Ranking → Answer → Type 0
-TellsRanking s b (Ranked node) a = Composes s b (RankBy node) (rank_time s node (over b)) a
-TellsRanking s b (Unranked g) a = a ≡ Lacks (OfTime (NoFunction g))
-TellsRanking s b (RankHitLimit t) a = a ≡ Lacks (OfTime (TimeHitLimit t))
+abbrev pub AnswersRanking : Setting → Bounds → Ranking → Answer → Type 0
+AnswersRanking s b (Ranked node) a = Composes s b (RankBy node) (rank_time s node (over b)) a
+AnswersRanking s b (Unranked g) a = a ≡ Lacks (OfTime (NoFunction g))
+AnswersRanking s b (RankHitLimit t) a = a ≡ Lacks (OfTime (TimeHitLimit t))
 
 -- the answer to the outcome for a component
-abbrev pub TellsSizing : Setting → Bounds → SizeOutcome → Answer → Type 0
-TellsSizing s b (SizedBy node) a = a ≡ Found node (needs_of s b node) (composed_bound s b node)
-TellsSizing s b (Unsized why) a = a ≡ Lacks (OfSize why)
+abbrev pub AnswersSizing : Setting → Bounds → SizeOutcome → Answer → Type 0
+AnswersSizing s b (SizedBy node) a = a ≡ Found node (needs_of s b node) (composed_bound s b node)
+AnswersSizing s b (Unsized why) a = a ≡ Lacks (OfSize why)
 
 -- the rank question of rule t over bounds, and its answer
 pub record AnsweredQuestion (q : Searches) (s : Setting) (b : Bounds) (t : ℕ) : Type 0 where
@@ -74,17 +74,17 @@ pub record AnsweredQuestion (q : Searches) (s : Setting) (b : Bounds) (t : ℕ) 
   pub answered : q.Ranks set t shut answer
 
 -- rule t was queried over bounds, and this is the result on its time
-pub record TellsTime (q : Searches) (s : Setting) (b : Bounds) (t : ℕ) (a : Answer) : Type 0 where
+pub record AnswersTime (q : Searches) (s : Setting) (b : Bounds) (t : ℕ) (a : Answer) : Type 0 where
   pub asked : AnsweredQuestion q s b t
-  pub tells : TellsRanking s b asked.answer a
+  pub is_answer : AnswersRanking s b asked.answer a
 
 -- places were queried over bounds, and this is the result on their size
-pub record TellsSize (q : Searches) (s : Setting) (b : Bounds) (keys : List ResultVariable) (a : Answer) : Type 0 where
+pub record AnswersSize (q : Searches) (s : Setting) (b : Bounds) (keys : List ResultVariable) (a : Answer) : Type 0 where
   pub answer : SizeOutcome
   pub answered : q.Sizes b keys answer
-  pub tells : TellsSizing s b answer a
+  pub is_answer : AnswersSizing s b answer a
 
 -- the result of the searches on a target, over bounds
-abbrev pub Tells : Searches → Setting → Bounds → Target → Answer → Type 0
-Tells q s b (TimeOf t) a = TellsTime q s b t a
-Tells q s b (SizesOf keys) a = TellsSize q s b keys a
+abbrev pub AnswersTarget : Searches → Setting → Bounds → Target → Answer → Type 0
+AnswersTarget q s b (TimeOf t) a = AnswersTime q s b t a
+AnswersTarget q s b (SizesOf keys) a = AnswersSize q s b keys a

@@ -11,8 +11,8 @@ use Rattle.bound_fixpoint.specs.Derivations.{EmptyBy, UnreachedBy, NeverBy, Deri
 use Rattle.bound_fixpoint.specs.Searches.{Searches, NoPoint}
 use Rattle.bound_fixpoint.specs.Components.{IsEmpty}
 
--- time 0 of an empty rule, and of one that is unreached by other rules than these; and size 0 at each place after a
--- rule whose time is 0
+-- the derivation of the time 0 of an infeasible rule; that of a rule that no rules other than these reach; and that of
+-- the sizes 0 after a rule whose time is 0
 abbrev pub empty_derivation : ℕ → List ℕ → Derivation
 empty_derivation t multipliers = record {
   keys = time_key t ∷ [];
@@ -48,7 +48,7 @@ abbrev pub has_places : Program → Option ℕ → Bool
 has_places p None = false
 has_places p (Some a) = nat_lt 0 (arity_of p a)
 
--- whether a rule isn't empty and is unreached; and whether it never runs
+-- whether a rule is feasible and unreached; and whether it never runs
 abbrev pub is_cut : (ℕ → Bool) → (ℕ → Bool) → ℕ → Bool
 is_cut is_empty is_unreached t = not (is_empty t) && is_unreached t
 

@@ -33,7 +33,7 @@ abbrev pub IsOneOf : List (List ResultVariable) → List ResultVariable → Type
 IsOneOf [] members = ⊥
 IsOneOf (c ∷ cs) members = (c ≡ members) ⊎ IsOneOf cs members
 
--- no place is a member of two
+-- no place is a member of two components
 abbrev pub AreApart : List (List ResultVariable) → Type 0
 AreApart [] = ⊤
 AreApart (c ∷ cs) = ((t i : ℕ) → has_key c t i ≡ true → ¬ (IsCovered cs t i)) × AreApart cs

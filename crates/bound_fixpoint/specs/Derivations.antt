@@ -40,7 +40,7 @@ keys_of p (RankBy node) = time_key node.rule ∷ []
 keys_of p (SpreadBy m) = m.result_variable ∷ []
 keys_of p (CycleBy members) = map (λ m. m.result_variable) members
 
--- the bound of a key that was found: that of the first derivation which has the key
+-- the derived bound of a key: that of the first derivation with the key
 abbrev pub bound_found : List Derivation → Bounds
 bound_found [] t i = None
 bound_found (f ∷ fs) t i = cond (has_key f.keys t i) (Some f.bound) (bound_found fs t i)

@@ -60,7 +60,7 @@ is_untimed b t = lacks (b t 0)
 abbrev pub rule_numbers : Program → List ℕ
 rule_numbers p = range_with_len 1 (length p.rules)
 
--- the number is that of a place after rule t: of a place of its target, from 1
+-- i is the number of a place of the target of rule t, from 1
 pub record IsPlace (p : Program) (t i : ℕ) : Type 0 where
   pub symbol : ℕ
   pub target : target_of p t ≡ Some symbol

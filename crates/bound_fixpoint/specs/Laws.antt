@@ -16,7 +16,7 @@ use Rattle.rule_questions.specs.cert_rules.Setting.{Setting, IsFaithful}
 use Rattle.bound_fixpoint.specs.Keys.{Bounds, IsPlace, place_fact, fact_at, at_key, has_key, lacks, rule_numbers}
 use Rattle.bound_fixpoint.specs.Derivations.{Node, Derivation, keys_of, bounds_of, number_in, facts_of_derivation}
 use Rattle.bound_fixpoint.specs.Needs.{lemma_by, lemmas_of}
-use Rattle.bound_fixpoint.specs.Standing.{composed_bound, AcceptsOver, ArePremises, AllStand}
+use Rattle.bound_fixpoint.specs.Justification.{composed_bound, AcceptsOver, ArePremises, AreJustified}
 use Rattle.bound_fixpoint.specs.Stated.{SayBounds}
 use Rattle.bound_fixpoint.specs.Searches.{Answers, searches_of, NoBound}
 use Rattle.bound_fixpoint.specs.Components.{AreApart, AreComponentsOf, IsCovered, IsOneOf}
@@ -25,14 +25,14 @@ use Rattle.bound_fixpoint.specs.Rounds.{IsRound, IsMade, IsClosed, IsLast, IsNoB
 use Rattle.bound_fixpoint.specs.Right.{AreRight}
 
 -- the lemmas of justified derivations are accepted, and each states the facts of its derivation
-pub record StandingDerivationsHaveLemmas : Type 0 where
-  pub accepted : (s : Setting) (fs : List Derivation) → AllStand s fs → AcceptsLemmas s (lemmas_of fs)
-  pub stated : (s : Setting) (fs : List Derivation) → AllStand s fs
+pub record JustifiedDerivationsHaveLemmas : Type 0 where
+  pub accepted : (s : Setting) (fs : List Derivation) → AreJustified s fs → AcceptsLemmas s (lemmas_of fs)
+  pub stated : (s : Setting) (fs : List Derivation) → AreJustified s fs
       → facts_of_lemmas s (lemmas_of fs) ≡ map facts_of_derivation fs
 
--- after all lists of lemmas that state only bounds of a table, and by these numbers all that is known: the lemma of a
--- node that is accepted over what is known, with its premises, all of which are known, is accepted; and it states the
--- bound that the node composes, for each of its keys
+-- take any lists of lemmas that state only bounds of a table, and, by these numbers, all known bounds. After them the
+-- lemma of a node that is accepted over the known bounds, with its premises, all of which are known, is accepted; and
+-- it states the bound that the node composes, for each of its keys
 pub record NodesAreAccepted : Type 0 where
   pub accepted : (s : Setting) (past : List (List Fact)) (number : ℕ → ℕ → ℕ) (b all : Bounds)
       → SayBounds s past number b all → (node : Node) (premises : List ResultVariable) → AcceptsOver s b node premises
@@ -46,23 +46,23 @@ pub record NodesAreAccepted : Type 0 where
 -- a derived bound is a fact of the lemma with its key's number; only one derivation states the bound of a key, which
 -- is the known one; and the lemmas of justified derivations state all known bounds
 pub record DerivationsAreNumbered : Type 0 where
-  pub each : (s : Setting) (fs : List Derivation) → AllStand s fs → (t i : ℕ) (b : Bound) → IsRule s.program t
+  pub each : (s : Setting) (fs : List Derivation) → AreJustified s fs → (t i : ℕ) (b : Bound) → IsRule s.program t
       → bounds_of s.program fs t i ≡ Some b
       → Contains (facts_of_lemma (facts_of_lemmas s (lemmas_of fs)) (number_in fs t i)) (place_fact t i b)
-  pub alone : (s : Setting) (fs : List Derivation) → AllStand s fs → (f : Derivation) → Contains fs f → (t i : ℕ)
+  pub alone : (s : Setting) (fs : List Derivation) → AreJustified s fs → (f : Derivation) → Contains fs f → (t i : ℕ)
       → has_key f.keys t i ≡ true → bounds_of s.program fs t i ≡ Some f.bound
-  pub say : (s : Setting) (fs : List Derivation) → AllStand s fs
+  pub say : (s : Setting) (fs : List Derivation) → AreJustified s fs
       → SayBounds s (facts_of_lemmas s (lemmas_of fs)) (number_in fs) (bounds_of s.program fs) (bounds_of s.program fs)
 
 -- every bound that justified derivations give holds on all runs
-pub record StandingDerivationsHold : Type 0 where
-  pub each : (s : Setting) → IsFaithful s → (fs : List Derivation) → AllStand s fs → (t i : ℕ) (b : Bound)
+pub record JustifiedDerivationsHold : Type 0 where
+  pub each : (s : Setting) → IsFaithful s → (fs : List Derivation) → AreJustified s fs → (t i : ℕ) (b : Bound)
       → bounds_of s.program fs t i ≡ Some b → Holds s.program (place_fact t i b)
 
 -- the derivations of rounds are justified, if the answers of the searches are right
-pub record MadeDerivationsStand : Type 0 where
+pub record MadeDerivationsAreJustified : Type 0 where
   pub each : (a : Answers) (s : Setting) → AreRight (searches_of a) s → (fs : List Derivation)
-      → IsMade (searches_of a) s fs → AllStand s fs
+      → IsMade (searches_of a) s fs → AreJustified s fs
 
 -- how many bounds of a rule's places are missing
 abbrev pub unsized : Program → Bounds → ℕ → ℕ

@@ -2,9 +2,9 @@
 pub mod Keys
 pub mod Derivations
 pub mod Needs
-pub mod Standing
+pub mod Justification
 pub mod Stated
--- the sets that bounds leave to the searches, the answers of the searches, and their results
+-- the sets and the shut places of queries, the answers of the searches, and their results
 pub mod Sets
 pub mod Searches
 pub mod Answers
@@ -20,7 +20,7 @@ pub mod Laws
 -- worked values
 pub mod WorkedDerivations
 pub mod WorkedSets
-pub mod WorkedStanding
+pub mod WorkedJustification
 pub mod WorkedStated
 pub mod WorkedRounds
 pub mod WorkedFirst

@@ -127,7 +127,8 @@ IsReasonFor (SizeNonlinear m) r = r ≡ reasons.Nonlinear m.rule m.place
 IsReasonFor (SizeUntimed t) r = r ≡ MissingTime t
 IsReasonFor (SizeLarge n) r = r ≡ Large n
 
--- the node of the only member, which doesn't loop, fails at this check first, and so does the node of all, which do
+-- the first check that fails is this one: a check of the spread node, if the only member doesn't loop, and of the loop
+-- node of all members, if they do
 pub record FailsAlone (s : Setting) (b : Bounds) (keys : List ResultVariable) (r : Reason) : Type 0 where
   pub member : Member
   pub only : keys ≡ member.result_variable ∷ []

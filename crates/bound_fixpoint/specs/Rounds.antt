@@ -6,7 +6,7 @@ use Rattle.rule_questions.specs.cert_rules.Setting.{Setting}
 use Rattle.bound_fixpoint.specs.Keys.{has_key, rule_numbers}
 use Rattle.bound_fixpoint.specs.Derivations.{Derivation, bounds_of}
 use Rattle.bound_fixpoint.specs.Searches.{Searches, NoBound}
-use Rattle.bound_fixpoint.specs.Answers.{Target, TimeOf, SizesOf, is_open, Answer, Lacks, derivations_by, Tells}
+use Rattle.bound_fixpoint.specs.Answers.{Target, TimeOf, SizesOf, is_open, Answer, Lacks, derivations_by, AnswersTarget}
 use Rattle.bound_fixpoint.specs.Components.{AreComponentsOf, IsOneOf}
 use Rattle.bound_fixpoint.specs.Beginning.{AreFirst}
 
@@ -15,7 +15,7 @@ use Rattle.bound_fixpoint.specs.Beginning.{AreFirst}
 pub record Tries (q : Searches) (s : Setting) (fs : List Derivation) (g : Target) (more : List Derivation) : Type 0 where
   pub known : is_open (bounds_of s.program fs) g ≡ false → more ≡ []
   pub tried : is_open (bounds_of s.program fs) g ≡ true
-      → (a : Answer) × Tells q s (bounds_of s.program fs) g a × (more ≡ derivations_by g a)
+      → (a : Answer) × AnswersTarget q s (bounds_of s.program fs) g a × (more ≡ derivations_by g a)
 
 -- the manner of querying several targets: all over what was known at first, or each over what is known so far
 pub data Manner : Type 0 where
@@ -33,8 +33,8 @@ TriesAll q s manner fs [] more = more ≡ []
 TriesAll q s manner fs (g ∷ gs) more = (first : List Derivation) × Tries q s fs g first
     × ((rest : List Derivation) × (more ≡ first ++ rest) × TriesAll q s manner (known_next manner fs first) gs rest)
 
--- one round: the rules are tried over what was found before it, and then the components of places, in their order, each
--- with the new times and the sizes found so far
+-- one round: the rules are queried over the derivations before it, and then the components of places, in their order,
+-- each over these with the new times and the sizes so far
 pub record IsRound (q : Searches) (s : Setting) (fs more : List Derivation) : Type 0 where
   pub times : List Derivation
   pub timed : TriesAll q s Together fs (map TimeOf (rule_numbers s.program)) times
@@ -72,4 +72,4 @@ pub record IsNoBound (q : Searches) (s : Setting) (fs : List Derivation) (t i : 
   pub missing : bounds_of s.program fs t i ≡ None
   pub target : Target
   pub asked : IsAskedFor q s t i target
-  pub tells : Tells q s (bounds_of s.program fs) target (Lacks why)
+  pub is_answer : AnswersTarget q s (bounds_of s.program fs) target (Lacks why)

@@ -22,13 +22,13 @@ pub record IsShut (p : Program) (b : Bounds) (set : List ℕ) (s : SymbolPlace) 
   pub missing : b entry s.place ≡ None
 
 -- one place comes before another: its symbol is less, or it is the same and the place is less
-abbrev pub StandsBefore : SymbolPlace → SymbolPlace → Type 0
-StandsBefore s q = (s.symbol < q.symbol) ⊎ ((s.symbol ≡ q.symbol) × (s.place < q.place))
+abbrev pub PlaceIsBefore : SymbolPlace → SymbolPlace → Type 0
+PlaceIsBefore s q = (s.symbol < q.symbol) ⊎ ((s.symbol ≡ q.symbol) × (s.place < q.place))
 
 abbrev pub ArePlacesInOrder : List SymbolPlace → Type 0
 ArePlacesInOrder [] = ⊤
 ArePlacesInOrder (s ∷ []) = ⊤
-ArePlacesInOrder (s ∷ q ∷ rest) = StandsBefore s q × ArePlacesInOrder (q ∷ rest)
+ArePlacesInOrder (s ∷ q ∷ rest) = PlaceIsBefore s q × ArePlacesInOrder (q ∷ rest)
 
 -- the shut places of a set, in order
 pub record AreShutOf (p : Program) (b : Bounds) (set : List ℕ) (shut : List SymbolPlace) : Type 0 where

@@ -14,18 +14,17 @@ IsFactOf b (Time t c) = b t 0 ≡ Some c
 IsFactOf b (Size t i c) = size_by b t i ≡ Some c
 IsFactOf b (Cost t c) = ⊥
 
--- all these facts are
+-- all these facts are those of known bounds
 abbrev pub AreFactsOf : Bounds → List Fact → Type 0
 AreFactsOf b facts = All (IsFactOf b) facts
 
--- by these numbers a bound is stated: it is one of the virtual entry, whose number is 0, or one of the lemma with its
--- number
+-- the bound of a key is stated by the lemma with the key's number; number 0 is that of the virtual entry
 abbrev pub IsStatedBy : Setting → List (List Fact) → (ℕ → ℕ → ℕ) → ℕ → ℕ → Bound → Type 0
 IsStatedBy s past number t i c = ((number t i ≡ 0) × Contains (start_facts s.program) (place_fact t i c))
     ⊎ Contains (facts_of_lemma past (number t i)) (place_fact t i c)
 
--- lemmas and the virtual entry state bounds that are known, and by these numbers all of some, which are the same; and
--- the lemma of a rule's time states nothing else
+-- the lemmas and the virtual entry state only bounds of a second table, which has all known bounds; each known bound is
+-- stated by its number; and the lemma of a rule's time states nothing else
 pub record SayBounds (s : Setting) (past : List (List Fact)) (number : ℕ → ℕ → ℕ) (b all : Bounds) : Type 0 where
   pub keeps : (t i : ℕ) (c : Bound) → b t i ≡ Some c → all t i ≡ Some c
   pub are : All (AreFactsOf all) past

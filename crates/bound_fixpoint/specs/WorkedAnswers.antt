@@ -9,7 +9,7 @@ use Rattle.bound_fixpoint.specs.Keys.{Bounds, key, time_key}
 use Rattle.bound_fixpoint.specs.Derivations.{RankBy, SpreadBy, CycleBy, bounds_of}
 use Rattle.bound_fixpoint.specs.Searches.{SizeOutcome, SizedBy, Unsized, OfTime, OfSize}
 use Rattle.outcome.specs.Reports.{TimeLarge, SizeMissing, SizeUntimed}
-use Rattle.bound_fixpoint.specs.Answers.{TimeOf, SizesOf, is_open, Found, Lacks, Composes, TellsSizing}
+use Rattle.bound_fixpoint.specs.Answers.{TimeOf, SizesOf, is_open, Found, Lacks, Composes, AnswersSizing}
 use Rattle.bound_fixpoint.specs.Right.{IsRightSizing}
 use Rattle.bound_fixpoint.specs.Laws.{missing, AreUniform}
 use Rattle.bound_fixpoint.specs.WorkedDerivations.{seven}
@@ -36,15 +36,15 @@ pub record AnswersAreWorkedOut : Type 0 where
       (Found (RankBy once_node) (time_key 0 ∷ []) (towering.rewrite once_time)))
   pub not_other_count :
       ¬ (Composes towering nothing_known (RankBy once_node) once_time (Lacks (OfTime (TimeLarge 200))))
-  pub sized : TellsSizing counting once_known (SizedBy (SpreadBy entered_member))
+  pub sized : AnswersSizing counting once_known (SizedBy (SpreadBy entered_member))
       (Found (SpreadBy entered_member) (key 0 1 ∷ key 0 1 ∷ []) entered_size)
-  pub not_sized_so : ¬ (TellsSizing counting once_known (SizedBy (SpreadBy entered_member))
+  pub not_sized_so : ¬ (AnswersSizing counting once_known (SizedBy (SpreadBy entered_member))
       (Found (SpreadBy entered_member) (key 0 1 ∷ key 0 1 ∷ []) (Constant 7)))
-  pub unsized : TellsSizing counting once_known (Unsized (SizeUntimed 1)) (Lacks (OfSize (SizeUntimed 1)))
-  pub not_for_another : ¬ (TellsSizing counting once_known (Unsized (SizeUntimed 1)) (Lacks (OfSize (SizeUntimed 2))))
+  pub unsized : AnswersSizing counting once_known (Unsized (SizeUntimed 1)) (Lacks (OfSize (SizeUntimed 1)))
+  pub not_for_another : ¬ (AnswersSizing counting once_known (Unsized (SizeUntimed 1)) (Lacks (OfSize (SizeUntimed 2))))
 
--- a node is right of the places whose size it states, where it is accepted over what is known, and a cycle only where
--- they loop; the first size that is missing for it is the right reason. Of no places no answer is right
+-- a node is a right answer for the places whose size it states if it is accepted over the known bounds, and a loop node
+-- only if the places loop; the first size that is missing for it is the right reason. For no places no answer is right
 pub record RightSizesAreWorkedOut : Type 0 where
   pub size : IsRightSizing counting nothing_known (key 1 1 ∷ []) (SizedBy (SpreadBy entered_member))
   pub loop : IsRightSizing counting entered_known (key 2 1 ∷ []) (SizedBy (CycleBy (looped_member ∷ [])))

@@ -16,11 +16,11 @@ use Rattle.bound_fixpoint.specs.Derivations.{Derivation}
 use Rattle.bound_fixpoint.specs.Needs.{lemmas_of}
 use Rattle.bound_fixpoint.specs.Searches.{Answers, Emptiness, NoPoint, HasPoint, searches_of}
 use Rattle.bound_fixpoint.specs.Beginning.{empty_derivation, unreached_derivation, never_derivation, AreFirst}
-use Rattle.bound_fixpoint.specs.Standing.{AllStand}
+use Rattle.bound_fixpoint.specs.Justification.{AreJustified}
 use Rattle.bound_fixpoint.specs.WorkedDerivations.{once_derivation}
 use Rattle.bound_fixpoint.specs.WorkedFirst.{all_hits_limit, cut_off, no_answers}
 
--- rules 1 and 2 are found empty, or only rule 2, and no others are
+-- rules 1 and 2 are infeasible, or only rule 2, and no other rule is
 abbrev pub first_two_empty : ℕ → Emptiness
 first_two_empty zero = HasPoint (record { parts = []; den = 1 })
 first_two_empty (suc zero) = NoPoint []
@@ -118,10 +118,10 @@ pub record BeginningsAreWorkedOut : Type 0 where
 -- sizes after it; after a rule whose time isn't 0 they aren't. A rule that is unreached without an infeasible one is
 -- justified after that one, which is its premise
 pub record EmptyDerivationsAreWorkedOut : Type 0 where
-  pub stand : AllStand stuck (empty_derivation 2 (1 ∷ 1 ∷ []) ∷ never_derivation stuck.program 2 ∷ [])
-  pub not_shown : ¬ (AllStand stuck (empty_derivation 2 (1 ∷ 0 ∷ []) ∷ []))
-  pub not_running : ¬ (AllStand counting (once_derivation ∷ never_derivation counting.program 1 ∷ []))
-  pub on_empty : AllStand cut_short (empty_derivation 1 (1 ∷ 1 ∷ []) ∷ unreached_derivation (time_key 1 ∷ []) 2 ∷ [])
+  pub stand : AreJustified stuck (empty_derivation 2 (1 ∷ 1 ∷ []) ∷ never_derivation stuck.program 2 ∷ [])
+  pub not_shown : ¬ (AreJustified stuck (empty_derivation 2 (1 ∷ 0 ∷ []) ∷ []))
+  pub not_running : ¬ (AreJustified counting (once_derivation ∷ never_derivation counting.program 1 ∷ []))
+  pub on_empty : AreJustified cut_short (empty_derivation 1 (1 ∷ 1 ∷ []) ∷ unreached_derivation (time_key 1 ∷ []) 2 ∷ [])
   pub not_before_empty :
-      ¬ (AllStand cut_short (unreached_derivation (time_key 1 ∷ []) 2 ∷ empty_derivation 1 (1 ∷ 1 ∷ []) ∷ []))
-  pub not_on_nothing : ¬ (AllStand cut_short (empty_derivation 1 (1 ∷ 1 ∷ []) ∷ unreached_derivation [] 2 ∷ []))
+      ¬ (AreJustified cut_short (unreached_derivation (time_key 1 ∷ []) 2 ∷ empty_derivation 1 (1 ∷ 1 ∷ []) ∷ []))
+  pub not_on_nothing : ¬ (AreJustified cut_short (empty_derivation 1 (1 ∷ 1 ∷ []) ∷ unreached_derivation [] 2 ∷ []))

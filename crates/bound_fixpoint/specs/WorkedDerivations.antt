@@ -1,5 +1,5 @@
--- Finds, and what is read off them, worked out by hand of the program that counts down: k(A) -> l(A), and l(A) -> l(A -
--- 1) where A >= 1.
+-- Derivations, and the bounds and numbers that are read off them, worked out by hand for the program that counts down:
+-- k(A) -> l(A), and l(A) -> l(A - 1) where A >= 1.
 use Rattle.std.specs.Prelude.{◌≡◌, ℕ, true, false, List, [], ◌∷◌, pos, Some, None}
 use Rattle.rule_questions.specs.model.Bounds.{Bound, Constant, Input, SumOf, ProductOf}
 use Rattle.rule_questions.specs.model.Facts.{Time, Size}
@@ -17,7 +17,8 @@ use Rattle.bound_fixpoint.specs.Derivations.{bounds_of, number_in, facts_of_deri
 use Rattle.bound_fixpoint.specs.Needs.{rank_premises, spread_premises, cycle_premises, uses_from, lemmas_of}
 use Rattle.bound_fixpoint.specs.Beginning.{empty_derivation, unreached_derivation, never_derivation}
 
--- rule 1 runs once; the size after it, which doesn't loop; and that after rule 2, which does
+-- the derivations of the time of rule 1, which runs once; of the size after it, which doesn't loop; and of the size
+-- after rule 2, which does
 abbrev pub once_derivation : Derivation
 once_derivation = record {
   keys = time_key 1 ∷ [];
@@ -42,7 +43,7 @@ looped_derivation = record {
   bound = looped_size;
 }
 
--- rule 2 over itself alone: for each time that rule 1 runs, as often as the size after it says
+-- the time of rule 2, ranked over itself alone: for each use of rule 1, the size after it
 abbrev pub alone_time : Bound
 alone_time = SumOf (one_part (ProductOf (both_parts once_time (one_times entered_size))))
 

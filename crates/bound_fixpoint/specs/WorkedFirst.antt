@@ -23,8 +23,8 @@ use Rattle.bound_fixpoint.specs.Right.{AreRight, IsRightRanking, IsFirstLimitHit
 abbrev pub limit_hit : Question → LimitHit
 limit_hit question = record { question = question; cause = causes.Scale }
 
--- each rule has a point; the ranking question of a rule hits a limit of its own, and the size of places that of the
--- first of them
+-- each rule is feasible; the ranking question of a rule hits a limit of its own, and the query for the size of places
+-- hits that of the first place
 abbrev pub hits_limit_at : List ResultVariable → SizeOutcome
 hits_limit_at [] = Unsized (SizeHitLimit (limit_hit (asked.Local 0 0)))
 hits_limit_at (m ∷ keys) = Unsized (SizeHitLimit (limit_hit (asked.Local m.rule m.place)))
@@ -37,7 +37,7 @@ hits_limit_as other = record {
   size = λ b keys. hits_limit_at keys;
 }
 
--- each as its own
+-- the answers in which each limit hit is that of the rule itself
 abbrev pub all_hits_limit : Answers
 all_hits_limit = hits_limit_as (λ t. t)
 
@@ -45,7 +45,7 @@ all_hits_limit = hits_limit_as (λ t. t)
 abbrev pub two_derivations : List Derivation
 two_derivations = unreached_derivation [] 2 ∷ never_derivation apart.program 2 ∷ []
 
--- rule 1 is found empty, and no other is
+-- rule 1 is infeasible, and no other rule is
 abbrev pub one_empty : ℕ → Emptiness
 one_empty zero = HasPoint (record { parts = []; den = 1 })
 one_empty (suc zero) = NoPoint []

@@ -9,7 +9,7 @@ use Rattle.rule_questions.specs.cert_rules.Worked.{once_node, entered_member, lo
 use Rattle.bound_fixpoint.specs.Keys.{key}
 use Rattle.bound_fixpoint.specs.Derivations.{Node, CycleBy, Derivation}
 use Rattle.bound_fixpoint.specs.Needs.{needs_of}
-use Rattle.bound_fixpoint.specs.Standing.{composed_bound}
+use Rattle.bound_fixpoint.specs.Justification.{composed_bound}
 use Rattle.bound_fixpoint.specs.Searches.{Answers, HasPoint, Ranking, Ranked, SizedBy, OfTime, searches_of}
 use Rattle.outcome.specs.Reports.{TimeLarge}
 use Rattle.bound_fixpoint.specs.Rounds.{IsRound, IsLast, IsNoBound}

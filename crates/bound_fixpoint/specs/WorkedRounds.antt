@@ -13,7 +13,7 @@ use Rattle.bound_fixpoint.specs.Components.{AreComponentsOf}
 use Rattle.bound_fixpoint.specs.Beginning.{AreFirst}
 use Rattle.bound_fixpoint.specs.Rounds.{IsRound, IsMade, IsClosed, IsLast, IsNoBound}
 use Rattle.bound_fixpoint.specs.WorkedDerivations.{once_derivation, entered_derivation, looped_derivation, alone_time}
-use Rattle.bound_fixpoint.specs.WorkedStanding.{ranked_derivation}
+use Rattle.bound_fixpoint.specs.WorkedJustification.{ranked_derivation}
 
 -- the value of the argument ranks a rule over a set
 abbrev pub value_ranks : List ℕ → ℕ → RankNode
@@ -65,7 +65,7 @@ abbrev pub size_in_turn : Bounds → List ResultVariable → SizeOutcome
 size_in_turn b [] = Unsized (SizeUntimed 1)
 size_in_turn b (m ∷ keys) = cond (m.rule == 1) (after_first b) (after_second b)
 
--- each rule has a point; rules are ranked so, and these are the components
+-- answers by which each rule is feasible, rules are ranked in this way, and these are the components
 abbrev pub answers_with : (List ℕ → ℕ → List SymbolPlace → Ranking) → List (List ResultVariable) → Answers
 answers_with rank components = record {
   empty = λ t. HasPoint (record { parts = []; den = 1 });
@@ -83,7 +83,8 @@ value_turned = answers_with ranks_open turned
 abbrev pub nothing_ranks : Answers
 nothing_ranks = answers_with never_ranks alone
 
--- rule 1 runs as often as the start argument says, by the value over itself, and so does rule 2, by that over both
+-- the times of rule 1, by the value over itself, and of rule 2, by the value over both rules: each is the start
+-- argument
 abbrev pub first_time : Derivation
 first_time = ranked_derivation (time_key 1 ∷ []) (value_ranks (1 ∷ []) 1) (time_key 0 ∷ key 0 1 ∷ []) down_time
 

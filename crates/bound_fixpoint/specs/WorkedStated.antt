@@ -14,12 +14,12 @@ use Rattle.bound_fixpoint.specs.WorkedDerivations.{once_derivation}
 abbrev pub once_known : Bounds
 once_known = bounds_of counting.program (once_derivation ∷ [])
 
--- these lemmas say it, by these numbers
+-- these lemmas state the bounds that are known with the time of the first rule, by these numbers
 abbrev pub SayOnce : List (List Fact) → (ℕ → ℕ → ℕ) → Type 0
 SayOnce past number = SayBounds counting past number once_known once_known
 
--- one lemma with the time states it. No lemma doesn't, nor one with another time, nor one with the time twice, nor one
--- with the number of the virtual entry
+-- one lemma with the time states these bounds. No lemmas don't, nor does one with another time, nor one with the time
+-- twice, nor one with the number of the virtual entry
 pub record BoundsAreSaidAsWorkedOut : Type 0 where
   pub said : SayOnce ((Time 1 once_time ∷ []) ∷ []) (number_in (once_derivation ∷ []))
   pub not_by_none : ¬ (SayOnce [] (number_in (once_derivation ∷ [])))

@@ -3,18 +3,18 @@
 //! derivations (a bound with the proof node that shows it), from which the known bounds and the lemmas are read off.
 //!
 //! Builds on `outcome` and `rule_questions`. Definitions are in `specs/`. Main guarantee: justified derivations have
-//! accepted lemmas and hold on all runs (`standing_derivations_have_lemmas`, `standing_derivations_hold`), and the
-//! derivations of the rounds are justified (`made_derivations_stand`). The functions here have no code: the contract
-//! of each is a law.
+//! accepted lemmas and hold on all runs (`justified_derivations_have_lemmas`, `justified_derivations_hold`), and the
+//! derivations of the rounds are justified (`made_derivations_are_justified`). The functions here have no code: the
+//! contract of each is a law.
 #![tactic(auto)]
 
-ghost use Rattle.bound_fixpoint.specs.Laws.{StandingDerivationsHaveLemmas, DerivationsAreNumbered, StandingDerivationsHold, MadeDerivationsStand};
+ghost use Rattle.bound_fixpoint.specs.Laws.{JustifiedDerivationsHaveLemmas, DerivationsAreNumbered, JustifiedDerivationsHold, MadeDerivationsAreJustified};
 ghost use Rattle.bound_fixpoint.specs.Laws.{RoundsEnd, ComponentsAreUniform, LastDerivationsAreOne, LastDerivationsExist};
 ghost use Rattle.bound_fixpoint.specs.Laws.{NodesAreAccepted, MissingBoundsHaveReasons};
 ghost use Rattle.bound_fixpoint.specs.WorkedDerivations.{DerivationsAreReadOff, KeysAreWorkedOut, PremisesAreWorkedOut};
 ghost use Rattle.bound_fixpoint.specs.WorkedDerivations.{LemmasAreWorkedOut};
 ghost use Rattle.bound_fixpoint.specs.WorkedSets.{SetsOfCounting, ShutOfCounting};
-ghost use Rattle.bound_fixpoint.specs.WorkedStanding.{StandingIsWorkedOut};
+ghost use Rattle.bound_fixpoint.specs.WorkedJustification.{JustificationIsWorkedOut};
 ghost use Rattle.bound_fixpoint.specs.WorkedStated.{BoundsAreSaidAsWorkedOut};
 ghost use Rattle.bound_fixpoint.specs.WorkedFirst.{FirstDerivationsAreWorkedOut, RightAnswersAreWorkedOut};
 ghost use Rattle.bound_fixpoint.specs.WorkedFirst.{RightRankingsAreWorkedOut};
@@ -31,8 +31,8 @@ pub fn nodes_are_accepted()
 {}
 
 /// The lemmas of justified derivations are accepted, and each states the facts of its derivation.
-pub fn standing_derivations_have_lemmas()
-    ensures { StandingDerivationsHaveLemmas }
+pub fn justified_derivations_have_lemmas()
+    ensures { JustifiedDerivationsHaveLemmas }
 {}
 
 /// A derived bound is a fact of the lemma with its key's number, and only one derivation states it; these lemmas state
@@ -42,13 +42,13 @@ pub fn derivations_are_numbered()
 {}
 
 /// Each bound that justified derivations give holds on all runs.
-pub fn standing_derivations_hold()
-    ensures { StandingDerivationsHold }
+pub fn justified_derivations_hold()
+    ensures { JustifiedDerivationsHold }
 {}
 
 /// The derivations of rounds are justified, if the answers of the searches are right.
-pub fn made_derivations_stand()
-    ensures { MadeDerivationsStand }
+pub fn made_derivations_are_justified()
+    ensures { MadeDerivationsAreJustified }
 {}
 
 /// Each round derives a bound that was missing, or nothing.
@@ -97,8 +97,8 @@ pub fn sets_are_as_worked_out()
 
 /// Worked values of which derivations are justified, in that program and in programs with a rule that is never reached
 /// or infeasible, and of which lemmas state the known bounds.
-pub fn standing_is_as_worked_out()
-    ensures standing { StandingIsWorkedOut }
+pub fn justification_is_as_worked_out()
+    ensures standing { JustificationIsWorkedOut }
     ensures empty { EmptyDerivationsAreWorkedOut }
     ensures said { BoundsAreSaidAsWorkedOut }
 {}

@@ -25,7 +25,7 @@ IsPlain (Constant c) = ⊥
 IsPlain (MaximumOf ps) = ⊥
 IsPlain b = Unit {0}
 
--- the test on such a bound looks at the other one
+-- the test of a bound that is neither a constant nor a maximum is `below_one`
 pub below-plain : (a b : plain.Bound) → IsPlain a → below a b ≡ below_one (λ p q. below p q) a b
 below-plain (Constant c) b plain = absurd plain
 below-plain (MaximumOf ps) b plain = absurd plain
@@ -34,14 +34,14 @@ below-plain (SumOf ps) b plain = below_is (SumOf ps) b
 below-plain (ProductOf ps) b plain = below_is (ProductOf ps) b
 below-plain (PowerOf c e) b plain = below_is (PowerOf c e) b
 
--- a variable, a sum, a product or a power
+-- a bound of the code that is a variable, a sum, a product or a power
 abbrev pub IsOneOfFour : Bound → Type 0
 IsOneOfFour a =
     ((i : ℕ) × (a ≡ Var i))
     ⊎ (((v : Vec Bound Global) × (a ≡ Sum v))
     ⊎ (((v : Vec Bound Global) × (a ≡ Prod v)) ⊎ ((c : ℕ) × (e : Box Bound Global) × (a ≡ Power c e))))
 
--- a bound of four kinds is plain
+-- the view of such a bound is neither a constant nor a maximum
 pub IsPlain-kinds : (a : Bound)
     → IsOneOfFour a
     → IsPlain (bound_of a)
@@ -50,13 +50,13 @@ IsPlain-kinds a (inr (inl (v, e))) = subst IsPlain (sym (ap bound_of e ∙ bound
 IsPlain-kinds a (inr (inr (inl (v, e)))) = subst IsPlain (sym (ap bound_of e ∙ bound_of-Prod v)) tt
 IsPlain-kinds a (inr (inr (inr (c, x, e)))) = subst IsPlain (sym (ap bound_of e ∙ bound_of-Power c x)) tt
 
--- for a bound of the code
+-- the test of such a bound of the code is `below_one`
 pub below-kinds : (a : Bound) (b : plain.Bound)
     → IsOneOfFour a
     → below (bound_of a) b ≡ below_one (λ p q. below p q) (bound_of a) b
 below-kinds a b kinds = below-plain (bound_of a) b (IsPlain-kinds a kinds)
 
--- a constant is below where it is 0, or as any other bound
+-- a constant is below a bound if it is 0, or if it is below as any other bound is
 pub below-constant : (c : ℕ) (b : plain.Bound)
     → below (Constant c) b ≡ ((c == 0) || below_one (λ p q. below p q) (Constant c) b)
 below-constant zero b = below_is (Constant zero) b
@@ -64,7 +64,7 @@ below-constant (suc c) b =
     below_is (Constant (suc c)) b
     ∙ sym (ap (λ v. v || below_one (λ p q. below p q) (Constant (suc c)) b) (eqb-suc-zero c))
 
--- a maximum is below where each of its parts is
+-- a maximum is below a bound exactly if each of its parts is
 pub below-maximum : (a : Bound) (v : Vec Bound Global) (b : plain.Bound) → a ≡ Max v
     → below (bound_of a) b ≡ list_all (λ p. below p b) (bounds_of v.items)
 below-maximum a v b e =
@@ -72,13 +72,13 @@ below-maximum a v b e =
     ∙ below_is (MaximumOf (parts_of (bounds_of v.items))) b
     ∙ ap (λ ps. list_all (λ p. below p b) ps) (list_of-parts_of (bounds_of v.items))
 
--- the parts of a maximum weigh less than it
+-- the parts of a maximum weigh less than the maximum
 pub bounds_weight-maximum : (a : Bound) (v : Vec Bound Global) → a ≡ Max v
     → bounds_weight (bounds_of v.items) + 3 ≤ bound_weight (bound_of a)
 bounds_weight-maximum a v e =
     omega (arith, ap bound_weight (ap bound_of e ∙ bound_of-Max v), bounds_weight-list_of (parts_of (bounds_of v.items)), ap bounds_weight (list_of-parts_of (bounds_of v.items)))
 
--- the end of a matching: where all found one, what is left over decides
+-- at the end of a matching in which some element found none, the matching fails
 pub fully-unfound : (related : plain.Bound → plain.Bound → Bool) (left ps qs : List plain.Bound)
     → each_takes related left [] ≡ each_takes related ps qs
     → (length left == 0) ≡ false → false ≡ takes_fully related ps qs
@@ -86,7 +86,7 @@ fully-unfound related [] ps qs found some = cc
 fully-unfound related (p ∷ left) ps qs found some =
     ap (λ v. v && list_all (may_be_leftover (matches related ps qs)) (leftovers related ps qs)) found
 
--- if each element finds one, the elements left over decide
+-- at the end of a matching in which each element found one, the elements left over decide
 pub fully-found : (related : plain.Bound → plain.Bound → Bool) (left ps qs : List plain.Bound) (fit among : Bool)
     → each_takes related left [] ≡ each_takes related ps qs
     → (length left == 0) ≡ true
@@ -103,7 +103,7 @@ fully-found related [] ps qs fit among found none fits is =
     and-true false = refl
 fully-found related (p ∷ left) ps qs fit among found none fits is = cc (eqb-suc-zero (length left))
 
--- at the end of a loop over the others nothing of them is left; where a factor is, not all are taken
+-- at the end of the loop over the other factors, if an element still needs one, the matching fails
 pub loop-unfound : (related : plain.Bound → plain.Bound → Bool) (xs : List Bound) (rest ps qs : List plain.Bound)
     → rest ≡ []
     → each_takes related (bounds_of xs) rest ≡ each_takes related ps qs
@@ -113,7 +113,7 @@ loop-unfound related xs rest ps qs none found some =
     fully-unfound related (bounds_of xs) ps qs (sym (ap (each_takes related (bounds_of xs)) none) ∙ found)
     (ap (λ (n : ℕ). n == 0) (length-map xs bound_of) ∙ some)
 
--- if no element is left that needs one, the elements left over decide
+-- at the end of the loop over the other factors, if no element needs one, the elements left over decide
 pub loop-found : (related : plain.Bound → plain.Bound → Bool) (xs : List Bound) (rest ps qs : List plain.Bound)
     (fit among : Bool)
     → rest ≡ []
@@ -130,13 +130,13 @@ loop-found related xs rest ps qs fit among none found empty fits is =
     (ap (λ (n : ℕ). n == 0) (length-map xs bound_of) ∙ empty)
     (sym (ap over none) ∙ fits) is
 
--- nothing is left of no parts
+-- a matching of no elements takes nothing
 pub each_takes-none : (related : plain.Bound → plain.Bound → Bool) (ps : List plain.Bound)
     → each_takes related ps [] ≡ (length ps == 0)
 each_takes-none related [] = refl
 each_takes-none related (p ∷ ps) = sym (eqb-suc-zero (length ps))
 
--- a bound of five kinds is no maximum
+-- a bound that is one of the five other kinds is no maximum
 pub IsNoMaximum-kinds : (a : Bound)
     → ((i : ℕ) × (a ≡ Const i)) ⊎ IsOneOfFour a
     → IsNoMaximum (bound_of a)

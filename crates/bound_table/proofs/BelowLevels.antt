@@ -1,5 +1,5 @@
--- The test of being below meets its own equation: one level of it asks only about bounds that together have fewer
--- nodes.
+-- The test `below` satisfies its own recursive equation: one level of it asks only about bounds that together have
+-- fewer nodes.
 use Rattle.std.proofs.Common.{◌≡◌, ℕ, zero, suc, ◌+◌, ◌*◌, ◌<◌, ◌≤◌, max, nat_le, Bool, true, false, cond, not, ◌&&◌}
 use Rattle.std.proofs.Common.{◌||◌, List, [], ◌∷◌, refl, ap, ◌∙◌, arith}
 use Rattle.std.specs.List.{list_any, list_all}
@@ -18,8 +18,8 @@ use Rattle.bound_table.specs.Below.{below_one, below_step, below_within, below}
 abbrev pub bound_weight : Bound → ℕ
 bound_weight b = 3 * node_count b + 1
 
--- the weight of a bound that is compared as a factor: a sum or a maximum weighs more than it does as a bound, anything
--- else less
+-- the weight of a bound that is compared as a factor: a sum or a maximum weighs more than it does as a bound, any other
+-- bound less
 abbrev pub factor_weight : Bound → ℕ
 factor_weight (SumOf ps) = 3 * node_count (SumOf ps) + 3
 factor_weight (MaximumOf ps) = 3 * node_count (MaximumOf ps) + 3
@@ -35,7 +35,7 @@ abbrev pub bounds_weight : List Bound → ℕ
 bounds_weight [] = 0
 bounds_weight (b ∷ bs) = max (bound_weight b) (bounds_weight bs)
 
--- a bound has a node
+-- every bound has at least one node
 pub node_count-pos : (b : Bound) → 1 ≤ node_count b
 node_count-pos (Constant c) = omega arith
 node_count-pos (Input i) = omega arith
@@ -77,12 +77,12 @@ after_constant-weight (ProductOf qs ∷ ps) = omega arith
 after_constant-weight (MaximumOf qs ∷ ps) = omega arith
 after_constant-weight (PowerOf c e ∷ ps) = omega arith
 
--- the bounds of a list of parts
+-- the bounds of a list of parts weigh at most three times their nodes
 pub bounds_weight-list_of : (ps : Parts) → bounds_weight (list_of ps) ≤ 3 * node_count_of_all ps + 1
 bounds_weight-list_of NoParts = omega arith
 bounds_weight-list_of (Part p ps) = omega (arith, bounds_weight-list_of ps)
 
--- the factors of a part weigh no more than it
+-- the factors of a part weigh no more than the part as a factor
 pub factors_of-weight : (p : Bound) → factors_weight (factors_of p) ≤ factor_weight p
 factors_of-weight (Constant c) = omega arith
 factors_of-weight (Input i) = omega arith
@@ -108,11 +108,11 @@ Agree n f g = (p q : Bound) → bound_weight p + bound_weight q < n → f p q �
 abbrev AgreeOnFactors : ℕ → (Bound → Bound → Bool) → (Bound → Bound → Bool) → Type 0
 AgreeOnFactors n f g = (p q : Bound) → factor_weight p + factor_weight q ≤ n → f p q ≡ g p q
 
--- a choice by the same test between the same two is the same
+-- equal tests between equal alternatives choose equal results
 same-cond : {X : Type 0} (a b : Bool) (x y v w : X) → a ≡ b → x ≡ y → v ≡ w → cond a x v ≡ cond b y w
 same-cond a b x y v w ab xy vw = ap (λ c. cond c x v) ab ∙ ap (λ z. cond b z v) xy ∙ ap (λ z. cond b y z) vw
 
--- each element finds one by one test exactly if it does by the other
+-- if two tests agree, each element takes one by one test exactly if it does by the other
 each_takes-agree : (n : ℕ) (f g : Bound → Bound → Bool) (ps qs : List Bound) → AgreeOnFactors n f g
     → factors_weight ps + factors_weight qs ≤ n
     → each_takes f ps qs ≡ each_takes g ps qs
@@ -124,7 +124,7 @@ each_takes-agree n f g (p ∷ ps) (q ∷ qs) same h =
     (same p q (omega arith)) (each_takes-agree n f g ps qs same (omega arith))
     (each_takes-agree n f g (p ∷ ps) qs same (omega arith))
 
--- the same elements are taken
+-- if two tests agree, the same elements are taken by both
 taken-agree : (n : ℕ) (f g : Bound → Bound → Bool) (ps qs : List Bound) → AgreeOnFactors n f g
     → factors_weight ps + factors_weight qs ≤ n
     → matches f ps qs ≡ matches g ps qs
@@ -135,7 +135,7 @@ taken-agree n f g (p ∷ ps) (q ∷ qs) same h =
     (same p q (omega arith)) (ap (λ (ts : List Bound). q ∷ ts) (taken-agree n f g ps qs same (omega arith)))
     (taken-agree n f g (p ∷ ps) qs same (omega arith))
 
--- the same elements are left over
+-- if two tests agree, the same elements are left over by both
 spare-agree : (n : ℕ) (f g : Bound → Bound → Bool) (ps qs : List Bound) → AgreeOnFactors n f g
     → factors_weight ps + factors_weight qs ≤ n
     → leftovers f ps qs ≡ leftovers g ps qs
@@ -146,7 +146,7 @@ spare-agree n f g (p ∷ ps) (q ∷ qs) same h =
     (same p q (omega arith)) (spare-agree n f g ps qs same (omega arith))
     (ap (λ (ts : List Bound). q ∷ ts) (spare-agree n f g (p ∷ ps) qs same (omega arith)))
 
--- where one of two factors is a sum or a maximum, they weigh less as bounds
+-- if one of two factors is a sum or a maximum, the two weigh less as bounds, so the tests agree on them
 nest-agree : (n : ℕ) (f g : Bound → Bound → Bool) (p q : Bound) → Agree n f g
     → (is_nest p || is_nest q ≡ true → bound_weight p + bound_weight q < n)
     → ((is_nest p || is_nest q) && f p q) ≡ ((is_nest p || is_nest q) && g p q)
@@ -156,7 +156,7 @@ nest-agree n f g p q same light = go (is_nest p || is_nest q) refl
     go true is = same p q (light is)
     go false is = refl
 
--- a factor is compared alike by tests that agree
+-- tests that agree on bounds give the same comparison of factors
 factor_below-agree : (n : ℕ) (f g : Bound → Bound → Bool) → Agree n f g
     → AgreeOnFactors n (factor_below f) (factor_below g)
 factor_below-agree n f g same (Input i) (Input j) h = refl
@@ -189,7 +189,7 @@ term_below-agree n f g same p q h =
     (λ ss. before && each_takes (factor_below g) fs gs && list_all (may_be_leftover (matches (factor_below g) fs gs)) ss)
     (spare-agree n (factor_below f) (factor_below g) fs gs on_factors within)
 
--- the tests agree on a bound and the parts of a maximum
+-- tests that agree give the same answer whether a bound is below a part of a maximum
 any-agree : (n : ℕ) (f g : Bound → Bound → Bool) (a : Bound) (qs : Parts) → Agree n f g
     → bound_weight a + (3 * node_count_of_all qs + 1) < n
     → list_any (λ q. f a q) (list_of qs) ≡ list_any (λ q. g a q) (list_of qs)
@@ -198,7 +198,7 @@ any-agree n f g a (Part q qs) same h =
     ap (λ v. v || list_any (λ q. f a q) (list_of qs)) (same a q (omega arith))
     ∙ ap (λ v. g a q || v) (any-agree n f g a qs same (omega arith))
 
--- the tests agree on the parts of a maximum and a bound
+-- tests that agree give the same answer whether all parts of a maximum are below a bound
 all-agree : (n : ℕ) (f g : Bound → Bound → Bool) (ps : Parts) (b : Bound) → Agree n f g
     → (3 * node_count_of_all ps + 1) + bound_weight b < n
     → list_all (λ p. f p b) (list_of ps) ≡ list_all (λ p. g p b) (list_of ps)
@@ -207,7 +207,7 @@ all-agree n f g (Part p ps) b same h =
     ap (λ v. v && list_all (λ p. f p b) (list_of ps)) (same p b (omega arith))
     ∙ ap (λ v. g p b && v) (all-agree n f g ps b same (omega arith))
 
--- the tests agree on the parts of two sums
+-- tests that agree give the same answer whether the parts of a sum take parts of another
 terms-agree : (f g : Bound → Bound → Bool) (a b : Bound) → IsNoMaximum a → IsNoMaximum b
     → Agree (bound_weight a + bound_weight b) f g
     → each_takes (term_below f) (terms_of a) (terms_of b) ≡ each_takes (term_below g) (terms_of a) (terms_of b)
@@ -215,7 +215,7 @@ terms-agree f g a b one one' same =
     each_takes-agree (bound_weight a + bound_weight b) (term_below f) (term_below g) (terms_of a) (terms_of b)
     (term_below-agree (bound_weight a + bound_weight b) f g same) (omega (arith, terms_of-weight a one, terms_of-weight b one'))
 
--- the tests agree on a bound that is no maximum
+-- tests that agree give the same answer of `below_one`
 below_one-agree : (f g : Bound → Bound → Bool) (a b : Bound) → IsNoMaximum a
     → Agree (bound_weight a + bound_weight b) f g → below_one f a b ≡ below_one g a b
 below_one-agree f g a (MaximumOf qs) one same = any-agree _ f g a qs same (omega arith)
@@ -236,7 +236,7 @@ below_step-agree f g (SumOf ps) b same = below_one-agree f g (SumOf ps) b tt sam
 below_step-agree f g (ProductOf ps) b same = below_one-agree f g (ProductOf ps) b tt same
 below_step-agree f g (PowerOf c e) b same = below_one-agree f g (PowerOf c e) b tt same
 
--- levels beyond the nodes change nothing
+-- two numbers of levels of at least the number of nodes give the same answer
 below_within-enough : (k l : ℕ) (a b : Bound) → node_count a + node_count b ≤ k → node_count a + node_count b ≤ l
     → below_within k a b ≡ below_within l a b
 below_within-enough zero l a b h h' = absurd (omega (arith, node_count-pos a))
@@ -245,7 +245,7 @@ below_within-enough (suc k) (suc l) a b h h' =
     below_step-agree (λ p q. below_within k p q) (λ p q. below_within l p q) a b
     (λ p q less. below_within-enough k l p q (omega arith) (omega arith))
 
--- with as many levels as nodes, one more level changes nothing
+-- the test of two bounds with n nodes together is the same with n levels and with one more
 below-levels : (n : ℕ) (a b : Bound) → node_count a + node_count b ≡ n
     → below_within n a b ≡ below_step (λ p q. below p q) a b
 unfolding below
@@ -254,7 +254,7 @@ below-levels (suc n) a b is =
     below_step-agree (λ p q. below_within n p q) (λ p q. below p q) a b
     (λ p q less. below_within-enough n (node_count p + node_count q) p q (omega arith) (omega arith))
 
--- the test is one level over itself
+-- the recursive equation: `below` is one level of the test over `below`
 pub below_is : (a b : Bound) → below a b ≡ below_step (λ p q. below p q) a b
 unfolding below
 below_is a b = below-levels (node_count a + node_count b) a b refl

@@ -22,7 +22,7 @@ use Rattle.bound_table.proofs.Products.{sum_at, product_at, maximum_at, val_sum-
 abbrev IsSoundAt : List ℕ → (Bound → Bound → Bool) → Type 0
 IsSoundAt m related = (p q : Bound) → IsBased p → IsBased q → related p q ≡ true → val p m ≤ val q m
 
--- the product of all is that of the taken times that of the others
+-- the product of all factors is that of the factors that are taken times that of the factors left over
 product-taken-spare : (related : Bound → Bound → Bool) (fs gs : List Bound) (m : List ℕ)
     → each_takes related fs gs ≡ true
     → product_at gs m ≡ product_at (matches related fs gs) m * product_at (leftovers related fs gs) m
@@ -59,7 +59,7 @@ product-le-taken related (f ∷ fs) (g ∷ gs) m sound bf bg found =
         (ih found)
     go false is found ih ih' = ih' found
 
--- an input that is the same as one of a list is 0 only where the product of the list is
+-- if two inputs are the same, a product with the one is 0 where the other is
 same_input-val : (g t : Bound) (m : List ℕ) → is_same_input g t ≡ true → val g m ≡ val t m
 same_input-val (Input i) (Input j) m same = ap (λ (k : ℕ). slice_index m k) (eqb-true i j same)
 same_input-val (Constant c) t m same = cc
@@ -73,7 +73,7 @@ same_input-val (Input i) (ProductOf ps) m same = cc
 same_input-val (Input i) (MaximumOf ps) m same = cc
 same_input-val (Input i) (PowerOf c e) m same = cc
 
--- where such an input is 0 the product is
+-- where an input that is the same as one among the factors is 0, their product is 0
 among-zero : (g : Bound) (ts : List Bound) (m : List ℕ) → list_any (is_same_input g) ts ≡ true → val g m ≡ 0
     → product_at ts m ≡ 0
 among-zero g [] m any none = cc
@@ -84,7 +84,7 @@ among-zero g (t ∷ ts) m any none = go (is_same_input g t) refl any (among-zero
     go true is any ih = ap (λ (v : ℕ). v * product_at ts m) (sym (same_input-val g t m is) ∙ none) ∙ omega arith
     go false is any ih = ap (λ (v : ℕ). val t m * v) (ih any none) ∙ omega arith
 
--- a factor that may be left is at least 1, or those that are taken make 0
+-- a factor that may be left over is at least 1, or the product of the factors that are taken is 0
 spare-one : (ts : List Bound) (g : Bound) (m : List ℕ) → IsBased g → may_be_leftover ts g ≡ true
     → (1 ≤ val g m) ⊎ (product_at ts m ≡ 0)
 spare-one ts (PowerOf c e) m based may = inl (one-le-pow (val e m) c based.0)
@@ -98,7 +98,7 @@ spare-one ts (SumOf ps) m based may = cc
 spare-one ts (ProductOf ps) m based may = cc
 spare-one ts (MaximumOf ps) m based may = cc
 
--- the factors left over multiply to at least 1, or those taken to 0
+-- the product of the factors left over is at least 1, or that of the factors taken is 0
 spares-one : (ts gs : List Bound) (m : List ℕ) → Each IsBased gs → list_all (may_be_leftover ts) gs ≡ true
     → (1 ≤ product_at gs m) ⊎ (product_at ts m ≡ 0)
 spares-one ts [] m based all = inl (omega arith)
@@ -111,7 +111,7 @@ spares-one ts (g ∷ gs) m based all =
     go (inl one) (inr none) = inr none
     go (inr none) ones = inr none
 
--- the factors left over have the bases of all
+-- if the bases of all factors are at least 1, so are those of the factors left over
 spare-based : (related : Bound → Bound → Bool) (fs gs : List Bound) → Each IsBased gs
     → Each IsBased (leftovers related fs gs)
 spare-based related [] gs based = based
@@ -124,7 +124,7 @@ spare-based related (f ∷ fs) (g ∷ gs) based =
     go true ih ih' = ih
     go false ih ih' = (based.0, ih')
 
--- products of factors
+-- factors that each take one of the others have a product of at most that of the others
 factors-le : (related : Bound → Bound → Bool) (fs gs : List Bound) (m : List ℕ) → IsSoundAt m related → Each IsBased fs
     → Each IsBased gs
     → each_takes related fs gs ≡ true → list_all (may_be_leftover (matches related fs gs)) (leftovers related fs gs) ≡ true
@@ -147,7 +147,7 @@ factors-le related fs gs m sound bf bg found all =
         )
     go (inr none) = omega (arith, less, none)
 
--- a power is no greater where base and exponent are not
+-- a power of no greater base and no greater exponent is no greater
 powers-le : (c e d f : ℕ) → 1 ≤ c → c ≤ d → e ≤ f → c ^ e ≤ d ^ f
 powers-le c e d f one bases exponents =
     omega (arith, pow-le-pow_left bases e, pow-le-pow_right {n = d} (omega arith) exponents)
@@ -163,7 +163,7 @@ factor_below-sound smaller m sound (PowerOf c e) (PowerOf d f) bp bq holds =
 factor_below-sound smaller m sound p q bp bq holds =
     sound p q bp bq (and_parts (is_nest p || is_nest q) (smaller p q) holds).1
 
--- products with their constants
+-- the test on parts of a sum is sound if that on bounds is: constants and factors are compared
 term_below-sound : (smaller : Bound → Bound → Bool) (m : List ℕ) → IsSoundAt m smaller
     → IsSoundAt m (term_below smaller)
 term_below-sound smaller m sound p q bp bq holds =
@@ -188,7 +188,7 @@ term_below-sound smaller m sound p q bp bq holds =
           (leb-true (constant_of p) (constant_of q) two.1) product,
     )
 
--- sums of parts
+-- parts that each take one of the others have a sum of at most that of the others
 each_takes-sum : (related : Bound → Bound → Bool) (ps qs : List Bound) (m : List ℕ) → IsSoundAt m related
     → Each IsBased ps → Each IsBased qs
     → each_takes related ps qs ≡ true → sum_at ps m ≤ sum_at qs m
@@ -215,7 +215,7 @@ terms-sum (ProductOf ps) m = omega arith
 terms-sum (MaximumOf ps) m = omega arith
 terms-sum (PowerOf c e) m = omega arith
 
--- the parts of a bound have its bases
+-- the parts of a bound whose bases are at least 1 have such bases
 terms-based : (b : Bound) → IsBased b → Each IsBased (terms_of b)
 terms-based (SumOf ps) based = Each-list_of (IsBasedFrom 1) ps based.1
 terms-based (Constant c) based = (based, tt)
@@ -224,7 +224,7 @@ terms-based (ProductOf ps) based = (based, tt)
 terms-based (MaximumOf ps) based = (based, tt)
 terms-based (PowerOf c e) based = (based, tt)
 
--- sums whose parts take parts are no greater
+-- a sum whose parts each take a part of another sum is no greater than it
 terms-le : (smaller : Bound → Bound → Bool) (m : List ℕ) → IsSoundAt m smaller → (a b : Bound) → IsBased a → IsBased b
     → each_takes (term_below smaller) (terms_of a) (terms_of b) ≡ true → val a m ≤ val b m
 terms-le smaller m sound a b ba bb found =
@@ -249,7 +249,7 @@ any-le smaller a (q ∷ qs) m sound ba bq any = go (smaller a q) refl any (any-l
     go true is any ih = omega (arith, sound a q ba bq.0 is)
     go false is any ih = omega (arith, ih any)
 
--- a maximum whose parts are all below is no greater
+-- a maximum whose parts are all below a bound is no greater than the bound
 all-le : (smaller : Bound → Bound → Bool) (ps : List Bound) (b : Bound) (m : List ℕ) → IsSoundAt m smaller
     → Each IsBased ps → IsBased b
     → list_all (λ p. smaller p b) ps ≡ true → maximum_at ps m ≤ val b m
@@ -289,7 +289,7 @@ below_within-sound zero m a b ba bb holds = cc
 below_within-sound (suc n) m a b ba bb holds =
     below_step-sound (λ p q. below_within n p q) m (below_within-sound n m) a b ba bb holds
 
--- below is sound
+-- the test `below` is sound: it holds only if the first bound is never greater
 pub below-sound : (a b : Bound) → IsBased a → IsBased b → below a b ≡ true → IsNeverGreater a b
 unfolding below
 below-sound a b ba bb holds = record { each = λ m. below_within-sound (node_count a + node_count b) m a b ba bb holds }

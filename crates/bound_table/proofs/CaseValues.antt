@@ -47,7 +47,7 @@ joined-swap : (k : Kind) (a b c : ℕ) → joined k a (joined k b c) ≡ joined 
 joined-swap k a b c =
     sym (joined-assoc k a b c) ∙ ap (λ (v : ℕ). joined k v c) (joined-comm k a b) ∙ joined-assoc k b a c
 
--- the value of a node
+-- the value of a node of a kind is that of its parts, joined as the kind joins them
 pub val-whole : (k : Kind) (ps : List Bound) (m : List ℕ) → val (whole k ps) m ≡ parts_at k ps m
 val-whole AsSum ps m = val_sum-parts_of ps m
 val-whole AsProd ps m = val_product-parts_of ps m
@@ -61,7 +61,7 @@ parts_at-append k (p ∷ ps) qs m =
     ap (joined k (val p m)) (parts_at-append k ps qs m)
     ∙ sym (joined-assoc k (val p m) (parts_at k ps m) (parts_at k qs m))
 
--- Flat
+-- the case Flat: a part and its own parts of the kind have the same value
 pub parts_at-spread : (k : Kind) (p : Bound) (m : List ℕ) → parts_at k (parts_of_kind k p) m ≡ val p m
 parts_at-spread AsSum (SumOf ps) m = sym (val_sum-list_of ps m)
 parts_at-spread AsProd (ProductOf ps) m = sym (val_product-list_of ps m)
@@ -76,7 +76,7 @@ parts_at-spliced k (p ∷ ps) m =
     ∙ ap (λ (v : ℕ). joined k v (parts_at k (spliced k ps) m)) (parts_at-spread k p m)
     ∙ ap (joined k (val p m)) (parts_at-spliced k ps m)
 
--- FoldConst
+-- the case FoldConst: the value of the parts is that of their constants joined with that of the others
 parts_at-constants : (k : Kind) (ps : List Bound) (m : List ℕ)
     → parts_at k ps m ≡ joined k (all_joined k (constants_in ps)) (parts_at k (without_constants ps) m)
 parts_at-constants k [] m = sym (joined-unit k (unit_of k))
@@ -111,7 +111,7 @@ parts_at-folded k ps m =
     go true false is = refl
     go false small is = refl
 
--- ZeroProduct
+-- the case ZeroProduct: a product with a part 0 is 0
 parts_at-zero : (ps : List Bound) (m : List ℕ) → list_any is_zero ps ≡ true → parts_at AsProd ps m ≡ 0
 parts_at-zero [] m any = cc
 parts_at-zero (p ∷ ps) m any = go (is_zero p) refl any (parts_at-zero ps m)
@@ -140,7 +140,7 @@ val-zeroed AsProd ps m = go (list_any is_zero ps) refl
     go true is = sym (parts_at-zero ps m is)
     go false is = val-whole AsProd ps m
 
--- Neutral
+-- the case Neutral: a neutral part has the value of the unit
 neutral-val : (k : Kind) (p : Bound) (m : List ℕ) → is_neutral k p ≡ true → val p m ≡ unit_of k
 neutral-val k (Constant c) m is = eqb-true c (unit_of k) is
 neutral-val k (Input i) m is = cc
@@ -161,7 +161,7 @@ parts_at-without_neutral k (p ∷ ps) m = go (is_neutral k p) refl (parts_at-wit
         ih ∙ sym (ap (λ (v : ℕ). joined k v (parts_at k ps m)) (neutral-val k p m is) ∙ unit-joined k (parts_at k ps m))
     go false is ih = ap (joined k (val p m)) ih
 
--- Order
+-- the case Order: inserting a part keeps the value
 parts_at-inserted : (k : Kind) (p : Bound) (ps : List Bound) (m : List ℕ)
     → parts_at k (inserted k p ps) m ≡ joined k (val p m) (parts_at k ps m)
 parts_at-inserted k p [] m = refl
@@ -178,7 +178,7 @@ pub parts_at-sorted : (k : Kind) (ps : List Bound) (m : List ℕ) → parts_at k
 parts_at-sorted k [] m = refl
 parts_at-sorted k (p ∷ ps) m = parts_at-inserted k p (sorted k ps) m ∙ ap (joined k (val p m)) (parts_at-sorted k ps m)
 
--- Few
+-- the case Few: a node without parts or with a single part keeps its value when it is simplified
 pub val-simple : (k : Kind) (ps : List Bound) (m : List ℕ) → val (simple k ps) m ≡ parts_at k ps m
 val-simple k [] m = refl
 val-simple k (p ∷ []) m = sym (joined-unit k (val p m))

@@ -32,7 +32,7 @@ val-product_or_single [] m = refl
 val-product_or_single (f ∷ []) m = omega arith
 val-product_or_single (f ∷ g ∷ fs) m = val_product-parts_of (f ∷ g ∷ fs) m
 
--- a part in its place is multiplied by the other factors
+-- a part in place of the sum is multiplied by the other factors
 val-in_place : (before after : List Bound) (p : Bound) (m : List ℕ)
     → val (in_place before after p) m ≡ product_at before m * (val p m * product_at after m)
 val-in_place before after p m =
@@ -42,7 +42,7 @@ val-in_place before after p m =
     (parts_at-append AsProd (parts_of_kind AsProd p) after m
     ∙ ap (λ (v : ℕ). v * product_at after m) (parts_at-spread AsProd p m))
 
--- the sum of these products has the value
+-- the sum of the products with each part in place of the sum is the product of the sum with the other factors
 sum-each_in_place : (before after ps : List Bound) (m : List ℕ)
     → sum_at (each_in_place before after ps) m ≡ product_at before m * (sum_at ps m * product_at after m)
 sum-each_in_place before after [] m = omega arith

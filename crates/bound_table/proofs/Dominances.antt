@@ -14,7 +14,7 @@ use Rattle.bound_expr.specs.Views.{bound_of, bounds_of}
 use Rattle.bound_table.specs.Below.{below}
 use Rattle.bound_table.specs.Dominance.{dominant_after, below_another}
 
--- one part is tested: it is dropped, or it is kept
+-- a part that is below another one is dropped
 pub dominant_after-dropped : (ps : List plain.Bound) (i : ℕ) → i < length ps → below_another ps i ≡ true
     → dominant_after (take i ps) (drop i ps) ≡ dominant_after (take i ps) (drop (i + 1) ps)
 dominant_after-dropped ps i h lower =
@@ -23,7 +23,7 @@ dominant_after-dropped ps i h lower =
     (λ b. cond b (dominant_after (take i ps) (drop (i + 1) ps)) (dominant_after (take i ps ++ slice_index_or ps i (Constant 0) ∷ []) (drop (i + 1) ps)))
     lower
 
--- a part that is kept is in the prefix
+-- a part that is below no other one is kept
 pub dominant_after-kept : (ps : List plain.Bound) (i : ℕ) → i < length ps → below_another ps i ≡ false
     → dominant_after (take i ps) (drop i ps) ≡ dominant_after (take (i + 1) ps) (drop (i + 1) ps)
 dominant_after-kept ps i h high =
@@ -42,7 +42,7 @@ bounds_of-remove xs i =
     ∙ ap (λ (ps : List plain.Bound). take i (bounds_of xs) ++ ps) (sym (drop-map bound_of (suc i) xs))
     ∙ ap (λ (n : ℕ). take i (bounds_of xs) ++ drop n (bounds_of xs)) (sym (add-one i))
 
--- a list cut where two were put together
+-- the prefix of two joined lists that is as long as the first list is the first list
 seam : (fs bs : List plain.Bound) (i : ℕ) → length fs ≡ i
     → dominant_after (take i (fs ++ bs)) (drop i (fs ++ bs)) ≡ dominant_after fs bs
 seam fs bs i e =
@@ -50,7 +50,7 @@ seam fs bs i e =
     ∙ ap (λ (qs : List plain.Bound). dominant_after qs (drop (length fs) (fs ++ bs))) (take-append_seam fs bs)
     ∙ ap (dominant_after fs) (drop-append_seam fs bs)
 
--- removing such a part doesn't change which parts stay
+-- removing a part that is below another one doesn't change which parts are kept
 pub dominant_after-remove : (xs ys : List Bound) (i : ℕ) → i < length xs → below_another (bounds_of xs) i ≡ true
     → ys ≡ remove xs i
     → dominant_after (take i (bounds_of ys)) (drop i (bounds_of ys))

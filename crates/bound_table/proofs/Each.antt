@@ -36,7 +36,7 @@ pub Each-list_of : (F : Bound → Type 0) (ps : Parts) → EachNodeOfAll F ps �
 Each-list_of F NoParts each = tt
 Each-list_of F (Part p ps) each = (each.0, Each-list_of F ps each.1)
 
--- the converse
+-- a property of each node of every part of a list is one of each node of the parts made from it
 pub Each-parts_of : (F : Bound → Type 0) (ps : List Bound) → Each (EachNode F) ps → EachNodeOfAll F (parts_of ps)
 Each-parts_of F [] each = tt
 Each-parts_of F (p ∷ ps) each = (each.0, Each-parts_of F ps each.1)

@@ -17,7 +17,7 @@ joined-capped AsProd total c rest limit =
     min-mul_left (total * c) rest limit ∙ ap (λ (v : ℕ). min v limit) (omega arith)
 joined-capped AsMax total c rest limit = omega arith
 
--- one more part joined
+-- joining a total with one more part gives the next total
 pub total_with-step : (k : Kind) (total : ℕ) (p : Bound) (ps : List Bound)
     → capped (joined k (total_with k total p) (all_joined k (constants_in ps)))
     ≡ capped (joined k total (all_joined k (constants_in (p ∷ ps))))

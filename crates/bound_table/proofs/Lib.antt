@@ -1,4 +1,4 @@
--- each case keeps values, tidiness and numbers; the order `below` is sound; and limits of rewriting
+-- Laws of rewriting: each case keeps values, tidiness and numbers; the test `below` is sound; and limits of rewriting.
 pub mod Each
 pub mod Products
 pub mod BelowSound

@@ -22,7 +22,7 @@ use Rattle.bound_table.proofs.Each.{Each, Each-append}
 use Rattle.bound_table.proofs.PartFacts.{AreTogether}
 use Rattle.bound_table.proofs.RunValues.{parts_at-runs_joined}
 
--- factor lists that are the same in the structural order are the same
+-- lists of factors that compare as equal in the structural order are equal
 same_lists : (fs gs : List Bound) → is_eq (slice_cmp compared fs gs) ≡ true → fs ≡ gs
 same_lists fs gs same =
     sym (list_of-parts_of fs)
@@ -39,7 +39,7 @@ same_factors-lists (f ∷ fs) gs same = same_lists (f ∷ fs) gs same
 is_like-factors : (p q : Bound) → is_like p q ≡ true → factors_of p ≡ factors_of q
 is_like-factors p q like = same_factors-lists (factors_of p) (factors_of q) like
 
--- like parts add up to the sum of their constants times their factors
+-- the sum of like parts is the sum of their constants times their factors
 alike-sum : (p : Bound) (ps : List Bound) (m : List ℕ) → AreTogether is_like p ps
     → sum_at (p ∷ ps) m ≡ constants_total (p ∷ ps) * product_at (factors_of p) m
 alike-sum p [] m alike = omega (arith, val-term p m)
@@ -47,11 +47,11 @@ alike-sum p (q ∷ ps) m alike =
     let same = ap (λ (fs : List Bound). product_at fs m) (is_like-factors p q alike.0) in
     omega (arith, val-term p m, alike-sum q ps m alike.1, ap (λ (v : ℕ). constants_total (q ∷ ps) * v) same)
 
--- a constant times factors has the value of both
+-- the value of a constant times factors is the constant times the product of the factors
 val-times : (c : ℕ) (fs : List Bound) (m : List ℕ) → val (times c fs) m ≡ c * product_at fs m
 val-times c fs m = ap (λ (v : ℕ). c * v) (val_product-parts_of fs m)
 
--- a joined run has the sum of its parts
+-- the parts that replace a run have the same sum as the run
 joined_list-sum : (p : Bound) (ps : List Bound) (m : List ℕ) → AreTogether is_like p ps
     → sum_at (joined_list (p ∷ ps)) m ≡ sum_at (p ∷ ps) m
 joined_list-sum p [] m alike = refl
@@ -81,13 +81,13 @@ any-below p (q ∷ qs) m bp bq any = go (below p q) refl any (any-below p qs m b
     go true is any ih = omega (arith, (below-sound p q bp bq.0 is).each m)
     go false is any ih = omega (arith, ih any)
 
--- the maximum of two lists is that of both
+-- the maximum of two lists joined is the greater of their maximums
 maximum_at-append : (ps qs : List Bound) (m : List ℕ)
     → maximum_at (ps ++ qs) m ≡ max (maximum_at ps m) (maximum_at qs m)
 maximum_at-append [] qs m = omega arith
 maximum_at-append (p ∷ ps) qs m = omega (arith, maximum_at-append ps qs m)
 
--- dropping what is below keeps the maximum
+-- dropping parts that are below others keeps the maximum
 maximum_at-dominant_after : (kept ps : List Bound) (m : List ℕ) → Each IsBased kept → Each IsBased ps
     → maximum_at (dominant_after kept ps) m ≡ max (maximum_at kept m) (maximum_at ps m)
 maximum_at-dominant_after kept [] m bk bp = omega arith
@@ -105,7 +105,7 @@ maximum_at-dominant_after kept (p ∷ ps) m bk bp =
         omega (arith, ih, any-below p (kept ++ ps) m bp.0 (Each-append IsBased kept ps bk bp.1) is, maximum_at-append kept ps m)
     go false is ih ih' = omega (arith, ih', maximum_at-append kept (p ∷ []) m)
 
--- the parts that stay have the value of all
+-- the parts of a maximum that aren't dropped have the value of all parts
 pub parts_at-dominant : (k : Kind) (ps : List Bound) (m : List ℕ) → Each IsBased ps
     → parts_at k (dominant k ps) m ≡ parts_at k ps m
 parts_at-dominant AsSum ps m based = refl

@@ -17,7 +17,7 @@ use Rattle.bound_table.proofs.TotalOrder.{order_of-total}
 abbrev before : Kind → plain.Bound → plain.Bound → Bool
 before k p q = is_lt (order_of k p q)
 
--- a test for less that passes
+-- if the test `is_lt` passes, the ordering is `Less`
 is_lt-Less : (o : Ordering) → is_lt o ≡ true → o ≡ Less
 is_lt-Less Less lt = refl
 is_lt-Less Equal lt = cc
@@ -28,7 +28,7 @@ before-trans : (k : Kind) (a b c : plain.Bound) → before k a b ≡ true → be
 before-trans k a b c ab bc =
     ap is_lt ((order_of-total k).trans a b c (is_lt-Less (order_of k a b) ab) (is_lt-Less (order_of k b c) bc))
 
--- an element before c comes before all elements that aren't
+-- if a comes before c and b doesn't, a comes before b
 before-apart : (k : Kind) (a b c : plain.Bound) → before k a c ≡ true → before k b c ≡ false → before k a b ≡ true
 before-apart k a b c ac bc = go (order_of k a b) refl
   where
@@ -51,12 +51,12 @@ merged-step k p ps q qs = go (before k q p)
     go true = refl
     go false = refl
 
--- nothing merged into a list changes nothing
+-- merging a list with an empty second list gives the list
 merged-none : (k : Kind) (ps : List plain.Bound) → merged k ps [] ≡ ps
 merged-none k [] = refl
 merged-none k (p ∷ ps) = ap (λ (qs : List plain.Bound). p ∷ qs) (merged-none k ps)
 
--- a single one is merged by inserting it
+-- merging a list of one element is inserting that element
 merged-one : (k : Kind) (p : plain.Bound) (qs : List plain.Bound) → merged k (p ∷ []) qs ≡ inserted k p qs
 merged-one k p [] = refl
 merged-one k p (q ∷ qs) = merged-step k p [] q qs ∙ go (before k q p) (merged-one k p qs)
@@ -66,7 +66,7 @@ merged-one k p (q ∷ qs) = merged-step k p [] q qs ∙ go (before k q p) (merge
     go true ih = ap (λ (rs : List plain.Bound). q ∷ rs) ih
     go false ih = refl
 
--- one is inserted after what comes before it
+-- an element is inserted after a first element that comes before it
 inserted-later : (k : Kind) (p q : plain.Bound) (qs : List plain.Bound) → before k q p ≡ true
     → inserted k p (q ∷ qs) ≡ q ∷ inserted k p qs
 inserted-later k p q qs is = ap (λ b. cond b (q ∷ inserted k p qs) (p ∷ q ∷ qs)) is
@@ -76,19 +76,19 @@ inserted-here : (k : Kind) (p q : plain.Bound) (qs : List plain.Bound) → befor
     → inserted k p (q ∷ qs) ≡ p ∷ q ∷ qs
 inserted-here k p q qs is = ap (λ b. cond b (q ∷ inserted k p qs) (p ∷ q ∷ qs)) is
 
--- the first of the second list comes first where it comes before
+-- merging takes the first element of the second list first if it comes before that of the first list
 merged-second : (k : Kind) (p : plain.Bound) (ps : List plain.Bound) (q : plain.Bound) (qs : List plain.Bound)
     → before k q p ≡ true → merged k (p ∷ ps) (q ∷ qs) ≡ q ∷ merged k (p ∷ ps) qs
 merged-second k p ps q qs is =
     merged-step k p ps q qs ∙ ap (λ b. cond b (q ∷ merged k (p ∷ ps) qs) (p ∷ merged k ps (q ∷ qs))) is
 
--- else the first of the first list comes first
+-- otherwise merging takes the first element of the first list first
 merged-first : (k : Kind) (p : plain.Bound) (ps : List plain.Bound) (q : plain.Bound) (qs : List plain.Bound)
     → before k q p ≡ false → merged k (p ∷ ps) (q ∷ qs) ≡ p ∷ merged k ps (q ∷ qs)
 merged-first k p ps q qs is =
     merged-step k p ps q qs ∙ ap (λ b. cond b (q ∷ merged k (p ∷ ps) qs) (p ∷ merged k ps (q ∷ qs))) is
 
--- p inserted into what begins with the lesser of x and y
+-- an element inserted into the merged list that begins with x or y, whichever comes first
 inserted-step : (k : Kind) (p x : plain.Bound) (xs : List plain.Bound) (y : plain.Bound) (ys : List plain.Bound)
     → ((zs : List plain.Bound) → merged k (inserted k p xs) zs ≡ inserted k p (merged k xs zs))
     → merged k (inserted k p (x ∷ xs)) ys ≡ inserted k p (merged k (x ∷ xs) ys)
@@ -127,7 +127,7 @@ inserted-step k p x xs y ys ih ih' false false false is_xp is_yx is_yp =
     ∙ sym (inserted-here k p x (merged k xs (y ∷ ys)) is_xp)
     ∙ ap (inserted k p) (sym (merged-first k x xs y ys is_yx))
 
--- the law for any second list
+-- inserting an element and then merging with any second list is merging and then inserting it
 merged-inserted_by : (k : Kind) (p x : plain.Bound) (xs : List plain.Bound)
     → ((zs : List plain.Bound) → merged k (inserted k p xs) zs ≡ inserted k p (merged k xs zs))
     → (ys : List plain.Bound) → merged k (inserted k p (x ∷ xs)) ys ≡ inserted k p (merged k (x ∷ xs) ys)
@@ -137,7 +137,7 @@ merged-inserted_by k p x xs ih (y ∷ ys) =
     inserted-step k p x xs y ys ih (merged-inserted_by k p x xs ih ys) (before k x p) (before k y x) (before k y p) refl
     refl refl
 
--- inserting one and then merging is merging and then inserting it
+-- inserting an element and then merging is merging and then inserting it
 merged-inserted : (k : Kind) (p : plain.Bound) (xs ys : List plain.Bound)
     → merged k (inserted k p xs) ys ≡ inserted k p (merged k xs ys)
 merged-inserted k p [] ys = merged-one k p ys
@@ -149,13 +149,13 @@ merged-sorted k [] ys = refl
 merged-sorted k (x ∷ xs) ys =
     merged-inserted k x (sorted k xs) (sorted k ys) ∙ ap (inserted k x) (merged-sorted k xs ys)
 
--- at most one part is in order
+-- a list of at most one part is sorted
 pub sorted-short : (k : Kind) (xs : List plain.Bound) → length xs < 2 → xs ≡ sorted k xs
 sorted-short k [] short = refl
 sorted-short k (x ∷ []) short = refl
 sorted-short k (x ∷ y ∷ xs) short = absurd (omega arith)
 
--- two halves sorted and merged are the whole sorted
+-- merging the sorted halves of a list gives the sorted list
 pub merged-halves : (k : Kind) (xs : List Bound) (n : ℕ) (first second : List plain.Bound)
     → first ≡ sorted k (bounds_of (take n xs)) → second ≡ sorted k (bounds_of (drop n xs))
     → merged k first second ≡ sorted k (bounds_of xs)

@@ -46,22 +46,22 @@ unit-small AsSum = omega arith
 unit-small AsProd = omega arith
 unit-small AsMax = omega arith
 
--- a fact of numbers that every constant within the limit has
+-- laws for a property of numbers that holds of every constant within the limit
 module _ (F : Bound → Type 0) (of : IsOfNumbers F) (constant : (c : ℕ) → c ≤ constant_limit → F (Constant c)) where
-  -- a node of parts
+  -- if each part has the property in all its nodes, the node of these parts has it
   whole-each : (k : Kind) (ps : List Bound) → Each (EachNode F) ps → EachNode F (whole k ps)
   whole-each AsSum ps each = (of.sum (parts_of ps), Each-parts_of F ps each)
   whole-each AsProd ps each = (of.product (parts_of ps), Each-parts_of F ps each)
   whole-each AsMax ps each = (of.maximum (parts_of ps), Each-parts_of F ps each)
 
-  -- the parts of a part
+  -- if a part has the property in all its nodes, so do its own parts of the kind
   spread-each : (k : Kind) (p : Bound) → EachNode F p → Each (EachNode F) (parts_of_kind k p)
   spread-each AsSum (SumOf ps) each = Each-list_of F ps each.1
   spread-each AsProd (ProductOf ps) each = Each-list_of F ps each.1
   spread-each AsMax (MaximumOf ps) each = Each-list_of F ps each.1
   spread-each k p each = (each, tt)
 
-  -- a constant times the factors of a part
+  -- a constant times the factors of a part with the property has the property
   times-each : (c : ℕ) (p : Bound) → c ≤ constant_limit → EachNode F p → EachNode F (times c (factors_of p))
   times-each c p small each = (
     of.product (parts_of (Constant c ∷ factors_of p)),
@@ -76,13 +76,13 @@ module _ (F : Bound → Type 0) (of : IsOfNumbers F) (constant : (c : ℕ) → c
     product = λ sum c p small filled each. times-each c p small each;
   }
 
-  -- a node of no parts, of one part, and of more
+  -- the case Few keeps the property of each node
   simple-each : (k : Kind) (ps : List Bound) → Each (EachNode F) ps → EachNode F (simple k ps)
   simple-each k [] each = constant (unit_of k) (unit-small k)
   simple-each k (p ∷ []) each = each.0
   simple-each k (p ∷ q ∷ ps) each = whole-each k (p ∷ q ∷ ps) each
 
-  -- a product that may be 0
+  -- the case ZeroProduct keeps the property of each node
   zeroed-each : (k : Kind) (ps : List Bound) → Each (EachNode F) ps → EachNode F (zeroed k ps)
   zeroed-each AsSum ps each = whole-each AsSum ps each
   zeroed-each AsMax ps each = whole-each AsMax ps each
@@ -92,7 +92,7 @@ module _ (F : Bound → Type 0) (of : IsOfNumbers F) (constant : (c : ℕ) → c
       go true = of.zero
       go false = whole-each AsProd ps each
 
-  -- parts as a sum, or a single one
+  -- parts with the property, as a sum or a single one, have it
   sum_or_single-each : (ps : List Bound) → Each (EachNode F) ps → EachNode F (sum_or_single ps)
   sum_or_single-each [] each = whole-each AsSum [] each
   sum_or_single-each (p ∷ []) each = each.0
@@ -109,7 +109,7 @@ module _ (F : Bound → Type 0) (of : IsOfNumbers F) (constant : (c : ℕ) → c
   exponent_left-each (MaximumOf ps) each = each
   exponent_left-each (PowerOf c e) each = each
 
-  -- a power that may be a number
+  -- the case PowerConst keeps the property of each node
   evaluated-each : (n : ℕ) (e : Bound) → EachNode F (PowerOf n e) → EachNode F (evaluated n e)
   evaluated-each n e each = go (number_of_power n e) refl
     where
@@ -117,7 +117,7 @@ module _ (F : Bound → Type 0) (of : IsOfNumbers F) (constant : (c : ℕ) → c
       go None is = each
       go (Some v) is = constant v (number_of_power-some n e v [] is).1
 
-  -- a power that may have a number taken out
+  -- the case PowerShift keeps the property of each node
   shifted-each : (n : ℕ) (e : Bound) → EachNode F (PowerOf n e) → EachNode F (shifted n e)
   shifted-each n e each = go (number_taken n e) refl (exponent_left-each e each.1)
     where
@@ -143,7 +143,7 @@ module _ (F : Bound → Type 0) (of : IsOfNumbers F) (constant : (c : ℕ) → c
   at_power-each Dominate n e each = each
   at_power-each Few n e each = each
 
-  -- the exponent of a power
+  -- the parts of the exponent of a power with the property have it
   exponent-each : (p : Bound) → EachNode F p → Each (EachNode F) (exponent_of p)
   exponent-each (PowerOf c e) each = spread-each AsSum e each.1
   exponent-each (Constant c) each = tt
@@ -152,7 +152,7 @@ module _ (F : Bound → Type 0) (of : IsOfNumbers F) (constant : (c : ℕ) → c
   exponent-each (ProductOf ps) each = tt
   exponent-each (MaximumOf ps) each = tt
 
-  -- powers that may become one
+  -- powers of one base that are merged keep the property
   one_power-each : (p : Bound) (ps : List Bound) → Each (EachNode F) (p ∷ ps) → AreTogether have_one_base p ps
       → Each (EachNode F) (powers_list (p ∷ ps))
   one_power-each p [] each together = each
@@ -171,7 +171,7 @@ module _ (F : Bound → Type 0) (of : IsOfNumbers F) (constant : (c : ℕ) → c
   one_power-each (ProductOf ps) (q ∷ qs) each together = each
   one_power-each (MaximumOf ps) (q ∷ qs) each together = each
 
-  -- factors with powers merged
+  -- the case PowerMerge keeps the property of each node
   powers_merged-each : (k : Kind) (ps : List Bound) → Each (EachNode F) ps → Each (EachNode F) (powers_merged k ps)
   powers_merged-each AsProd ps each =
       Each-all_runs_joined have_one_base powers_list (EachNode F) one_power-each (runs_of have_one_base ps)
@@ -179,13 +179,13 @@ module _ (F : Bound → Type 0) (of : IsOfNumbers F) (constant : (c : ℕ) → c
   powers_merged-each AsSum ps each = each
   powers_merged-each AsMax ps each = each
 
-  -- factors as a product, or a single one
+  -- factors with the property, as a product or a single one, have it
   product_or_single-each : (fs : List Bound) → Each (EachNode F) fs → EachNode F (product_or_single fs)
   product_or_single-each [] each = whole-each AsProd [] each
   product_or_single-each (f ∷ []) each = each.0
   product_or_single-each (f ∷ g ∷ fs) each = whole-each AsProd (f ∷ g ∷ fs) each
 
-  -- parts in their place among other factors
+  -- each product with a part in place of the sum keeps the property
   in_place-each : (before after ps : List Bound) → Each (EachNode F) before → Each (EachNode F) after
       → Each (EachNode F) ps → Each (EachNode F) (each_in_place before after ps)
   in_place-each before after [] b a each = tt
@@ -196,7 +196,7 @@ module _ (F : Bound → Type 0) (of : IsOfNumbers F) (constant : (c : ℕ) → c
     in_place-each before after ps b a each.1,
   )
 
-  -- a product that may be multiplied out
+  -- the case Distribute keeps the property of each node
   distributed-each : (k : Kind) (ps : List Bound) → Each (EachNode F) ps → EachNode F (distributed k ps)
   distributed-each AsSum ps each = whole-each AsSum ps each
   distributed-each AsMax ps each = whole-each AsMax ps each
@@ -210,7 +210,7 @@ module _ (F : Bound → Type 0) (of : IsOfNumbers F) (constant : (c : ℕ) → c
           (Each-parts_of_sum (EachNode F) (EachNode F) (λ qs all. Each-list_of F qs all.1) ps each))
       go false = whole-each AsProd ps each
 
-  -- the result of a case at parts
+  -- each case keeps the property at a node with parts
   at_parts-each : (c : Case) (k : Kind) (ps : List Bound) → Each (EachNode F) ps → EachNode F (at_parts c k ps)
   at_parts-each Flat k ps each = whole-each k (spliced k ps) (Each-spliced k (EachNode F) ps (spread-each k) each)
   at_parts-each FoldConst k ps each = whole-each k (folded k ps) (Each-folded k (EachNode F) ps constant each)
@@ -226,7 +226,7 @@ module _ (F : Bound → Type 0) (of : IsOfNumbers F) (constant : (c : ℕ) → c
   at_parts-each Dominate k ps each = whole-each k (dominant k ps) (Each-dominant k (EachNode F) ps each)
   at_parts-each Few k ps each = simple-each k ps each
 
-  -- the result of a case at a node
+  -- each case keeps the property at a node
   at_node-each : (c : Case) (b : Bound) → EachNode F b → EachNode F (at_node c b)
   unfolding at_node
   at_node-each c (Constant n) each = each
@@ -236,12 +236,12 @@ module _ (F : Bound → Type 0) (of : IsOfNumbers F) (constant : (c : ℕ) → c
   at_node-each c (MaximumOf ps) each = at_parts-each c AsMax (list_of ps) (Each-list_of F ps each.1)
   at_node-each c (PowerOf n e) each = at_power-each c n e each
 
-  -- the result of all cases at a node
+  -- all cases, one after the other, keep the property at a node
   at_node_all-each : (cs : List Case) (b : Bound) → EachNode F b → EachNode F (at_node_all cs b)
   at_node_all-each [] b each = each
   at_node_all-each (c ∷ cs) b each = at_node_all-each cs (at_node c b) (at_node-each c b each)
 
-  -- the result of a pass at the parts
+  -- passing through the parts keeps the property
   mutual
     unfolding parts_passed
 
@@ -259,7 +259,7 @@ module _ (F : Bound → Type 0) (of : IsOfNumbers F) (constant : (c : ℕ) → c
     one_pass_each-each cs (Part p ps) each =
         (at_node_all-each cs (parts_passed cs p) (parts_passed-each cs p each.0), one_pass_each-each cs ps each.1)
 
-  -- the result of passes at a bound
+  -- passes keep the property
   passes-each : (n : ℕ) (cs : List Case) (b : Bound) → EachNode F b → EachNode F (passes n cs b)
   unfolding passes
   passes-each zero cs b each = each
@@ -271,15 +271,15 @@ module _ (F : Bound → Type 0) (of : IsOfNumbers F) (constant : (c : ℕ) → c
       → EachNode F outcome
   simplified-each cs b outcome is each = subst (EachNode F) (sym (is ∙ simplified-is cs b)) (passes-each 16 cs b each)
 
--- bases of at least 1, through the cases and the parts
+-- each case keeps bases of at least 1
 pub at_node-based : (c : Case) (b : Bound) → IsBased b → IsBased (at_node c b)
 at_node-based = at_node-each (IsBasedFrom 1) (bases-of_numbers 1) (λ c small. tt)
 
--- through all cases
+-- all cases, one after the other, keep bases of at least 1
 pub at_node_all-based : (cs : List Case) (b : Bound) → IsBased b → IsBased (at_node_all cs b)
 at_node_all-based = at_node_all-each (IsBasedFrom 1) (bases-of_numbers 1) (λ c small. tt)
 
--- a pass through the parts keeps the property
+-- a pass through the parts keeps bases of at least 1
 pub parts_passed-based : (cs : List Case) (b : Bound) → IsBased b → IsBased (parts_passed cs b)
 parts_passed-based = parts_passed-each (IsBasedFrom 1) (bases-of_numbers 1) (λ c small. tt)
 

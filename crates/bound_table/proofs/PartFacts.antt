@@ -20,7 +20,7 @@ use Rattle.bound_table.specs.Dominance.{dominant_after, dominant}
 use Rattle.bound_table.specs.Below.{below}
 use Rattle.bound_table.proofs.Each.{Each, IsFilled, Each-append}
 
--- a property of the new parts that a case makes in a node of the kind
+-- a property that the new parts have that a case makes in a node of the kind
 pub record IsKept (k : Kind) (P : Bound → Type 0) : Type 0 where
   pub constant : (c : ℕ) → c ≤ constant_limit → P (Constant c)
   pub inner : (p : Bound) → P p → Each P (parts_of_kind k p)
@@ -79,7 +79,7 @@ Each-without_neutral k P (p ∷ ps) each = go (is_neutral k p) (Each-without_neu
     go true ih = ih
     go false ih = (each.0, ih)
 
--- inserting one of which it holds
+-- inserting a part that has the property keeps it of each part
 Each-inserted : (k : Kind) (P : Bound → Type 0) (p : Bound) (ps : List Bound) → P p → Each P ps
     → Each P (inserted k p ps)
 Each-inserted k P p [] here each = (here, tt)
@@ -94,7 +94,7 @@ pub Each-sorted : (k : Kind) (P : Bound → Type 0) (ps : List Bound) → Each P
 Each-sorted k P [] each = tt
 Each-sorted k P (p ∷ ps) each = Each-inserted k P p (sorted k ps) each.0 (Each-sorted k P ps each.1)
 
--- dropping what is below another keeps it
+-- dropping parts that are below others keeps the property of each part
 pub Each-dominant_after : (P : Bound → Type 0) (kept ps : List Bound) → Each P kept → Each P ps
     → Each P (dominant_after kept ps)
 Each-dominant_after P kept [] each each' = each
@@ -107,13 +107,13 @@ Each-dominant_after P kept (p ∷ ps) each each' =
     go true ih ih' = ih
     go false ih ih' = ih'
 
--- the parts that stay have the property
+-- the parts of a maximum that aren't dropped have the property
 pub Each-dominant : (k : Kind) (P : Bound → Type 0) (ps : List Bound) → Each P ps → Each P (dominant k ps)
 Each-dominant AsMax P ps each = Each-dominant_after P [] ps tt each
 Each-dominant AsSum P ps each = each
 Each-dominant AsProd P ps each = each
 
--- a fact of every run
+-- a property holds of each run
 abbrev pub EachRun : (Run → Type 0) → List Run → Type 0
 EachRun P [] = Unit {0}
 EachRun P (r ∷ rs) = P r × EachRun P rs
@@ -123,12 +123,12 @@ abbrev pub AreTogether : (Bound → Bound → Bool) → Bound → List Bound →
 AreTogether together p [] = Unit {0}
 AreTogether together p (q ∷ qs) = (together p q ≡ true) × AreTogether together q qs
 
--- a run of parts of which a fact holds
+-- a run of neighbours that belong together, whose parts have the property
 pub record IsGoodRun (together : Bound → Bound → Bool) (P : Bound → Type 0) (r : Run) : Type 0 where
   pub each : Each P (run_parts r)
   pub alike : AreTogether together r.first r.others
 
--- a part before such runs makes such runs
+-- a part with the property, put before good runs, makes good runs
 with_part_before-good : (t : Bound → Bound → Bool) (P : Bound → Type 0) (p : Bound) (rs : List Run) → P p
     → EachRun (IsGoodRun t P) rs → EachRun (IsGoodRun t P) (with_part_before t p rs)
 with_part_before-good t P p [] here good = (record { each = (here, tt); alike = tt }, tt)
@@ -139,7 +139,7 @@ with_part_before-good t P p (r ∷ rs) here good = go (t p r.first) refl
     go true like = (record { each = (here, good.0.each); alike = (like, good.0.alike) }, good.1)
     go false unlike = (record { each = (here, tt); alike = tt }, good)
 
--- the runs of such parts are good
+-- the runs of parts with the property are good
 pub runs_of-good : (t : Bound → Bound → Bool) (P : Bound → Type 0) (ps : List Bound) → Each P ps
     → EachRun (IsGoodRun t P) (runs_of t ps)
 runs_of-good t P [] each = tt
@@ -154,12 +154,12 @@ Each-all_runs_joined t join P one (r ∷ rs) good =
     Each-append P (join (run_parts r)) (all_runs_joined join rs) (one r.first r.others good.0.each good.0.alike)
     (Each-all_runs_joined t join P one rs good.1)
 
--- factors that are the same as others are some
+-- lists of the same factors are not empty
 same_factors-filled : (fs gs : List Bound) → are_same_factors fs gs ≡ true → IsFilled fs
 same_factors-filled [] gs same = cc
 same_factors-filled (f ∷ fs) gs same = tt
 
--- a joined run keeps it
+-- joining a run of like parts keeps the property
 Each-joined_list : (k : Kind) (P : Bound → Type 0) → k ≡ AsSum → IsKept k P → (p : Bound) (ps : List Bound)
     → Each P (p ∷ ps) → AreTogether is_like p ps → Each P (joined_list (p ∷ ps))
 Each-joined_list k P sum kept p [] each alike = each

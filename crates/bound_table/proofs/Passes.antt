@@ -9,19 +9,19 @@ use Rattle.bound_table.specs.Comparison.{compared}
 use Rattle.bound_table.proofs.TotalOrder.{is_eq-same}
 use Rattle.bound_table.specs.Rewriting.{one_pass_each, one_pass, passes_until_same, simplified}
 
--- one more part is passed by itself
+-- passing through parts with one more at the end passes through that part too
 pub one_pass_each-with_part : (cs : List Case) (ps : Parts) (p : Bound)
     → one_pass_each cs (with_part ps p) ≡ with_part (one_pass_each cs ps) (one_pass cs p)
 unfolding one_pass_each
 one_pass_each-with_part cs NoParts p = refl
 one_pass_each-with_part cs (Part q qs) p = ap (Part (one_pass cs q)) (one_pass_each-with_part cs qs p)
 
--- no part is passed
+-- passing through no parts gives no parts
 pub one_pass_each-none : (cs : List Case) → one_pass_each cs NoParts ≡ NoParts
 unfolding one_pass_each
 one_pass_each-none cs = refl
 
--- the steps of a loop over the parts
+-- rewrites the steps of a loop over the parts
 pub ruleset one_pass_each_steps = (one_pass_each-with_part, one_pass_each-none, parts_of-push, parts_of-take_more)
 
 -- n passes, whether they change something or not
@@ -50,12 +50,12 @@ passes_until_same-is (suc n) cs b =
         sym (ap (passes n cs) nothing ∙ passes-same n cs b nothing)
     go false is rest = rest
 
--- sixteen passes give the outcome
+-- the rewriting has the result of sixteen passes
 pub simplified-is : (cs : List Case) (b : Bound) → simplified cs b ≡ passes 16 cs b
 unfolding simplified
 simplified-is cs b = passes_until_same-is 16 cs b
 
--- one pass less to come after one more pass
+-- after one more pass, one pass less is to come
 pub passes-step : (n : ℕ) (cs : List Case) (b : Bound) → 0 < n → passes n cs b ≡ passes (n - 1) cs (one_pass cs b)
 unfolding passes
 passes-step zero cs b h = absurd (omega arith)
@@ -69,7 +69,7 @@ simplified-same n cs b now next h still is same =
     let again : one_pass cs now ≡ now = sym is ∙ same in
     same ∙ sym (passes-same n cs now again) ∙ still ∙ sym (simplified-is cs b)
 
--- all the passes give the outcome
+-- when no pass is left, the current bound is the result of the rewriting
 pub simplified-done : (n : ℕ) (cs : List Case) (b now : Bound) → n ≡ 0 → passes n cs now ≡ passes 16 cs b
     → now ≡ simplified cs b
 unfolding passes

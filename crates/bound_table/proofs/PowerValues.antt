@@ -18,7 +18,7 @@ use Rattle.bound_table.proofs.CaseValues.{parts_at-append, parts_at-spread}
 use Rattle.bound_table.proofs.PartFacts.{AreTogether}
 use Rattle.bound_table.proofs.RunValues.{parts_at-runs_joined}
 
--- a power that is small is the power, and at most 2^127 - 1
+-- if `small_power` has a value, it is the power, and at most 2^127 - 1
 pub small_power-some : (c n v : ℕ) → small_power c n ≡ Some v → (v ≡ c ^ n) × (v ≤ constant_limit)
 small_power-some c n v is = go (nat_le (c ^ n) constant_limit) refl is
   where
@@ -29,7 +29,7 @@ small_power-some c n v is = go (nat_le (c ^ n) constant_limit) refl is
         (same, subst (λ (w : ℕ). w ≤ constant_limit) (sym same) (leb-true (c ^ n) constant_limit within))
     go false within is = cc
 
--- the number of a power is its value
+-- if a power has a number, that is its value
 pub number_of_power-some : (c : ℕ) (e : Bound) (v : ℕ) (m : List ℕ) → number_of_power c e ≡ Some v
     → (v ≡ c ^ val e m) × (v ≤ constant_limit)
 number_of_power-some c (Constant n) v m is = small_power-some c n v is
@@ -47,19 +47,19 @@ val-evaluated c e m = go (number_of_power c e) refl
     go None is = refl
     go (Some v) is = (number_of_power-some c e v m is).0
 
--- parts are their first constant and the others
+-- a number and the remaining parts are the power of all parts
 record HasTaken (c : ℕ) (ps : List Bound) (v : ℕ) (m : List ℕ) : Type 0 where
   taken : ℕ
   is_power : v ≡ c ^ taken
   small : v ≤ constant_limit
   sum : sum_at ps m ≡ taken + sum_at (but_first_constant ps) m
 
--- one more part before them
+-- a part put before parts with a number taken out keeps the number taken out
 HasTaken-before : (c : ℕ) (p : Bound) (ps : List Bound) (v : ℕ) (m : List ℕ) → HasTaken c ps v m
     → (n : ℕ) × (v ≡ c ^ n) × (v ≤ constant_limit) × (val p m + sum_at ps m ≡ n + (val p m + sum_at (but_first_constant ps) m))
 HasTaken-before c p ps v m has = (has.taken, has.is_power, has.small, omega (arith, has.sum))
 
--- the factors have the value if a power is taken out
+-- if the power of the first constant is taken out, the remaining parts have the remaining exponent
 first_power-taken : (c : ℕ) (ps : List Bound) (v : ℕ) (m : List ℕ) → first_power c ps ≡ Some v → HasTaken c ps v m
 first_power-taken c [] v m is = cc
 first_power-taken c (Constant n ∷ ps) v m is =
@@ -115,7 +115,7 @@ val-shifted c e m = go (number_taken c e) refl
         let one : v * (c ^ val (exponent_left e) m * 1) ≡ v * c ^ val (exponent_left e) m = omega arith in
         one ∙ (number_taken-some c e v m is).0
 
--- a power before powers of its base, which are that base to the sum of their exponents
+-- the product of a power and powers of the same base is that base to the sum of the exponents
 powers-before : (c : ℕ) (e f : Bound) (ps : List Bound) (m : List ℕ)
     → product_at (PowerOf c f ∷ ps) m ≡ c ^ sum_at (exponents_of (PowerOf c f ∷ ps)) m
     → product_at (PowerOf c e ∷ PowerOf c f ∷ ps) m ≡ c ^ sum_at (exponents_of (PowerOf c e ∷ PowerOf c f ∷ ps)) m
@@ -128,7 +128,7 @@ powers-before c e f ps m are =
     (parts_at-append AsSum (parts_of_kind AsSum e) (exponents_of (PowerOf c f ∷ ps)) m
     ∙ ap (λ (w : ℕ). w + left) (parts_at-spread AsSum e m)))
 
--- powers of one base are that base to the sum of their exponents
+-- the product of powers of one base is that base to the sum of the exponents
 powers-product : (c : ℕ) (e : Bound) (ps : List Bound) (m : List ℕ) → AreTogether have_one_base (PowerOf c e) ps
     → product_at (PowerOf c e ∷ ps) m ≡ c ^ sum_at (exponents_of (PowerOf c e ∷ ps)) m
 powers-product c e [] m together =
@@ -151,7 +151,7 @@ powers-product c e (SumOf qs ∷ ps) m together = let no = together.0 in cc
 powers-product c e (ProductOf qs ∷ ps) m together = let no = together.0 in cc
 powers-product c e (MaximumOf qs ∷ ps) m together = let no = together.0 in cc
 
--- a merged run has the product of its parts
+-- the factors that replace a run of powers have the product of the run
 powers_list-product : (p : Bound) (ps : List Bound) (m : List ℕ) → AreTogether have_one_base p ps
     → product_at (powers_list (p ∷ ps)) m ≡ product_at (p ∷ ps) m
 powers_list-product p [] m together = refl

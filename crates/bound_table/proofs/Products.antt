@@ -31,27 +31,27 @@ pub val_sum-list_of : (ps : Parts) (m : List ℕ) → val_sum ps m ≡ sum_at (l
 val_sum-list_of NoParts m = refl
 val_sum-list_of (Part p ps) m = ap (λ (v : ℕ). val p m + v) (val_sum-list_of ps m)
 
--- of a product
+-- the value of a product of parts is that of their list
 pub val_product-list_of : (ps : Parts) (m : List ℕ) → val_product ps m ≡ product_at (list_of ps) m
 val_product-list_of NoParts m = refl
 val_product-list_of (Part p ps) m = ap (λ (v : ℕ). val p m * v) (val_product-list_of ps m)
 
--- of a maximum
+-- the value of a maximum of parts is that of their list
 pub val_maximum-list_of : (ps : Parts) (m : List ℕ) → val_maximum ps m ≡ maximum_at (list_of ps) m
 val_maximum-list_of NoParts m = refl
 val_maximum-list_of (Part p ps) m = ap (λ (v : ℕ). max (val p m) v) (val_maximum-list_of ps m)
 
--- the sum of parts made from a list
+-- the value of a sum of parts made from a list is that of the list
 pub val_sum-parts_of : (ps : List Bound) (m : List ℕ) → val_sum (parts_of ps) m ≡ sum_at ps m
 val_sum-parts_of [] m = refl
 val_sum-parts_of (p ∷ ps) m = ap (λ (v : ℕ). val p m + v) (val_sum-parts_of ps m)
 
--- of a product
+-- the value of a product of parts made from a list is that of the list
 pub val_product-parts_of : (ps : List Bound) (m : List ℕ) → val_product (parts_of ps) m ≡ product_at ps m
 val_product-parts_of [] m = refl
 val_product-parts_of (p ∷ ps) m = ap (λ (v : ℕ). val p m * v) (val_product-parts_of ps m)
 
--- of a maximum
+-- the value of a maximum of parts made from a list is that of the list
 pub val_maximum-parts_of : (ps : List Bound) (m : List ℕ) → val_maximum (parts_of ps) m ≡ maximum_at ps m
 val_maximum-parts_of [] m = refl
 val_maximum-parts_of (p ∷ ps) m = ap (λ (v : ℕ). max (val p m) v) (val_maximum-parts_of ps m)

@@ -14,7 +14,7 @@ abbrev all_parts : List Run → List Bound
 all_parts [] = []
 all_parts (r ∷ rs) = run_parts r ++ all_parts rs
 
--- a part before runs is before their parts
+-- the parts of all runs with a part put before them are that part and the parts of the runs
 all_parts-before : (t : Bound → Bound → Bool) (p : Bound) (rs : List Run)
     → all_parts (with_part_before t p rs) ≡ p ∷ all_parts rs
 all_parts-before t p [] = refl
@@ -26,7 +26,7 @@ all_parts-before t p (r ∷ rs) = go (t p r.first)
     go true = refl
     go false = refl
 
--- the parts of the runs are the parts
+-- the parts of the runs that parts are cut into are these parts
 all_parts-runs_of : (t : Bound → Bound → Bool) (ps : List Bound) → all_parts (runs_of t ps) ≡ ps
 all_parts-runs_of t [] = refl
 all_parts-runs_of t (p ∷ ps) =

@@ -9,12 +9,12 @@ use Rattle.bound_table.specs.declared.kinds.Joining.TheVariants.{AsLikes, AsPowe
 use Rattle.bound_table.specs.Runs.{Run, run_parts, with_part_before, runs_of, all_runs_joined, last_belongs}
 use Rattle.bound_table.specs.Joining.{belong_together, run_joined}
 
--- no parts are joined to no parts
+-- joining an empty run gives no parts
 run_joined-nothing : (j : Joining) → run_joined j [] ≡ []
 run_joined-nothing AsLikes = refl
 run_joined-nothing AsPowers = refl
 
--- neighbours that are joined in one of the two ways
+-- laws for each of the two ways of joining neighbours
 module _ (j : Joining) where
   -- two neighbours that belong together
   abbrev pub are_one : plain.Bound → plain.Bound → Bool
@@ -42,14 +42,14 @@ module _ (j : Joining) where
   IsChain (p ∷ []) = Unit {0}
   IsChain (p ∷ q ∷ ps) = (are_one p q ≡ true) × IsChain (q ∷ ps)
 
-  -- one more part that belongs together with the last one
+  -- a chain with one more part that belongs together with its last one is a chain
   pub IsChain-more : (ps : List plain.Bound) (q : plain.Bound) → IsChain ps → goes_on ps q ≡ true
       → IsChain (ps ++ q ∷ [])
   IsChain-more [] q chain like = cc
   IsChain-more (p ∷ []) q chain like = (like, tt)
   IsChain-more (p ∷ r ∷ ps) q chain like = (chain.0, IsChain-more (r ∷ ps) q chain.1 like)
 
-  -- the first run before other runs begins with the part
+  -- if a part doesn't belong together with the next one, it is the first run, alone
   runs-first : (p q : plain.Bound) (qs : List plain.Bound) → are_one p q ≡ false
       → before_runs p (cut (q ∷ qs)) ≡ record { first = p; others = [] } ∷ cut (q ∷ qs)
   runs-first p q qs unlike = go (cut qs)
@@ -95,7 +95,7 @@ module _ (j : Joining) where
       (λ b. cond b (record { first = p; others = r ∷ ps } ∷ []) (record { first = p; others = [] } ∷ record { first = r; others = ps } ∷ []))
       chain.0
 
-  -- the parts of a run that has ended, and those after it
+  -- parts joined run by run, where the first run has ended: that run joined, and the parts after it joined
   pub runs-ended : (run : List plain.Bound) (q : plain.Bound) (qs : List plain.Bound) → IsChain run
       → goes_on run q ≡ false
       → joined_by_runs (run ++ q ∷ qs) ≡ run_joined j run ++ joined_by_runs (q ∷ qs)
@@ -103,7 +103,7 @@ module _ (j : Joining) where
       sym (ap (λ (ps : List plain.Bound). ps ++ joined_by_runs (q ∷ qs)) (run_joined-nothing j))
   runs-ended (p ∷ ps) q qs chain unlike = ap (all_runs_joined (run_joined j)) (runs-chain p ps q qs chain unlike)
 
-  -- the last run
+  -- parts joined run by run, where all are one run: that run joined
   pub runs-last : (run : List plain.Bound) → IsChain run → joined_by_runs (run ++ []) ≡ run_joined j run
   runs-last [] chain = sym (run_joined-nothing j)
   runs-last (p ∷ ps) chain =
@@ -119,13 +119,13 @@ module _ (j : Joining) where
   last_belongs-at (y ∷ z ∷ xs) zero x q h e = absurd (omega arith)
   last_belongs-at (y ∷ z ∷ xs) (suc i) x q h e = last_belongs-at (z ∷ xs) i x q (omega arith) e
 
-  -- the state of joining parts: those that are done, a run, and the parts that are left; together they are the joined
-  -- whole
+  -- the state of joining parts run by run: the parts that are done, the current run, and the parts that are left;
+  -- together they give the parts joined run by run
   pub record Stands (done run left all : List plain.Bound) : Type 0 where
     pub joined : done ++ joined_by_runs (run ++ left) ≡ joined_by_runs all
     pub chain : IsChain run
 
-  -- a part that continues the run
+  -- a part that continues the current run keeps the state
   pub Stands-more : (done run : List plain.Bound) (q : plain.Bound) (qs all now : List plain.Bound)
       → Stands done run (q ∷ qs) all → goes_on run q ≡ true
       → now ≡ run ++ q ∷ [] → Stands done now qs all
@@ -138,7 +138,7 @@ module _ (j : Joining) where
         chain = subst IsChain (sym is) (IsChain-more run q stands.chain like);
       }
 
-  -- a part that begins a run of its own
+  -- a part that doesn't continue the run ends it and begins another
   pub Stands-ended : (done run : List plain.Bound) (q : plain.Bound) (qs all now more : List plain.Bound)
       → Stands done run (q ∷ qs) all → goes_on run q ≡ false
       → more ≡ done ++ run_joined j run → now ≡ q ∷ [] → Stands more now qs all
@@ -153,7 +153,7 @@ module _ (j : Joining) where
         chain = subst IsChain (sym is) tt;
       }
 
-  -- nothing is left
+  -- when no part is left, the finished parts and the last run joined are the result
   pub Stands-last : (done run all more : List plain.Bound) → Stands done run [] all → more ≡ done ++ run_joined j run
       → more ≡ joined_by_runs all
   Stands-last done run all more stands is =

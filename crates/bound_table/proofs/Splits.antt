@@ -19,11 +19,11 @@ pub record ArePassed (seen left all : List plain.Bound) : Type 0 where
   pub after : after_sum left ≡ after_sum all
   pub has : has_sum left ≡ has_sum all
 
--- at first all are left
+-- before the search all factors are left
 pub ArePassed-none : (all : List plain.Bound) → ArePassed [] all all
 ArePassed-none all = record { before = refl; parts = refl; after = refl; has = refl }
 
--- a factor that isn't a sum comes before the first sum
+-- if the first factor isn't a sum, it is the first of the factors before the first sum
 before_sum-other : (p : plain.Bound) (ps : List plain.Bound) → is_sum p ≡ false
     → (before_sum (p ∷ ps) ≡ p ∷ before_sum ps) × (parts_of_sum (p ∷ ps) ≡ parts_of_sum ps) × (after_sum (p ∷ ps) ≡ after_sum ps) × (has_sum (p ∷ ps) ≡ has_sum ps)
 before_sum-other (Constant c) ps other = (refl, refl, refl, refl)
@@ -33,7 +33,7 @@ before_sum-other (ProductOf qs) ps other = (refl, refl, refl, refl)
 before_sum-other (MaximumOf qs) ps other = (refl, refl, refl, refl)
 before_sum-other (PowerOf c e) ps other = (refl, refl, refl, refl)
 
--- it is one of the factors that were passed
+-- a factor that isn't a sum is added to the factors that have been seen
 pub ArePassed-more : (seen : List plain.Bound) (p : plain.Bound) (ps all : List plain.Bound) → is_sum p ≡ false
     → ArePassed seen (p ∷ ps) all
     → ArePassed (seen ++ p ∷ []) ps all
@@ -48,7 +48,7 @@ ArePassed-more seen p ps all other passed =
       has = sym next.3 ∙ passed.has;
     }
 
--- a sum ends the search
+-- at a sum, the factors are split into those seen, its parts and those left
 pub ArePassed-found : (seen : List plain.Bound) (p : plain.Bound) (ps all : List plain.Bound) → is_sum p ≡ true
     → ArePassed seen (p ∷ ps) all
     → IsSplit all seen (terms_of p) ps
@@ -69,7 +69,7 @@ pub ArePassed-start : (xs : List Bound) → ArePassed (bounds_of (take 0 xs)) (b
 ArePassed-start [] = ArePassed-none []
 ArePassed-start (x ∷ xs) = ArePassed-none (bounds_of (x ∷ xs))
 
--- a turn of the loop
+-- a turn of the loop at a factor that isn't a sum
 pub ArePassed-turn : (xs : List Bound) (i : ℕ) (x : Bound) → i < length xs → x ≡ get_or xs i x
     → is_sum (bound_of x) ≡ false
     → ArePassed (bounds_of (take i xs)) (bounds_of (drop i xs)) (bounds_of xs)
@@ -82,7 +82,7 @@ ArePassed-turn xs i x h e other passed =
     (ArePassed-more (bounds_of (take i xs)) (bound_of x) (bounds_of (drop (i + 1) xs)) (bounds_of xs) other
     (subst (λ (ps : List plain.Bound). ArePassed (bounds_of (take i xs)) ps (bounds_of xs)) (bounds_of-drop xs i x h e) passed))
 
--- the loop finds a sum
+-- the loop ends at a sum with the factors split there
 pub ArePassed-end : (xs : List Bound) (i : ℕ) (x : Bound) → i < length xs → x ≡ get_or xs i x
     → is_sum (bound_of x) ≡ true
     → ArePassed (bounds_of (take i xs)) (bounds_of (drop i xs)) (bounds_of xs)
@@ -91,7 +91,7 @@ ArePassed-end xs i x h e is passed =
     ArePassed-found (bounds_of (take i xs)) (bound_of x) (bounds_of (drop (i + 1) xs)) (bounds_of xs) is
     (subst (λ (ps : List plain.Bound). ArePassed (bounds_of (take i xs)) ps (bounds_of xs)) (bounds_of-drop xs i x h e) passed)
 
--- where the loop ends no factor is a sum
+-- if the loop ends without a sum, no factor is a sum
 pub ArePassed-all : (xs : List Bound) (i : ℕ) → length xs ≤ i
     → ArePassed (bounds_of (take i xs)) (bounds_of (drop i xs)) (bounds_of xs)
     → has_sum (bounds_of xs) ≡ false

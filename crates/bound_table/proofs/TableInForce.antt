@@ -21,22 +21,22 @@ in_force-tidying = record {
   is = refl;
 }
 
--- the table keeps the value
+-- rewriting by the table in force keeps the value
 pub rewritten-value : (b : Bound) → IsBased b → HasValueOf (rewritten b) b
 unfolding rewritten
 rewritten-value b based = simplified-value cases_in_force b (rewritten b) refl based
 
--- the table keeps the properties of the numbers
+-- rewriting by the table in force keeps the properties of the numbers
 pub rewritten-numbers : (b : Bound) → KeepsNumbers (rewritten b) b
 unfolding rewritten
 rewritten-numbers b = simplified-numbers cases_in_force b (rewritten b) refl
 
--- the table's result reads no further input
+-- a bound rewritten by the table in force reads no further input
 pub rewritten-reads : (b : Bound) → ReadsNoMore (rewritten b) b
 unfolding rewritten
 rewritten-reads b = simplified-reads cases_in_force b (rewritten b) refl
 
--- the results of the table are tidy
+-- a bound rewritten by the table in force is tidy
 pub rewritten-tidy : (b : Bound) → HasTidyNumbers b → IsTidy (rewritten b)
 unfolding rewritten
 rewritten-tidy b has = simplified-tidy cases_in_force b (rewritten b) refl in_force-tidying has

@@ -1,4 +1,4 @@
--- Parts that take parts one after another: one more that is offered, marks of those taken, and those left over.
+-- Parts that take parts one after another: offering one more part, the marks of the parts taken, and those left over.
 use Rattle.std.proofs.Common.{◌≡◌, ℕ, ◌<◌, ◌==◌, Bool, true, false, cond, ◌&&◌, ◌||◌, List, [], ◌∷◌, length, slice_set}
 use Rattle.std.proofs.Common.{slice_index_or, refl, ap, sym, ◌∙◌, arith}
 use Rattle.std.specs.Prelude.{replicate}
@@ -11,12 +11,12 @@ use Rattle.bound_table.specs.Kinds.{is_power_or_input, is_same_input}
 use Rattle.bound_table.specs.Below.{matches, leftovers, may_be_leftover}
 use Rattle.bound_table.specs.Taking.{marked_one, marked, input_among, IsMarked}
 
--- nothing is taken or left of no parts
+-- of no parts none is taken and none is left over
 pub taken-none : (related : Bound → Bound → Bool) (ps : List Bound) → matches related ps [] ≡ []
 taken-none related [] = refl
 taken-none related (p ∷ ps) = refl
 
--- marks keep their number
+-- setting a mark keeps the number of marks
 length-marked_one : (marks : List Bool) (t : Bound) → length (marked_one marks t) ≡ length marks
 length-marked_one marks (Input i) = length-set marks i true
 length-marked_one marks (Constant c) = refl
@@ -25,12 +25,12 @@ length-marked_one marks (ProductOf ps) = refl
 length-marked_one marks (MaximumOf ps) = refl
 length-marked_one marks (PowerOf c e) = refl
 
--- all marks together keep the length
+-- setting all marks keeps the number of marks
 pub length-marked : (marks : List Bool) (ts : List Bound) → length (marked marks ts) ≡ length marks
 length-marked marks [] = refl
 length-marked marks (t ∷ ts) = length-marked (marked_one marks t) ts ∙ length-marked_one marks t
 
--- one more mark
+-- one more mark is set exactly at the number of its input
 get_or-marked_one : (marks : List Bool) (t : Bound) (i : ℕ) → i < length marks
     → slice_index_or (marked_one marks t) i false ≡ (is_same_input (Input i) t || slice_index_or marks i false)
 get_or-marked_one marks (Input j) i h = go (i == j) refl
@@ -52,14 +52,14 @@ pub or-false : (b : Bool) → (b || false) ≡ b
 or-false true = refl
 or-false false = refl
 
--- two changed in a row of three
+-- the disjunction of three tests doesn't depend on their order
 or-swap : (a b c : Bool) → (a || (b || c)) ≡ ((b || a) || c)
 or-swap true true c = refl
 or-swap true false c = refl
 or-swap false true c = refl
 or-swap false false c = refl
 
--- all marks together
+-- a mark is set exactly if it was before, or one of the inputs has its number
 get_or-marked : (marks : List Bool) (ts : List Bound) (i : ℕ) → i < length marks
     → slice_index_or (marked marks ts) i false ≡ (slice_index_or marks i false || list_any (is_same_input (Input i)) ts)
 get_or-marked marks [] i h = sym (or-false (slice_index_or marks i false))
@@ -86,7 +86,7 @@ marked-IsMarked n marks ts is = record {
 same_input-self : (i : ℕ) → is_same_input (Input i) (Input i) ≡ true
 same_input-self i = eq-eqb i i refl
 
--- an element among some is among more
+-- an input among some bounds is among them with one more
 input_among-more : (ts : List Bound) (t g : Bound) → input_among ts g ≡ true → input_among (t ∷ ts) g ≡ true
 input_among-more ts t (Input i) h = go (is_same_input (Input i) t)
   where
@@ -99,7 +99,7 @@ input_among-more ts t (ProductOf ps) h = refl
 input_among-more ts t (MaximumOf ps) h = refl
 input_among-more ts t (PowerOf c e) h = refl
 
--- an element that is taken is among those taken
+-- an input is among bounds that begin with it
 input_among-first : (ts : List Bound) (t : Bound) → input_among (t ∷ ts) t ≡ true
 input_among-first ts (Input i) = ap (λ v. v || list_any (is_same_input (Input i)) ts) (same_input-self i)
 input_among-first ts (Constant c) = refl
@@ -132,14 +132,14 @@ spare-kind us (ProductOf ps) = refl
 spare-kind us (MaximumOf ps) = refl
 spare-kind us (PowerOf c e) = refl
 
--- two changed in a row of four
+-- the conjunction of four tests doesn't depend on the order of the middle two
 and-swap : (a b c d : Bool) → ((a && b) && (c && d)) ≡ ((a && c) && (b && d))
 and-swap true true c d = refl
 and-swap true false true d = refl
 and-swap true false false d = refl
 and-swap false b c d = refl
 
--- the elements may be left over if they are powers and inputs, and every input offered is among those taken
+-- the elements left over may be left over exactly if they are powers and inputs, and every input is among those taken
 spare-split_among : (related : Bound → Bound → Bool) (us ps qs : List Bound) → AllAmong us (matches related ps qs)
     → list_all (may_be_leftover us) (leftovers related ps qs)
     ≡ (list_all is_power_or_input (leftovers related ps qs) && list_all (input_among us) qs)
@@ -166,7 +166,7 @@ spare-split_among related us (p ∷ ps) (q ∷ qs) all =
         ∙ and-swap (is_power_or_input q) (input_among us q) (list_all is_power_or_input (leftovers related (p ∷ ps) qs))
         (list_all (input_among us) qs)
 
--- whether the elements may be left over is split into two tests
+-- the test of the elements left over is that of their kinds and that of the inputs
 pub spare-split : (related : Bound → Bound → Bool) (ps qs : List Bound)
     → list_all (may_be_leftover (matches related ps qs)) (leftovers related ps qs)
     ≡ (list_all is_power_or_input (leftovers related ps qs) && list_all (input_among (matches related ps qs)) qs)

@@ -81,7 +81,7 @@ at_node-nearly c (ProductOf ps) near = at_parts-nearly c AsProd (list_of ps) nea
 at_node-nearly c (MaximumOf ps) near = at_parts-nearly c AsMax (list_of ps) near
 at_node-nearly c (PowerOf n e) near = at_power-nearly c n e near
 
--- `Few` makes it tidy
+-- the case Few makes a nearly tidy node tidy
 few-tidy : (b : Bound) → IsNearlyTidy b → IsTidy (at_node Few b)
 unfolding at_node
 few-tidy (Constant n) near = near
@@ -91,7 +91,7 @@ few-tidy (ProductOf ps) near = simple-tidy AsProd (list_of ps) near
 few-tidy (MaximumOf ps) near = simple-tidy AsMax (list_of ps) near
 few-tidy (PowerOf n e) near = near
 
--- a bound with tidy parts
+-- all parts of the bound are tidy
 abbrev HasTidyParts : Bound → Type 0
 HasTidyParts (Constant c) = c ≤ constant_limit
 HasTidyParts (Input i) = Unit {0}
@@ -100,13 +100,13 @@ HasTidyParts (ProductOf ps) = Each IsTidy (list_of ps)
 HasTidyParts (MaximumOf ps) = Each IsTidy (list_of ps)
 HasTidyParts (PowerOf c e) = (2 ≤ c) × IsTidy e
 
--- splicing makes parts tidy parts
+-- splicing tidy parts leaves no part of the node's own kind
 spliced-tidy : (k : Kind) (ps : List Bound) → Each IsTidy ps → Each (IsTidyPart k) (spliced k ps)
 spliced-tidy k [] each = tt
 spliced-tidy k (p ∷ ps) each =
     Each-append (IsTidyPart k) (parts_of_kind k p) (spliced k ps) (tidy-spread k p each.0) (spliced-tidy k ps each.1)
 
--- `Flat` makes a node of tidy parts nearly tidy
+-- the case Flat makes a node of tidy parts nearly tidy
 flat-nearly : (b : Bound) → HasTidyParts b → IsNearlyTidy (at_node Flat b)
 unfolding at_node
 flat-nearly (Constant n) has = has
@@ -117,7 +117,7 @@ flat-nearly (ProductOf ps) has =
 flat-nearly (MaximumOf ps) has = whole-nearly AsMax (spliced AsMax (list_of ps)) (spliced-tidy AsMax (list_of ps) has)
 flat-nearly (PowerOf n e) has = has
 
--- the cases between keep it, and Few ends it
+-- cases after which Few comes make a nearly tidy node tidy
 ended-tidy : (cs : List Case) (b : Bound) → IsNearlyTidy b → IsTidy (at_node_all (cs ++ Few ∷ []) b)
 ended-tidy [] b near = few-tidy b near
 ended-tidy (c ∷ cs) b near = ended-tidy cs (at_node c b) (at_node-nearly c b near)
@@ -128,7 +128,7 @@ at_node_all-tidy cs tidying b has =
     subst (λ (ds : List Case). IsTidy (at_node_all ds b)) (sym tidying.is)
     (ended-tidy tidying.between (at_node Flat b) (flat-nearly b has))
 
--- a pass makes a bound tidy
+-- passing through the parts, and a whole pass, make them tidy
 mutual
   unfolding parts_passed
 
@@ -154,7 +154,7 @@ mutual
 one_pass-tidy : (cs : List Case) → IsTidying cs → (b : Bound) → HasTidyNumbers b → IsTidy (one_pass cs b)
 one_pass-tidy cs tidying b has = at_node_all-tidy cs tidying (parts_passed cs b) (parts_passed-tidy cs tidying b has)
 
--- further passes keep it
+-- further passes keep a bound tidy
 passes-tidy : (n : ℕ) (cs : List Case) → IsTidying cs → (b : Bound) → IsTidy b → IsTidy (passes n cs b)
 unfolding passes
 passes-tidy zero cs tidying b tidy = tidy

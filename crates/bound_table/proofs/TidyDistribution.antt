@@ -15,7 +15,7 @@ use Rattle.bound_table.proofs.Kept.{Each-before_sum, Each-parts_of_sum, Each-aft
 use Rattle.bound_table.proofs.TidyParts.{IsTidyPart, each-part, IsNearlyTidy, whole-nearly, tidy-spread}
 use Rattle.bound_table.proofs.TidyPowers.{length-list_of, spread-some, whole-many}
 
--- two tidy factors at least are a tidy part of a sum
+-- the product of at least two tidy factors is a tidy part of a sum
 product-part : (fs : List Bound) → Each (IsTidyPart AsProd) fs → 2 ≤ length fs → IsTidyPart AsSum (product_or_single fs)
 product-part [] each many = absurd (omega arith)
 product-part (f ∷ []) each many = absurd (omega arith)
@@ -29,7 +29,7 @@ placed-tidy before after p b a tidy =
     Each-append (IsTidyPart AsProd) before (parts_of_kind AsProd p ++ after) b
     (Each-append (IsTidyPart AsProd) (parts_of_kind AsProd p) after (tidy-spread AsProd p tidy) a)
 
--- a part of a tidy sum alone in its place is a tidy part
+-- a part of a tidy sum, alone in the sum's place, is a tidy part
 alone-tidy : (p : Bound) → IsTidyPart AsSum p → IsTidyPart AsSum (in_place [] [] p)
 alone-tidy (ProductOf qs) tidy =
     product-part (list_of qs ++ []) (placed-tidy [] [] (ProductOf qs) tt tt tidy.0)
@@ -40,7 +40,7 @@ alone-tidy (SumOf qs) tidy = tidy
 alone-tidy (MaximumOf qs) tidy = tidy
 alone-tidy (PowerOf c e) tidy = tidy
 
--- a tidy part in place of a sum, among other factors
+-- a part of a tidy sum, in the sum's place among other factors, makes a tidy part
 in_place-tidy : (before after : List Bound) (p : Bound) → Each (IsTidyPart AsProd) before
     → Each (IsTidyPart AsProd) after → IsTidyPart AsSum p
     → IsTidyPart AsSum (in_place before after p)
@@ -59,7 +59,7 @@ places-tidy before after [] b a each = tt
 places-tidy before after (p ∷ ps) b a each =
     (in_place-tidy before after p b a each.0, places-tidy before after ps b a each.1)
 
--- the parts of a tidy sum
+-- the parts of a tidy sum are tidy parts
 sum-parts : (qs : Parts) → IsTidyPart AsProd (SumOf qs) → Each (IsTidyPart AsSum) (list_of qs)
 sum-parts qs tidy = each-part IsNoSum qs tidy.0.0.1 tidy.0.1
 

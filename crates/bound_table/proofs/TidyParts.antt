@@ -15,7 +15,7 @@ use Rattle.bound_table.specs.Likes.{times}
 use Rattle.bound_table.proofs.Each.{Each, IsFilled, Each-after_constant}
 use Rattle.bound_table.proofs.PartFacts.{IsKept}
 
--- the bound is no node of the kind
+-- the bound is not of the kind
 abbrev pub IsNoKind : Kind → Bound → Type 0
 IsNoKind AsSum b = IsNoSum b
 IsNoKind AsProd b = IsNoProduct b
@@ -25,18 +25,18 @@ IsNoKind AsMax b = IsNoMaximum b
 abbrev pub IsTidyPart : Kind → Bound → Type 0
 IsTidyPart k b = IsTidy b × IsNoKind k b
 
--- the parts of a tidy node, as a list
+-- the list of the parts of a tidy node consists of tidy bounds that are not of its kind
 pub each-part : (P : Bound → Type 0) (ps : Parts) → EachPart P ps → AreTidy ps → Each (λ p. IsTidy p × P p) (list_of ps)
 each-part P NoParts each tidy = tt
 each-part P (Part p ps) each tidy = ((tidy.0, each.0), each-part P ps each.1 tidy.1)
 
--- a list of tidy bounds as parts
+-- the parts made from a list of tidy bounds are tidy
 pub parts-tidy : (P : Bound → Type 0) (ps : List Bound) → Each (λ p. IsTidy p × P p) ps
     → EachPart P (parts_of ps) × AreTidy (parts_of ps)
 parts-tidy P [] each = (tt, tt)
 parts-tidy P (p ∷ ps) each = let rest = parts-tidy P ps each.1 in ((each.0.1, rest.0), (each.0.0, rest.1))
 
--- factors of a tidy part
+-- the factors of a tidy part are tidy, and none is a product
 pub factors-tidy : (p : Bound) → IsTidy p → Each (λ f. IsTidy f × IsNoProduct f) (factors_of p)
 factors-tidy (Constant c) tidy = tt
 factors-tidy (Input i) tidy = ((tidy, tt), tt)
@@ -46,7 +46,7 @@ factors-tidy (ProductOf ps) tidy =
 factors-tidy (MaximumOf ps) tidy = ((tidy, tt), tt)
 factors-tidy (PowerOf c e) tidy = ((tidy, tt), tt)
 
--- a list that is not empty has a part
+-- a list that is not empty makes at least one part
 count-filled : (fs : List Bound) → IsFilled fs → 1 ≤ part_count (parts_of fs)
 count-filled [] filled = absurd filled
 count-filled (f ∷ fs) filled = omega arith
@@ -104,14 +104,14 @@ whole-nearly AsSum ps each = subst (Each (IsTidyPart AsSum)) (sym (list_of-parts
 whole-nearly AsProd ps each = subst (Each (IsTidyPart AsProd)) (sym (list_of-parts_of ps)) each
 whole-nearly AsMax ps each = subst (Each (IsTidyPart AsMax)) (sym (list_of-parts_of ps)) each
 
--- a node of at least two tidy parts
+-- a node of at least two tidy parts is tidy
 pub whole-tidy : (k : Kind) (p q : Bound) (ps : List Bound) → Each (IsTidyPart k) (p ∷ q ∷ ps)
     → IsTidy (whole k (p ∷ q ∷ ps))
 whole-tidy AsSum p q ps each = let both = parts-tidy IsNoSum (p ∷ q ∷ ps) each in ((omega arith, both.0), both.1)
 whole-tidy AsProd p q ps each = let both = parts-tidy IsNoProduct (p ∷ q ∷ ps) each in ((omega arith, both.0), both.1)
 whole-tidy AsMax p q ps each = let both = parts-tidy IsNoMaximum (p ∷ q ∷ ps) each in ((omega arith, both.0), both.1)
 
--- the parts of a tidy part are tidy, and none is of its kind
+-- the parts of the kind of a tidy bound are tidy parts of a node of the kind
 pub tidy-spread : (k : Kind) (p : Bound) → IsTidy p → Each (IsTidyPart k) (parts_of_kind k p)
 tidy-spread AsSum (SumOf ps) tidy = each-part IsNoSum ps tidy.0.1 tidy.1
 tidy-spread AsProd (ProductOf ps) tidy = each-part IsNoProduct ps tidy.0.1 tidy.1

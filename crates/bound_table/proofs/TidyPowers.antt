@@ -29,14 +29,14 @@ pub length-list_of : (ps : Parts) → length (list_of ps) ≡ part_count ps
 length-list_of NoParts = refl
 length-list_of (Part p ps) = omega (arith, length-list_of ps)
 
--- a tidy bound has a part of each kind at least, itself if no other
+-- a tidy bound has at least one part of each kind, itself if it is of another kind
 pub spread-some : (k : Kind) (p : Bound) → IsTidy p → 1 ≤ length (parts_of_kind k p)
 spread-some AsSum (SumOf ps) tidy = omega (arith, length-list_of ps, tidy.0.0)
 spread-some AsProd (ProductOf ps) tidy = omega (arith, length-list_of ps, tidy.0.0)
 spread-some AsMax (MaximumOf ps) tidy = omega (arith, length-list_of ps, tidy.0.0)
 spread-some k p tidy = omega arith
 
--- a node of two tidy parts at least is tidy
+-- a node of at least two tidy parts is tidy
 pub whole-many : (k : Kind) (ps : List Bound) → Each (IsTidyPart k) ps → 2 ≤ length ps → IsTidy (whole k ps)
 whole-many k [] each many = absurd (omega arith)
 whole-many k (p ∷ []) each many = absurd (omega arith)
@@ -58,7 +58,7 @@ sum_or_single-tidy [] each some = absurd (omega arith)
 sum_or_single-tidy (p ∷ []) each some = each.0.0
 sum_or_single-tidy (p ∷ q ∷ ps) each some = whole-tidy AsSum p q ps each
 
--- the remaining exponent of a tidy one is tidy
+-- the exponent that is left of a tidy exponent is tidy
 exponent_left-tidy : (e : Bound) → IsTidy e → IsTidy (exponent_left e)
 exponent_left-tidy (SumOf ps) tidy =
     sum_or_single-tidy (but_first_constant (list_of ps))
@@ -111,7 +111,7 @@ exponent-tidy (SumOf ps) tidy = tt
 exponent-tidy (ProductOf ps) tidy = tt
 exponent-tidy (MaximumOf ps) tidy = tt
 
--- the exponents of two tidy powers have two parts at least
+-- the exponents of two tidy powers have at least two parts together
 exponents-many : (c d : ℕ) (e f : Bound) (ps : List Bound) → IsTidy e → IsTidy f
     → 2 ≤ length (exponents_of (PowerOf c e ∷ PowerOf d f ∷ ps))
 exponents-many c d e f ps tidy tidy' =

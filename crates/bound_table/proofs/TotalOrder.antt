@@ -1,4 +1,4 @@
--- The structural order is total: it is the order of lists of numbers, part by part, on what spells a bound out.
+-- The structural order is total: bounds compare as lists of numbers that spell them.
 use Rattle.std.proofs.Common.{◌≡◌, ℕ, ◌==◌, ◌<◌, true, false, List, [], ◌∷◌, ◌++◌, length, refl, ap, sym, ◌∙◌, subst}
 use Rattle.std.proofs.Common.{append_assoc, append-nil}
 use Rattle.std.specs.declared.cmp.Ordering.{Ordering}
@@ -19,7 +19,7 @@ use Rattle.bound_table.specs.Terms.{constant_of, factors_of}
 use Rattle.bound_table.specs.Sorting.{factor_rank, factors_compared, count_in, parts_compared, order_of}
 use Rattle.bound_table.specs.Comparison.{compared, all_compared}
 
--- no parts come before some
+-- an empty list of parts comes before one that is not empty
 pub all_compared-shorter : (qs : List Bound) → (length qs == 0) ≡ false → all_compared NoParts (parts_of qs) ≡ Less
 all_compared-shorter [] some = cc
 all_compared-shorter (q ∷ qs) some = refl
@@ -45,19 +45,19 @@ slice_cmp-compared [] (q ∷ qs) = refl
 slice_cmp-compared (p ∷ ps) [] = refl
 slice_cmp-compared (p ∷ ps) (q ∷ qs) = ap (ordering_then (compared p q)) (slice_cmp-compared ps qs)
 
--- comparing in turn, in any grouping
+-- comparing by three orders one after the other doesn't depend on the grouping
 ordering_then-assoc : (a b c : Ordering) → ordering_then a (ordering_then b c) ≡ ordering_then (ordering_then a b) c
 ordering_then-assoc Less b c = refl
 ordering_then-assoc Equal b c = refl
 ordering_then-assoc Greater b c = refl
 
--- nothing follows
+-- an order followed by `Equal` is unchanged
 ordering_then-Equal : (a : Ordering) → ordering_then a Equal ≡ a
 ordering_then-Equal Less = refl
 ordering_then-Equal Equal = refl
 ordering_then-Equal Greater = refl
 
--- the end of a list comes before any bound
+-- the end mark 0 comes before the spelling of any bound
 end-first : (q : Bound) (r s : List ℕ) → slice_cmp nat_cmp (0 ∷ r) (spelled q ++ s) ≡ Less
 end-first (Constant c) r s = refl
 end-first (Input i) r s = refl
@@ -66,7 +66,7 @@ end-first (ProductOf ps) r s = refl
 end-first (MaximumOf ps) r s = refl
 end-first (PowerOf c e) r s = refl
 
--- the end comes before any bound after it
+-- the spelling of any bound comes after the end mark 0
 end-last : (p : Bound) (r s : List ℕ) → slice_cmp nat_cmp (spelled p ++ r) (0 ∷ s) ≡ Greater
 end-last (Constant c) r s = refl
 end-last (Input i) r s = refl
@@ -116,7 +116,7 @@ compared-by_spelling a b =
     ∙ compared-spelled a b [] []
     ∙ ordering_then-Equal (compared a b)
 
--- an order that answers as a total one does is total
+-- an order that gives the same results as a total order is total
 same-total : {K : Type 0} (r s : K → K → Ordering) → ((x y : K) → r x y ≡ s x y) → IsTotalOrder r → IsTotalOrder s
 same-total r s same total = record {
   antisymm = λ x y. sym (same x y) ∙ total.antisymm x y ∙ ap ordering_reverse (same y x);
@@ -149,13 +149,13 @@ order_of-total AsProd = factors_compared-total
 order_of-total AsSum = parts_compared-total
 order_of-total AsMax = parts_compared-total
 
--- two orders, one after the other, find equal only what both do
+-- two orders, one after the other, give `Equal` only if both do
 ordering_then-parts : (a b : Ordering) → ordering_then a b ≡ Equal → (a ≡ Equal) × (b ≡ Equal)
 ordering_then-parts Less b e = cc
 ordering_then-parts Equal b e = (refl, e)
 ordering_then-parts Greater b e = cc
 
--- numbers that are equal are the same
+-- numbers that compare as equal are equal
 nat_cmp-Equal : (c d : ℕ) → nat_cmp c d ≡ Equal → c ≡ d
 nat_cmp-Equal c d e =
     subst (λ (o : Ordering). MatchOrdering o (c < d) (c ≡ d) (d < c)) e (ranked c d (nat_cmp c d) refl)
@@ -182,7 +182,7 @@ mutual
       let both = ordering_then-parts (compared p q) (all_compared ps qs) e in
       ap (λ (b : Bound). Part b ps) (compared-same p q both.0) ∙ ap (Part q) (all_compared-same ps qs both.1)
 
--- a test for equality that passes
+-- if the test `is_eq` passes, the ordering is `Equal`
 pub is_eq-Equal : (o : Ordering) → is_eq o ≡ true → o ≡ Equal
 is_eq-Equal Less e = cc
 is_eq-Equal Equal e = refl

@@ -61,7 +61,7 @@ at_power-val Like n e m = refl
 at_power-val Dominate n e m = refl
 at_power-val Few n e m = refl
 
--- a node whose case keeps the value of its parts
+-- each case keeps the value of a node
 at_node-val : (c : Case) (b : Bound) (m : List ℕ) → IsBased b → val (at_node c b) m ≡ val b m
 unfolding at_node
 at_node-val c (Constant n) m based = refl
@@ -83,7 +83,7 @@ at_node_all-val [] b m based = refl
 at_node_all-val (c ∷ cs) b m based =
     at_node_all-val cs (at_node c b) m (at_node-based c b based) ∙ at_node-val c b m based
 
--- a pass keeps the value of a bound where it keeps those of the parts
+-- a pass keeps the value of a bound if passing through its parts does
 one_pass-val : (cs : List Case) (b : Bound) (m : List ℕ) → IsBased b → val (parts_passed cs b) m ≡ val b m
     → val (one_pass cs b) m ≡ val b m
 one_pass-val cs b m based parts = at_node_all-val cs (parts_passed cs b) m (parts_passed-based cs b based) ∙ parts

@@ -6,7 +6,7 @@ use Rattle.bound_table.specs.InForce.{rewritten}
 use Rattle.bound_expr.specs.Measure.{capped_node_count}
 use Rattle.bound_table.specs.RewriteResult.{Answer, Fits, TooLarge, unless_large, rewritten_within, WhereFits}
 
--- a bound is a large one, or it fits
+-- a property that holds of a bound that is not large holds of the answer that refuses large bounds
 unless_large-fits : (P : Bound → Type 0) (b : Bound) → (is_large b ≡ false → P b) → WhereFits (unless_large b) P
 unless_large-fits P b fits = go (is_large b) refl
   where
@@ -14,7 +14,7 @@ unless_large-fits P b fits = go (is_large b) refl
     go true is = tt
     go false is = fits is
 
--- a property of the rewritten bound, if that isn't large, is one of the result that fits
+-- a property of the rewritten bound, if that is not large, is one of the result of `rewritten_within`
 pub rewritten_within-fits : (P : Bound → Type 0) (b : Bound) → (is_large (rewritten b) ≡ false → P (rewritten b))
     → WhereFits (rewritten_within b) P
 unfolding rewritten_within
@@ -25,7 +25,7 @@ rewritten_within-fits P b fits = go (is_large b) (unless_large-fits P (rewritten
     go true after = tt
     go false after = after
 
--- it is one of every answer that agrees with the definition
+-- the property holds of every answer of the code that agrees with the definition
 pub answer-fits : (P : Bound → Type 0) (b : Bound) (answer : Answer)
     → (is_large (rewritten b) ≡ false → P (rewritten b))
     → answer ≡ rewritten_within b → WhereFits answer P

@@ -4,7 +4,7 @@ use Rattle.bound_table.specs.Below.{below}
 use Rattle.bound_table.specs.WorkedBelow.{ConstantsAreBelow, SumsAreBelow, MaximumsAreBelow, PowersAreBelow}
 use Rattle.bound_table.specs.WorkedBelow.{ProductsAreBelow}
 
--- constants
+-- the worked values of constants hold
 pub constants_below : ConstantsAreBelow
 unfolding below
 constants_below = record {
@@ -16,12 +16,12 @@ constants_below = record {
   input_of_nothing = refl;
 }
 
--- sums
+-- the worked values of sums hold
 pub sums_below : SumsAreBelow
 unfolding below
 sums_below = record { more = refl; less = refl; between = refl; other_order = refl; twice = refl; other = refl }
 
--- maximums
+-- the worked values of maximums hold
 pub maximums_below : MaximumsAreBelow
 unfolding below
 maximums_below = record {
@@ -35,7 +35,7 @@ maximums_below = record {
   in_empty = refl;
 }
 
--- powers
+-- the worked values of powers hold
 pub powers_below : PowersAreBelow
 unfolding below
 powers_below = record {
@@ -49,7 +49,7 @@ powers_below = record {
   input = refl;
 }
 
--- products
+-- the worked values of products hold
 pub products_below : ProductsAreBelow
 unfolding below
 products_below = record {

@@ -6,13 +6,13 @@ use Rattle.bound_table.specs.WorkedParts.{PartsAreSpliced, ConstantsAreFolded, P
 use Rattle.bound_table.specs.WorkedParts.{NeutralPartsAreDropped, PartsAreSorted, LikePartsAreJoined}
 use Rattle.bound_table.specs.WorkedParts.{DominatedPartsAreDropped, FewPartsAreSimple}
 
--- parts that give their parts
+-- the worked values of splicing hold
 pub parts_spliced : PartsAreSpliced
 unfolding at_node
 parts_spliced =
     record { sum = refl; product = refl; maximum = refl; one_level = refl; empty = refl; other_kind = refl }
 
--- constants that become one
+-- the worked values of folding constants hold
 pub constants_folded : ConstantsAreFolded
 unfolding at_node
 constants_folded = record {
@@ -25,12 +25,12 @@ constants_folded = record {
   product_beyond = refl;
 }
 
--- products with a part 0
+-- the worked values of products with a part 0 hold
 pub zero_products : ProductsWithZeroAreZero
 unfolding at_node
 zero_products = record { last = refl; alone = refl; without = refl; sum = refl; maximum = refl }
 
--- constants that change nothing
+-- the worked values of dropping neutral parts hold
 pub neutral_dropped : NeutralPartsAreDropped
 unfolding at_node
 neutral_dropped = record {
@@ -43,7 +43,7 @@ neutral_dropped = record {
   zero_in_product = refl;
 }
 
--- parts in order
+-- the worked values of sorting hold
 pub parts_sorted : PartsAreSorted
 unfolding at_node
 parts_sorted = record {
@@ -56,7 +56,7 @@ parts_sorted = record {
   maximum = refl;
 }
 
--- parts with the same factors
+-- the worked values of joining like parts hold
 pub likes_joined_so : LikePartsAreJoined
 unfolding at_node
 likes_joined_so = record {
@@ -70,12 +70,12 @@ likes_joined_so = record {
   beyond = refl;
 }
 
--- parts below others
+-- the worked values of dropping dominated parts hold
 pub dominated_dropped : DominatedPartsAreDropped
 unfolding at_node below
 dominated_dropped = record { first = refl; last = refl; same = refl; several = refl; apart = refl; in_sum = refl }
 
--- none or one part
+-- the worked values of nodes of at most one part hold
 pub few_simple : FewPartsAreSimple
 unfolding at_node
 few_simple = record {

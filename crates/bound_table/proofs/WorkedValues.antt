@@ -1,30 +1,30 @@
--- The worked values: what the cases of powers and of distribution make of small bounds, and both tables of some.
+-- The worked values of the cases on powers and of distribution, and of both tables.
 use Rattle.std.proofs.Common.{refl}
 use Rattle.bound_table.specs.Below.{below}
 use Rattle.bound_table.specs.Rewriting.{simplified, passes_until_same, at_node, parts_passed}
 use Rattle.bound_table.specs.Worked.{PowersAreEvaluated, PowersAreShifted, PowersAreMerged, ProductsAreMultipliedOut}
 use Rattle.bound_table.specs.Worked.{LimitsOfProductsAreMet, TablesAreWorkedOut}
 
--- powers of constants
+-- the worked values of evaluating powers hold
 pub evaluated_powers : PowersAreEvaluated
 evaluated_powers =
     record { small = refl; none = refl; nothing = refl; greatest = refl; beyond = refl; other = refl }
 
--- powers of sums
+-- the worked values of taking constants out of powers hold
 pub shifted_powers : PowersAreShifted
 shifted_powers =
     record { single = refl; several = refl; nothing_left = refl; beyond = refl; no_constant = refl; no_sum = refl }
 
--- neighbouring powers
+-- the worked values of merging powers hold
 pub merged_powers : PowersAreMerged
 merged_powers = record { two = refl; spliced = refl; runs = refl; apart = refl; in_sum = refl }
 
--- products with sums among their factors
+-- the worked values of multiplying products out hold
 pub multiplied_products : ProductsAreMultipliedOut
 multiplied_products =
     record { in_place = refl; first_alone = refl; spliced = refl; single = refl; no_sum = refl; in_sum = refl }
 
--- how large they may be
+-- the worked limits of multiplied products hold
 pub limits_met : LimitsOfProductsAreMet
 limits_met = record {
   parts_at_most = refl;
@@ -35,7 +35,7 @@ limits_met = record {
   nodes_beyond = refl;
 }
 
--- both tables
+-- the worked values of both tables hold
 pub tables_worked : TablesAreWorkedOut
 unfolding simplified passes_until_same at_node parts_passed below
 tables_worked = record {

@@ -27,7 +27,7 @@ leftovers related [] qs = qs
 leftovers related (p ∷ ps) [] = []
 leftovers related (p ∷ ps) (q ∷ qs) = cond (related p q) (leftovers related ps qs) (q ∷ leftovers related (p ∷ ps) qs)
 
--- a factor that may be left: a power, or an input that is also one of those taken
+-- a factor may be left over if it is a power, or an input that is also one of those taken
 abbrev pub may_be_leftover : List Bound → Bound → Bool
 may_be_leftover ts g = is_power g || (is_input g && list_any (is_same_input g) ts)
 

@@ -13,7 +13,7 @@ dominant_after kept [] = kept
 dominant_after kept (p ∷ ps) =
     cond (list_any (λ q. below p q) (kept ++ ps)) (dominant_after kept ps) (dominant_after (kept ++ p ∷ []) ps)
 
--- the parts of a maximum that stay
+-- the parts of a maximum that aren't dropped
 abbrev pub dominant : Kind → List Bound → List Bound
 dominant AsMax ps = dominant_after [] ps
 dominant k ps = ps

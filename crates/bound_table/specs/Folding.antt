@@ -28,7 +28,7 @@ constants_in [] = []
 constants_in (Constant c ∷ ps) = c ∷ constants_in ps
 constants_in (p ∷ ps) = constants_in ps
 
--- a number joined with a part where that is a constant, or 2^127 where that is more
+-- the total joined with a part if the part is a constant, or 2^127 if that is more
 abbrev pub total_with : Kind → ℕ → Bound → ℕ
 total_with k total (Constant c) = capped (joined k total c)
 total_with k total _ = total
@@ -54,7 +54,7 @@ abbrev pub zeroed : Kind → List Bound → Bound
 zeroed AsProd ps = cond (list_any is_zero ps) (Constant 0) (whole AsProd ps)
 zeroed k ps = whole k ps
 
--- the constant that changes nothing among the parts of the kind
+-- a part is neutral in a node of the kind: the constant that changes nothing there
 abbrev pub is_neutral : Kind → Bound → Bool
 is_neutral k (Constant c) = c == unit_of k
 is_neutral k _ = false

@@ -8,7 +8,7 @@ pub mod RewriteResult
 pub mod Worked
 pub mod WorkedParts
 pub mod WorkedBelow
--- the parts of these definitions
+-- the definitions by subject
 pub mod Kinds
 pub mod Counting
 pub mod Terms
@@ -19,7 +19,7 @@ pub mod Likes
 pub mod Powers
 pub mod Distribution
 pub mod Dominance
--- further definitions that proofs of loops cite
+-- further definitions that the proofs of loops cite
 pub mod Taking
 pub mod Joining
 -- the crates below, which callers name through this one

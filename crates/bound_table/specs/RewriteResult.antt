@@ -25,7 +25,7 @@ unless_large b = if is_large b then TooLarge (capped_node_count b) else Fits b
 unfoldable pub rewritten_within : Bound → Answer
 rewritten_within b = if is_large b then TooLarge (capped_node_count b) else unless_large (rewritten b)
 
--- a fact of the rewritten bound, where there is one
+-- the property holds of the rewritten bound, if the answer has one
 abbrev pub WhereFits : Answer → (Bound → Type 0) → Type 0
 WhereFits (Fits b) P = P b
 WhereFits (TooLarge nodes) P = ⊤

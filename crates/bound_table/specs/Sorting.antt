@@ -22,16 +22,16 @@ factor_rank (MaximumOf ps) = 3
 factor_rank (SumOf ps) = 4
 factor_rank (ProductOf ps) = 5
 
--- factors go by kind, then structurally
+-- factors are ordered by kind, then structurally
 abbrev pub factors_compared : Bound → Bound → Ordering
 factors_compared p q = ordering_then (nat_cmp (factor_rank p) (factor_rank q)) (compared p q)
 
--- how many factors of a part are counted
+-- the number of a part's factors of the sort counted
 abbrev pub count_in : Counted → Bound → ℕ
 count_in c p = count_by (is_counted c) (factors_of p)
 
--- the parts of a sum or maximum go by these three counts, greater first, then by the factors, least first, then by the
--- constant, greater first
+-- the parts of a sum or maximum are ordered by these three counts, greater first, then by the factors, least first,
+-- then by the constant, greater first
 abbrev pub parts_compared : Bound → Bound → Ordering
 parts_compared p q =
     ordering_then (nat_cmp (count_in Powers q) (count_in Powers p))
@@ -60,12 +60,12 @@ abbrev pub coming_before : Kind → Bound → List Bound → List Bound
 coming_before k p [] = []
 coming_before k p (q ∷ qs) = cond (is_lt (order_of k q p)) (q ∷ coming_before k p qs) []
 
--- the rest
+-- the parts after that prefix
 abbrev pub not_before : Kind → Bound → List Bound → List Bound
 not_before k p [] = []
 not_before k p (q ∷ qs) = cond (is_lt (order_of k q p)) (not_before k p qs) (q ∷ qs)
 
--- there is a first one, and it comes before p
+-- the list is not empty, and its first bound comes before p
 abbrev pub starts_before : Kind → Bound → List Bound → Bool
 starts_before k p [] = false
 starts_before k p (q ∷ qs) = is_lt (order_of k q p)

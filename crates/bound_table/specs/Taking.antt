@@ -8,7 +8,7 @@ use Rattle.bound_table.specs.declared.kinds.Pairing.{Pairing}
 use Rattle.bound_table.specs.declared.kinds.Pairing.TheVariants.{AsTerms, AsFactors}
 use Rattle.bound_table.specs.Below.{each_takes, matches, leftovers, may_be_leftover, term_below, factor_below, below}
 
--- one below another as a part of a sum, or as a factor
+-- one bound is below another in their context: as a part of a sum, or as a factor
 abbrev pub paired_below : Pairing → (Bound → Bound → Bool) → Bound → Bound → Bool
 paired_below AsTerms smaller = term_below smaller
 paired_below AsFactors smaller = factor_below smaller
@@ -18,21 +18,21 @@ abbrev pub left_after : (Bound → Bound → Bool) → List Bound → Bound → 
 left_after related [] q = []
 left_after related (p ∷ ps) q = cond (related p q) ps (p ∷ ps)
 
--- the factors that are taken where each is to be below the one that it takes
+-- the factors that are taken, if each factor takes one that it is below
 abbrev pub factors_taken : List Bound → List Bound → List Bound
 factors_taken fs gs = matches (factor_below (λ p q. below p q)) fs gs
 
--- each takes one, and what is left over may be left
+-- each element takes one, and those left over may be left over
 abbrev pub takes_fully : (Bound → Bound → Bool) → List Bound → List Bound → Bool
 takes_fully related ps qs =
     each_takes related ps qs && list_all (may_be_leftover (matches related ps qs)) (leftovers related ps qs)
 
--- a mark for an input that is taken
+-- the marks, with that of t set if t is an input
 abbrev pub marked_one : List Bool → Bound → List Bool
 marked_one marks (Input i) = slice_set marks i true
 marked_one marks _ = marks
 
--- marks for all inputs that are taken
+-- the marks, with those of all inputs among the bounds set
 abbrev pub marked : List Bool → List Bound → List Bool
 marked marks [] = marks
 marked marks (t ∷ ts) = marked (marked_one marks t) ts

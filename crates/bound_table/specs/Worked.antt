@@ -34,8 +34,8 @@ pub record PowersAreEvaluated : Type 0 where
   pub beyond : evaluated 2 (Constant 127) ≡ PowerOf 2 (Constant 127)
   pub other : evaluated 2 input_a ≡ PowerOf 2 input_a
 
--- the first constant is taken out, and no other one; nothing may be left; what is too large stays, and so do other
--- exponents
+-- the first constant of a sum is taken out, and no other one; the exponent that is left may be empty; a power over
+-- 2^127-1 and other exponents are unchanged
 pub record PowersAreShifted : Type 0 where
   pub single : shifted 2 (SumOf (two_parts input_a (Constant 3)))
       ≡ ProductOf (two_parts (Constant 8) (PowerOf 2 input_a))
@@ -48,7 +48,8 @@ pub record PowersAreShifted : Type 0 where
   pub no_constant : shifted 2 a_and_b ≡ PowerOf 2 a_and_b
   pub no_sum : shifted 2 (Constant 3) ≡ PowerOf 2 (Constant 3)
 
--- neighbours of one base merge, with sums spliced; others don't, nor does a power alone, nor parts of a sum
+-- neighbouring powers of one base merge, with sums spliced; powers of other bases don't, nor does a single power, nor
+-- parts of a sum
 pub record PowersAreMerged : Type 0 where
   pub two : powers_merged AsProd (PowerOf 2 input_a ∷ PowerOf 2 input_b ∷ []) ≡ PowerOf 2 a_and_b ∷ []
   pub spliced : powers_merged AsProd (PowerOf 2 a_and_b ∷ PowerOf 2 input_c ∷ input_d ∷ [])
@@ -75,8 +76,8 @@ pub record ProductsAreMultipliedOut : Type 0 where
   pub no_sum : distributed AsProd (input_a ∷ input_b ∷ []) ≡ ProductOf (two_parts input_a input_b)
   pub in_sum : distributed AsSum (a_and_b ∷ input_c ∷ []) ≡ SumOf (two_parts a_and_b input_c)
 
--- 64 parts of one sum, and of two multiplied, are few enough, and one part more is not; an outcome may have 4,096 nodes,
--- and no more
+-- 64 parts of one sum, and of two multiplied, are few enough, and one part more is not; an outcome may have 4,096
+-- nodes, and no more
 pub record LimitsOfProductsAreMet : Type 0 where
   pub parts_at_most : is_multiplied_out (input_b ∷ SumOf (copies 64) ∷ []) ≡ true
   pub parts_beyond : is_multiplied_out (input_b ∷ SumOf (copies 65) ∷ []) ≡ false

@@ -1,4 +1,4 @@
-//! Counts the parts of a kind in a list.
+//! Counts the parts of a list that are of a given sort.
 
 ghost use Rattle.std.specs.Prelude.{◌≡◌};
 ghost use Rattle.std.specs.List.{list_any, count_by};
@@ -9,7 +9,7 @@ use crate::kinds::Counted;
 use crate::terms::{is_const, is_zero};
 use bound_expr::Bound;
 
-// How many of the parts are counted.
+// How many of the parts are of the sort `counted`.
 pub(crate) fn how_many(counted: Counted, parts: &[Bound]) -> usize
     ensures { result ≡ count_by (counts counted) (bounds_of parts.now) }
 {
@@ -22,7 +22,7 @@ pub(crate) fn how_many(counted: Counted, parts: &[Bound]) -> usize
     number
 }
 
-// Whether one of the parts is counted.
+// Whether one of the parts is of the sort `counted`.
 pub(crate) fn has(counted: Counted, parts: &[Bound]) -> bool
     ensures { result ≡ list_any (counts counted) (bounds_of parts.now) }
 {
@@ -34,7 +34,7 @@ pub(crate) fn has(counted: Counted, parts: &[Bound]) -> bool
     false
 }
 
-// Whether a bound is counted.
+// Whether a bound is of the sort `counted`.
 fn is_counted(counted: Counted, bound: &Bound) -> bool
     ensures { result ≡ counts counted (bound_of bound.now) }
 {

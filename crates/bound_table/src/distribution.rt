@@ -23,7 +23,7 @@ use std::slice;
 // The maximum product of the numbers of parts of the sums among the factors.
 const WIDTH_LIMIT: u128 = 64;
 
-// The factors of a product about the first sum among them.
+// The factors of a product, split at the first sum among them.
 #[derive(Drop)]
 struct Split<'a> {
     before: &'a [Bound],
@@ -41,7 +41,7 @@ pub(crate) fn distributed(alloc: Global, kind: Kind, parts: Vec<Bound>) -> Resul
     }
 }
 
-// A product multiplied out, where it is.
+// A product multiplied out, if it has a sum and the result is within the limits; else the product unchanged.
 fn product_distributed(alloc: Global, parts: Vec<Bound>) -> Result<Bound, Memory>
     ensures { IfOk result (λ r. bound_of r ≡ distributed_of AsProd (bounds_of parts.items)) }
 {
@@ -51,7 +51,7 @@ fn product_distributed(alloc: Global, parts: Vec<Bound>) -> Result<Bound, Memory
     }
 }
 
-// The factors of a product multiplied out, if they are: none is copied before both limits have been checked.
+// The product multiplied out, or none if a limit forbids it. No factor is copied before both limits have been checked.
 fn multiplied_out(alloc: Global, parts: &[Bound]) -> Result<Option<Bound>, Memory>
     ensures { IfOk result (λ o. MatchOption o (is_multiplied_out (bounds_of parts.now) ≡ false)
         (λ r. (is_multiplied_out (bounds_of parts.now) ≡ true)
@@ -69,7 +69,7 @@ fn multiplied_out(alloc: Global, parts: &[Bound]) -> Result<Option<Bound>, Memor
     Ok(Some(sum_in_places(alloc, split.before, split.parts, split.after)?))
 }
 
-// The factors about the first sum, where there is one.
+// The factors before and after the first sum, and the sum's parts, if there is a sum.
 fn split_at_sum(parts: &[Bound]) -> Option<Split<'_>>
     ensures { MatchOption result (has_sum (bounds_of parts.now) ≡ false) (λ s. IsSplit (bounds_of parts.now)
         (bounds_of s.before.now) (bounds_of s.parts.now) (bounds_of s.after.now)) }
@@ -108,7 +108,7 @@ fn width(factor: &Bound) -> u128
     }
 }
 
-// The number of nodes of the sum of the products with each part in its place, or the maximum number of its type.
+// The number of nodes of the sum of the products with each part in the sum's place, or the maximum number of its type.
 fn nodes_in_places(before: &[Bound], parts: &[Bound], after: &[Bound]) -> u64
     ensures { result ≡ min (node_count (node_of AsSum (each_in_place (bounds_of before.now) (bounds_of after.now)
         (bounds_of parts.now)))) (2 ^ 64 - 1) }
@@ -122,7 +122,7 @@ fn nodes_in_places(before: &[Bound], parts: &[Bound], after: &[Bound]) -> u64
     nodes
 }
 
-// The number of nodes of the product with the part in its place, where the other factors have this many.
+// The number of nodes of the product with the part in the sum's place, where the other factors have this many nodes.
 fn nodes_in_place(before: &[Bound], part: &Bound, after: &[Bound], others: u64) -> u64
     requires { others ≡ min (node_count_of_all (parts_of (bounds_of before.now))
         + node_count_of_all (parts_of (bounds_of after.now))) (2 ^ 64 - 1) }
@@ -148,7 +148,7 @@ fn factors_of(part: &Bound) -> &[Bound]
     }
 }
 
-// Whether the three have one factor in all.
+// Whether the three lists have one factor in all.
 fn is_single(before: &[Bound], factors: &[Bound], after: &[Bound]) -> bool
     ensures { result ≡ (length (bounds_of before.now ++ (bounds_of factors.now ++ bounds_of after.now)) == 1) }
 {
@@ -156,7 +156,7 @@ fn is_single(before: &[Bound], factors: &[Bound], after: &[Bound]) -> bool
     factors.len().saturating_add(others) == 1
 }
 
-// The sum of the products with each part in its place.
+// The sum, over the parts, of the product with that part in the sum's place.
 fn sum_in_places(
     alloc: Global,
     before: &[Bound],
@@ -173,7 +173,7 @@ fn sum_in_places(
     Ok(Bound::Sum(products))
 }
 
-// The product with the part in its place.
+// The product with the part in the sum's place.
 fn in_place(alloc: Global, before: &[Bound], part: &Bound, after: &[Bound]) -> Result<Bound, Memory>
     ensures { IfOk result (λ r. bound_of r ≡ in_place_of (bounds_of before.now) (bounds_of after.now)
         (bound_of part.now)) }

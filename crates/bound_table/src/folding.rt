@@ -90,7 +90,7 @@ fn constants_joined(kind: Kind, parts: &[Bound]) -> u128
     total
 }
 
-// A number joined with a part, where that is a constant.
+// The total joined with a part, if the part is a constant.
 fn joined_with(kind: Kind, total: u128, part: &Bound) -> u128
     ensures { result ≡ total_with kind total (bound_of part.now) }
 {
@@ -121,7 +121,7 @@ fn joined(kind: Kind, a: u128, b: u128) -> u128
     }
 }
 
-// The constant in place of the first constant, and the other constants gone.
+// The parts with the constant in place of the first constant, and without the other constants.
 fn with_one_constant(alloc: Global, constant: u128, parts: Vec<Bound>) -> Result<Vec<Bound>, Memory>
     ensures { IfOk result (λ r. bounds_of r.items ≡ one_constant_of constant (bounds_of parts.items)) }
 {
@@ -153,7 +153,7 @@ pub(crate) fn zeroed(kind: Kind, parts: Vec<Bound>) -> Bound
     }
 }
 
-// The parts that change something.
+// The parts without those that are neutral: zeros of a sum or maximum, ones of a product.
 pub(crate) fn without_neutral(
     alloc: Global,
     kind: Kind,
@@ -170,7 +170,7 @@ pub(crate) fn without_neutral(
     Ok(kept)
 }
 
-// Whether a part of the kind changes nothing.
+// Whether a part is neutral in a node of the kind: it changes no value.
 fn is_neutral(kind: Kind, part: &Bound) -> bool
     ensures { result ≡ is_unit kind (bound_of part.now) }
 {

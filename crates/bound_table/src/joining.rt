@@ -34,7 +34,7 @@ pub(crate) fn runs_joined(
     Ok(done)
 }
 
-// Whether a part continues a run.
+// Whether a part belongs together with the last part of a run.
 fn goes_on(joining: Joining, run: &[Bound], part: &Bound) -> bool
     ensures { result ≡ last_belongs (belong_to_one joining) (bounds_of run.now) (bound_of part.now) }
 {

@@ -82,7 +82,7 @@ pub(crate) fn any_above(a: &Bound, parts: &[Bound]) -> bool
     false
 }
 
-// Whether each of the first parts takes one of the others that it is below.
+// Whether each of the parts can take one of the others that it is below, in order.
 #[cycle(below)]
 fn terms_below(parts: &[Bound], others: &[Bound]) -> bool
     ensures { result ≡ each_takes (term_below (λ p q. is_lower p q)) (bounds_of parts.now) (bounds_of others.now) }
@@ -94,7 +94,7 @@ fn terms_below(parts: &[Bound], others: &[Bound]) -> bool
     left.is_empty()
 }
 
-// Those that still look for one, after one has been offered to the first of them.
+// The parts that still look for one to take, after `other` has been offered to the first of them.
 #[cycle(below)]
 fn still_left<'a>(pairing: Pairing, left: &'a [Bound], other: &Bound) -> &'a [Bound]
     ensures { bounds_of result.now
@@ -159,7 +159,7 @@ fn factors_below(factors: &[Bound], others: &[Bound]) -> bool
     inputs_taken(factors, others, &marks)
 }
 
-// Whether each variable among the others is one that is taken.
+// Whether each variable among the others is the same as a variable that is taken.
 #[cycle(below)]
 fn inputs_taken(factors: &[Bound], others: &[Bound], marks: &[bool]) -> bool
     requires { IsMarked marks.now (factors_taken (bounds_of factors.now) (bounds_of others.now)) }
@@ -174,7 +174,8 @@ fn inputs_taken(factors: &[Bound], others: &[Bound], marks: &[bool]) -> bool
     true
 }
 
-// Whether a variable is one that is taken: by its mark, and where there is no room for one by taking all again.
+// Whether a variable is one that is taken: looked up by its mark, or, if its number has no mark, by searching the taken
+// factors.
 #[cycle(below)]
 fn input_taken(factors: &[Bound], others: &[Bound], marks: &[bool], input: &Bound) -> bool
     requires { IsMarked marks.now (factors_taken (bounds_of factors.now) (bounds_of others.now)) }

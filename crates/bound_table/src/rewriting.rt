@@ -25,8 +25,8 @@ use std::alloc::Global;
 // How many passes are made at most.
 const PASS_LIMIT: u32 = 16;
 
-// The arms of a match on the case: each case by its name, with its result at the node; after a semicolon the result of
-// the other cases.
+// Makes the arms of a match on the case: each case by its name, with its result at the node; after the semicolon, the
+// result of the other cases.
 macro_rules! cases {
     ($case:expr; $($name:ident => $outcome:expr),+ $(,)?) => {
         match $case {
@@ -52,8 +52,8 @@ macro_rules! cases {
 pub fn simplify<const N: usize>(alloc: Global, cases: &Cases<N>, b: &Bound) -> Result<Bound, Memory>
     ensures outcome { IfOk result (λ r. bound_of r ≡ simplified cases.now.list (bound_of b.now)) }
 
-    // No value changes, no variable is read that was not read before, and a table that begins with Flat and ends with
-    // Few makes the bound tidy.
+    // The value is unchanged, no further variable is read, and a table that begins with Flat and ends with Few makes
+    // the bound tidy.
     ensures value { IsBased (bound_of b.now) → IfOk result (λ r. HasValueOf (bound_of r) (bound_of b.now)) }
     ensures reads { IfOk result (λ r. ReadsNoMore (bound_of r) (bound_of b.now)) }
     ensures numbers { IfOk result (λ r. KeepsNumbers (bound_of r) (bound_of b.now)) }

@@ -65,7 +65,7 @@ fn move_before(
     Ok(())
 }
 
-// Whether there is a first one, and it comes before the part.
+// Whether there is a first one in the rest, and it comes before the part.
 fn comes_first(kind: Kind, rest: &VecDeque<Bound>, part: &Bound) -> bool
     ensures { result ≡ starts_before kind (bound_of part.now) (bounds_of rest.now.items) }
 {

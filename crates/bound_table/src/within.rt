@@ -35,7 +35,7 @@ pub enum RewriteResult {
 pub fn rewrite_within(alloc: Global, b: &Bound) -> Result<RewriteResult, Memory>
     ensures outcome { IfOk result (λ w. answer_of w ≡ rewritten_within (bound_of b.now)) }
 
-    // What is rewritten isn't large, and has all that a rewriting has.
+    // A rewritten bound isn't large, and has all properties that `rewrite` ensures.
     ensures small { IfOk result (λ w. WhereFits (answer_of w) (λ r. is_large r ≡ false)) }
     ensures value { IsBased (bound_of b.now) → IfOk result
         (λ w. WhereFits (answer_of w) (λ r. HasValueOf r (bound_of b.now))) }
@@ -46,7 +46,7 @@ pub fn rewrite_within(alloc: Global, b: &Bound) -> Result<RewriteResult, Memory>
     measured_first(alloc, b)
 }
 
-// The answer: a large bound is measured before it is rewritten.
+// The answer, where a large bound is recognised by its measure before it is rewritten.
 #[tactic(auto, using(crate::proofs::Loops::views), unfolding(crate::specs::RewriteResult::rewritten_within))]
 fn measured_first(alloc: Global, b: &Bound) -> Result<RewriteResult, Memory>
     ensures { IfOk result (λ w. answer_of w ≡ rewritten_within (bound_of b.now)) }

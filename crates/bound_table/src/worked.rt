@@ -19,8 +19,8 @@ pub fn cases_are_as_worked_out()
     ensures tables { TablesAreWorkedOut }
 {}
 
-/// The definitions give small bounds what was worked out by hand: what each case that splices, folds, drops, sorts or
-/// joins parts makes of them, and what it leaves. Its contract is these values; it does nothing.
+/// Worked values of the cases that splice, fold, drop, sort or join parts: their results on small bounds, and what they
+/// leave unchanged. Its contract is these values; it does nothing.
 pub fn parts_are_as_worked_out()
     ensures spliced { PartsAreSpliced }
     ensures folded { ConstantsAreFolded }
@@ -32,8 +32,8 @@ pub fn parts_are_as_worked_out()
     ensures few { FewPartsAreSimple }
 {}
 
-/// Small bounds are below each other, or aren't, as was worked out by hand. Its contract is these values; it does
-/// nothing.
+/// Worked values of the test `below`: small bounds that are below each other, and others that aren't. Its contract is
+/// these values; it does nothing.
 pub fn lower_bounds_are_as_worked_out()
     ensures constants { ConstantsAreBelow }
     ensures sums { SumsAreBelow }

@@ -6,7 +6,7 @@ use Rattle.bound_expr.specs.Tidy.{IsNoSum, EachPart}
 use Rattle.bound_text.specs.Shapes.{with_part, IsShaped, AreShaped}
 use Rattle.bound_text.specs.Fronts.{as_one, term_of, bound_of_parts, can_end}
 
--- the factors of a term, and the terms and the last one's factors of a bound
+-- the factors of a term
 abbrev pub factors_of : Bound → Parts
 factors_of (ProductOf fs) = fs
 factors_of (Constant c) = Part (Constant c) NoParts
@@ -15,7 +15,7 @@ factors_of (SumOf bs) = Part (SumOf bs) NoParts
 factors_of (MaximumOf bs) = Part (MaximumOf bs) NoParts
 factors_of (PowerOf c e) = Part (PowerOf c e) NoParts
 
--- terms, and then all but the last of some parts
+-- terms, and after them all but the last of some parts
 abbrev pub terms_from : Parts → Parts → Parts
 terms_from ts NoParts = ts
 terms_from ts (Part b NoParts) = ts
@@ -56,36 +56,36 @@ term-factors (ProductOf (Part b (Part c bs))) shaped none = (refl, refl)
 term-factors (MaximumOf bs) shaped none = (refl, refl)
 term-factors (PowerOf c e) shaped none = (refl, refl)
 
--- parts after others
+-- parts appended to others
 abbrev pub appended : Parts → Parts → Parts
 appended ts NoParts = ts
 appended ts (Part b bs) = appended (with_part ts b) bs
 
--- parts and then others, by the first
+-- parts appended to others, by recursion on the second
 abbrev plus_parts : Parts → Parts → Parts
 plus_parts NoParts bs = bs
 plus_parts (Part a args) bs = Part a (plus_parts args bs)
 
--- one part changes sides
+-- moving the first of the second parts to the end of the first parts doesn't change what is appended
 plus_parts-with_part : (ts : Parts) (b : Bound) (bs : Parts) → plus_parts (with_part ts b) bs ≡ plus_parts ts (Part b bs)
 plus_parts-with_part NoParts b bs = refl
 plus_parts-with_part (Part a args) b bs = ap (Part a) (plus_parts-with_part args b bs)
 
--- no parts add nothing
+-- appending no parts changes nothing
 plus_parts-none : (ts : Parts) → plus_parts ts NoParts ≡ ts
 plus_parts-none NoParts = refl
 plus_parts-none (Part a args) = ap (Part a) (plus_parts-none args)
 
--- both ways to put parts together are one
+-- both definitions of appending are equal
 appended-plus : (ts bs : Parts) → appended ts bs ≡ plus_parts ts bs
 appended-plus ts NoParts = sym (plus_parts-none ts)
 appended-plus ts (Part b bs) = appended-plus (with_part ts b) bs ∙ plus_parts-with_part ts b bs
 
--- parts after none are they
+-- parts appended to none are themselves
 pub appended-none : (bs : Parts) → appended NoParts bs ≡ bs
 appended-none bs = appended-plus NoParts bs
 
--- the terms with the last one are the parts of the sum
+-- the terms before the last term, with that one at the end, are the parts of the sum
 terms-last : (ts : Parts) (b : Bound) (bs : Parts) → EachPart IsNoSum (Part b bs) → AreShaped (Part b bs)
     → (with_part (terms_from ts (Part b bs)) (term_of (last_factors (Part b bs))) ≡ appended ts (Part b bs)) × (can_end (last_factors (Part b bs)) ≡ true)
 terms-last ts b NoParts none shaped =
@@ -93,7 +93,7 @@ terms-last ts b NoParts none shaped =
     (ap (with_part ts) t.0, t.1)
 terms-last ts b (Part c cs) none shaped = terms-last (with_part ts b) c cs none.1 shaped.1
 
--- a bound as texts spell it is what its terms and factors make
+-- the terms and factors of a bound that a text spells make that bound
 pub bound-parts : (b : Bound) → IsShaped b → (bound_of_parts (terms_in b) (factors_in b) ≡ b) × ((can_end (factors_in b) ≡ true))
 bound-parts (Constant c) shaped = (refl, refl)
 bound-parts (Input i) shaped = (refl, refl)

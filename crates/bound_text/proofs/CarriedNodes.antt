@@ -18,7 +18,7 @@ use Rattle.bound_text.proofs.StepCases.{of_run}
 use Rattle.bound_text.proofs.TreeSizes.{grows}
 pub use Rattle.bound_text.proofs.RunLaws.{is_over as over}
 
--- of up to two copies all are carried
+-- a run of at most two copies is carried whole
 pub kept_few : (nodes n : ℕ) → n ≤ 2 → copies_within_limit nodes n ≡ n
 kept_few nodes n h = go (nat_lt node_limit nodes)
   where
@@ -26,7 +26,7 @@ kept_few nodes n h = go (nat_lt node_limit nodes)
     go true = omega (arith, h)
     go false = omega (arith, h)
 
--- of more than two copies at least two are carried
+-- of a run of at least two copies at least two are carried
 pub kept_two : (nodes n : ℕ) → 2 ≤ n → 2 ≤ copies_within_limit nodes n
 kept_two nodes n h = go (nat_lt node_limit nodes)
   where
@@ -34,53 +34,53 @@ kept_two nodes n h = go (nat_lt node_limit nodes)
     go true = omega (arith, h)
     go false = omega (arith, h)
 
--- more than one, as the test says
+-- a number of at least 2 passes the test `nat_lt 1`
 pub is_several : (n : ℕ) → 2 ≤ n → nat_lt 1 n ≡ true
 is_several n h = grind (arith, nat_tests)
 
--- a number that passes the test is at least 2
+-- a number that passes the test `nat_lt 1` is at least 2
 pub are_two : (n : ℕ) → nat_lt 1 n ≡ true → 2 ≤ n
 are_two n h = grind (arith, nat_tests)
 
--- a number that fails the test is at most 2
+-- a number that fails the test `nat_lt 1` is at most 2
 pub are_few : (n : ℕ) → nat_lt 1 n ≡ false → n ≤ 2
 are_few n h = grind (arith, nat_tests)
 
--- a number that passes the test is over the limit
+-- a number that passes the test `nat_lt node_limit` is over the limit
 pub are_over : (m : ℕ) → nat_lt node_limit m ≡ true → node_limit < m
 are_over m h = grind (arith, nat_tests)
 
--- a number within the limit fails the test
+-- a number within the limit fails the test `nat_lt node_limit`
 pub is_within : (m : ℕ) → m ≤ node_limit → nat_lt node_limit m ≡ false
 is_within m h = grind (arith, nat_tests)
 
--- a number that fails the test is within the limit
+-- a number that fails the test `nat_lt node_limit` is within the limit
 pub are_within : (m : ℕ) → nat_lt node_limit m ≡ false → m ≤ node_limit
 are_within m h = grind (arith, nat_tests)
 
--- after what is within the limit a run is carried whole that isn't over it
+-- if the nodes before are within the limit, a run within the limit is carried whole
 pub kept_short : (nodes n : ℕ) → nat_lt node_limit nodes ≡ false → n ≤ node_limit → copies_within_limit nodes n ≡ n
 kept_short nodes n e h = ap (λ (v : Bool). min n (cond v 2 (node_limit + 1))) e ∙ omega (arith, h)
 
--- copies over the limit are carried as copies over the limit
+-- if the nodes before are within the limit, a run over the limit is carried as a run over the limit
 kept_over : (nodes n : ℕ) → nat_lt node_limit nodes ≡ false → node_limit < n → node_limit < copies_within_limit nodes n
 kept_over nodes n e h = subst (λ (v : Bool). node_limit < min n (cond v 2 (node_limit + 1))) (sym e) (omega (arith, h))
 
--- the nodes after a run
+-- a run of n copies, two or more, has n nodes and that of a product if there was none before
 run_nodes : (outer : Outer) (ts fs : Parts) (n i : ℕ) → nat_lt 1 n ≡ true
     → nodes_of (front_at outer ts (with_copies n i fs) ItemRead) ≡ nodes_round outer + sum_node outer ts + node_count_of_all ts + 1 + node_count_of_all fs + n
 run_nodes outer ts fs zero i more = cc
 run_nodes outer ts fs (suc zero) i more = cc
 run_nodes outer ts fs (suc (suc n)) i more = omega (arith, node_count-with_copies (suc (suc n)) i fs, product_two (with_copies n i fs) (Input i) (Input i))
 
--- a run is too large by its copies
+-- the tree is too large after a run with more copies than the limit
 run_large : (outer : Outer) (ts fs : Parts) (n i : ℕ) → nat_lt 1 n ≡ true → node_limit < n → has_many (end_run outer ts fs i (Number n)) ≡ true
 run_large outer ts fs n i more h = ap (λ (v : Bool). has_many (when v f)) more ∙ over (nodes_of f) (omega (arith, h, run_nodes outer ts fs n i more))
   where
     f : Front
     f = front_at outer ts (with_copies n i fs) ItemRead
 
--- the nodes are too many by the copies, or by the pieces before
+-- after a run, the nodes are too many exactly if the copies alone, or with those before, are too many
 behind_large : (outer : Outer) (ts fs : Parts) (n i : ℕ) → nat_lt 1 n ≡ true → nat_lt node_limit (nodes_of (front_at outer ts fs (RunCaret i))) ≡ true → has_many (end_run outer ts fs i (Number n)) ≡ true
 behind_large outer ts fs zero i more h = cc
 behind_large outer ts fs (suc zero) i more h = cc
@@ -94,7 +94,7 @@ behind_large outer ts fs (suc (suc n)) i more h =
     g : Front
     g = front_at outer ts (with_copies (suc (suc n)) i fs) ItemRead
 
--- the capped number of copies is too large exactly if the written one is
+-- the tree after the carried run is too large exactly if the tree after the written run is
 pub run_many : (outer : Outer) (ts fs : Parts) (n i : ℕ)
     → has_many (end_run outer ts fs i (Number (copies_within_limit (nodes_of (front_at outer ts fs (RunCaret i))) n))) ≡ has_many (end_run outer ts fs i (Number n))
 run_many outer ts fs n i = go (nat_lt 1 n) refl
@@ -121,7 +121,7 @@ run_many outer ts fs n i = go (nat_lt 1 n) refl
     go true e = several e (nat_lt node_limit nodes) refl
     go false e = same (kept_few nodes n (are_few n e))
 
--- how large a base is makes no node
+-- the number of nodes doesn't depend on the size of a base
 pub base_many : (outer : Outer) (ts fs : Parts) (factor : Option Bound)
     → has_many (cond (is_large_number factor) (Some (front_at outer ts fs (PowerCaret (2 ^ 64 - 1)))) (caret_behind outer ts fs factor)) ≡ has_many (caret_behind outer ts fs factor)
 base_many outer ts fs None = refl
@@ -137,7 +137,7 @@ base_many outer ts fs (Some (ProductOf bs)) = refl
 base_many outer ts fs (Some (MaximumOf bs)) = refl
 base_many outer ts fs (Some (PowerOf c e)) = refl
 
--- a run in a product of its own is carried so, where the numbers say it
+-- a run is carried as the numbers say, in a product of its own
 carries : (fs : Parts) (n kept i nodes before : ℕ) (many : Bool) → nodes_of (front_at Whole NoParts fs (RunCaret i)) ≡ nodes → node_count_of_all fs ≡ before → nat_lt 1 n ≡ true
     → copies_within_limit nodes n ≡ kept → nat_lt node_limit (1 + before + n) ≡ many → IsCarried (front_at Whole NoParts fs (RunCaret i)) n kept many
 carries fs n kept i nodes before many e b more k m = record {
@@ -152,21 +152,21 @@ carries fs n kept i nodes before many e b more k m = record {
     written : has_many (end_run Whole NoParts fs i (Number n)) ≡ many
     written = ap (λ (v : Bool). has_many (when v (front_at Whole NoParts (with_copies n i fs) ItemRead))) more ∙ ap (nat_lt node_limit) count ∙ m
 
--- at the beginning
+-- a run at the beginning is carried as the numbers say
 carries_begun : (n kept : ℕ) (many : Bool) → nat_lt 1 n ≡ true → copies_within_limit 1 n ≡ kept → nat_lt node_limit (1 + 0 + n) ≡ many → IsCarried begun_run n kept many
 carries_begun n kept many = carries NoParts n kept 0 1 0 many refl refl
 
--- the nodes of `B^` after copies
+-- the number of nodes of the state after copies of `A` and `B^`
 behind_nodes : (k : ℕ) → nat_lt 0 k ≡ true → nodes_of (behind_run k) ≡ k + 2
 behind_nodes zero h = cc
 behind_nodes (suc k) h =
     omega (arith, product_node-with_part (with_copies (suc k) 0 NoParts) (Input 0) refl, product_two (with_copies k 0 NoParts) (Input 0) (Input 0), node_count-with_copies (suc k) 0 NoParts)
 
--- the state after copies is carried
+-- a run after copies of `A` is carried as the numbers say
 carries_behind : (k n kept : ℕ) (many : Bool) → nat_lt 0 k ≡ true → nat_lt 1 n ≡ true → copies_within_limit (k + 2) n ≡ kept → nat_lt node_limit (1 + k + n) ≡ many → IsCarried (behind_run k) n kept many
 carries_behind k n kept many some = carries (with_copies k 0 NoParts) n kept 1 (k + 2) k many (behind_nodes k some) (omega (arith, node_count-with_copies k 0 NoParts))
 
--- the worked runs
+-- the worked values of carried runs hold
 pub runs_are_worked : RunsAreWorkedOut
 runs_are_worked = record {
   largest = carries_begun 4095 4095 false refl refl refl;

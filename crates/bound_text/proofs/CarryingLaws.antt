@@ -1,4 +1,4 @@
--- No mark depends on the size of a base, nor on the length of a run.
+-- The marks of a state don't depend on the size of a base, nor on the length of a run.
 use Rattle.std.proofs.Common.{◌≡◌, ℕ, zero, suc, ◌-◌, ◌+◌, ◌^◌, ◌<◌, ◌≤◌, Bool, true, false, cond, not, ◌&&◌, min}
 use Rattle.std.proofs.Common.{nat_lt, nat_le, List, [], ◌∷◌, Option, Some, None, refl, ap, sym, subst, ◌∙◌, arith}
 use Rattle.std.specs.Prelude.{IsTrue, Result, Ok, Err}
@@ -38,14 +38,14 @@ use Rattle.bound_text.proofs.MarkLaws.{copies_behind, ends_nothing}
 abbrev run_marks : Outer → Parts → Parts → ℕ → ℕ → Marks
 run_marks outer ts fs n i = front_marks (front_at outer ts (with_copies n i fs) ItemRead)
 
--- a run of two or more has the marks of one of two
+-- a run of two or more copies has the marks of one of two copies
 two_alike : (outer : Outer) (ts fs : Parts) (n i : ℕ) → is_input i (last fs) ≡ false → run_marks outer ts fs (suc (suc n)) i ≡ run_marks outer ts fs 2 i
 two_alike outer ts fs n i h = same (suc n) (more n) ∙ sym (same 1 refl)
   where
     level : ℕ
     level = level_behind (levels_above outer) (sum_node outer ts) 1
 
-    -- it has several
+    -- a run of two or more copies has more than one
     more : (n : ℕ) → nat_lt 1 (suc (suc n)) ≡ true
     more n = grind (arith, nat_tests)
 
@@ -59,13 +59,13 @@ two_alike outer ts fs n i h = same (suc n) (more n) ∙ sym (same 1 refl)
         (copies_behind level (suc m) i fs [] (ends_nothing fs i (ap not h))
         ∙ ap (λ (v : Bool). factors_marks level Nothing fs (star_marks fs (Some level ∷ cond v (None ∷ None ∷ []) []))) e)
 
--- every run that can be read has at least two copies
+-- every run whose number passes the test has the marks of one of two copies
 run_two : (outer : Outer) (ts fs : Parts) (n i : ℕ) → nat_lt 1 n ≡ true → is_input i (last fs) ≡ false → option_map front_marks (end_run outer ts fs i (Number n)) ≡ Some (run_marks outer ts fs 2 i)
 run_two outer ts fs zero i more h = cc
 run_two outer ts fs (suc zero) i more h = cc
 run_two outer ts fs (suc (suc n)) i more h = rw more (ap Some (two_alike outer ts fs n i h))
 
--- the carried run has the marks of the exact one
+-- the state after the carried run has the marks of the exact one
 run_alike : (outer : Outer) (ts fs : Parts) (nodes n i : ℕ) → is_input i (last fs) ≡ false
     → option_map front_marks (end_run outer ts fs i (Number (copies_within_limit nodes n))) ≡ option_map front_marks (end_run outer ts fs i (Number n))
 run_alike outer ts fs nodes n i h = go (nat_lt 1 n) refl
@@ -74,7 +74,7 @@ run_alike outer ts fs nodes n i h = go (nat_lt 1 n) refl
     go true e = run_two outer ts fs (copies_within_limit nodes n) i (is_several (copies_within_limit nodes n) (kept_two nodes n (are_two n e))) h ∙ sym (run_two outer ts fs n i e h)
     go false e = ap (λ (k : ℕ). option_map front_marks (end_run outer ts fs i (Number k))) (kept_few nodes n (are_few n e))
 
--- the carried base has the marks of the exact one
+-- the state after the carried base has the marks of the exact one
 base_alike : (outer : Outer) (ts fs : Parts) (factor : Option Bound)
     → option_map front_marks (cond (is_large_number factor) (Some (front_at outer ts fs (PowerCaret (2 ^ 64 - 1)))) (caret_behind outer ts fs factor))
     ≡ option_map front_marks (caret_behind outer ts fs factor)
@@ -97,7 +97,7 @@ abbrev carried_at : Position → Outer → Parts → Parts → ℕ → Piece →
 carried_at position outer ts fs nodes piece =
     cond (has_large_base_at position fs piece) (Some (front_at outer ts (init fs) (PowerCaret (2 ^ 64 - 1)))) (step_at position outer ts fs (kept_at position nodes piece))
 
--- after an item
+-- after a piece that follows an item, the carried state has the marks of the exact one
 item_alike : (outer : Outer) (ts fs : Parts) (nodes : ℕ) (piece : Piece)
     → option_map front_marks (carried_at ItemRead outer ts fs nodes piece) ≡ option_map front_marks (step_at ItemRead outer ts fs piece)
 item_alike outer ts fs nodes (Variable i) = refl
@@ -112,7 +112,7 @@ item_alike outer ts fs nodes Blank = refl
 item_alike outer ts fs nodes Comma = refl
 item_alike outer ts fs nodes Wrong = refl
 
--- after the `^` of a run
+-- after the number of a run, the carried state has the marks of the exact one
 number_alike : (outer : Outer) (ts fs : Parts) (nodes i : ℕ) (piece : Piece) → is_input i (last fs) ≡ false
     → option_map front_marks (carried_at (RunCaret i) outer ts fs nodes piece) ≡ option_map front_marks (step_at (RunCaret i) outer ts fs piece)
 number_alike outer ts fs nodes i (Variable j) h = refl
@@ -127,7 +127,7 @@ number_alike outer ts fs nodes i Blank h = refl
 number_alike outer ts fs nodes i Comma h = refl
 number_alike outer ts fs nodes i Wrong h = refl
 
--- at each position
+-- after a piece at any position, the carried state has the marks of the exact one
 marks_alike : (position : Position) (outer : Outer) (ts fs : Parts) (nodes : ℕ) (piece : Piece) → IsPosition position outer ts fs
     → option_map front_marks (carried_at position outer ts fs nodes piece) ≡ option_map front_marks (step_at position outer ts fs piece)
 marks_alike Begins outer ts fs nodes piece h = refl
@@ -138,7 +138,7 @@ marks_alike BlankRead outer ts fs nodes piece h = refl
 marks_alike PlusRead outer ts fs nodes piece h = refl
 marks_alike CommaRead outer ts fs nodes piece h = refl
 
--- within the limits all copies are carried
+-- within the limits all copies of a run are carried
 copies_same : (outer : Outer) (ts fs : Parts) (nodes n i : ℕ) → nodes ≤ node_limit → has_many (end_run outer ts fs i (Number n)) ≡ false → copies_within_limit nodes n ≡ n
 copies_same outer ts fs nodes n i small h = go (nat_lt 1 n) refl h
   where
@@ -149,7 +149,7 @@ copies_same outer ts fs nodes n i small h = go (nat_lt 1 n) refl h
     go true e few = kept_short nodes n (is_within nodes small) (omega (arith, are_within (nodes_of f) few, node_count-with_copies n i fs))
     go false e few = kept_few nodes n (are_few n e)
 
--- the piece itself is carried unchanged
+-- within the limits the piece is carried unchanged
 kept_same : (position : Position) (outer : Outer) (ts fs : Parts) (nodes : ℕ) (piece : Piece) → nodes ≤ node_limit → has_many (step_at position outer ts fs piece) ≡ false
     → step_at position outer ts fs (kept_at position nodes piece) ≡ step_at position outer ts fs piece
 kept_same Begins outer ts fs nodes piece h many = refl
@@ -170,7 +170,7 @@ kept_same BlankRead outer ts fs nodes piece h many = refl
 kept_same PlusRead outer ts fs nodes piece h many = refl
 kept_same CommaRead outer ts fs nodes piece h many = refl
 
--- at each position what is carried has too many nodes where there are
+-- at each position the carried state has too many nodes exactly if the exact one has
 many_at : (position : Position) (outer : Outer) (ts fs : Parts) (piece : Piece)
     → has_many (carried_at position outer ts fs (nodes_of (front_at outer ts fs position)) piece) ≡ has_many (step_at position outer ts fs piece)
 many_at Begins outer ts fs piece = refl
@@ -223,7 +223,7 @@ carried_fronts_are_marked = record {
   worked = runs_are_worked;
 }
 
--- a run is carried with as many copies as were made
+-- a run is carried with as many copies as the code made
 pub run_carried : (outer : Outer) (ts fs behind : Parts) (piece : Piece) (nodes counted n kept i : ℕ) → piece ≡ Number n → 1 < n
     → counted ≡ min nodes (2 ^ 64 - 1) → kept ≡ copies_within_limit counted n → behind ≡ with_copies kept i fs
     → (end_run outer ts fs i (kept_at (RunCaret i) nodes piece) ≡ Some (front_at outer ts behind ItemRead)) × IsTrue (not (takes_caret (init behind) (last behind)))
@@ -247,7 +247,7 @@ run_carried outer ts fs behind piece nodes counted n kept i p more m k e = (
     several : nat_lt 1 kept ≡ true
     several = is_several kept two
 
--- after a number that is a factor already no `^` can come
+-- after a number that is a factor already no `^` can follow
 base_settled : (fs : Parts) (factor : Option Bound) → not (takes_caret fs factor) ≡ true → is_large_number factor ≡ true → ⊥
 base_settled fs None settled large = cc
 base_settled fs (Some (Constant c)) settled large = cc
@@ -268,7 +268,7 @@ base_carried (at.Name i) outer ts fs Caret settled large = let e : is_large_numb
 base_carried at.ItemRead outer ts fs Caret settled large = absurd (base_settled (init fs) (last fs) settled large)
 base_carried position outer ts fs piece settled large = cc
 
--- no fault is found
+-- if none of the tests finds a fault, the piece has none
 pub finds_none : (n : ℕ) (f : Front) (piece : Piece) (behind : List Piece) (base caret : Bool) → base ≡ (begins f.position && caret) → caret ≡ caret_next behind
     → (r : Result (Unit {0}) Fault) (u : Unit {0}) → r ≡ Ok u → FindsFault (fault_of n base piece) r → None ≡ option_map fault_from (first_of (stands n f piece behind) early_kinds)
 finds_none n f piece behind base caret b e r u is h =
@@ -279,7 +279,7 @@ finds_none n f piece behind base caret b e r u is h =
     go None h = refl
     go (Some kind) h = absurd h
 
--- one of the tests finds the fault
+-- if one of the tests finds a fault, it is the fault of the piece
 pub finds_some : (n : ℕ) (f : Front) (piece : Piece) (behind : List Piece) (base caret : Bool) → base ≡ (begins f.position && caret) → caret ≡ caret_next behind
     → (r : Result (Unit {0}) Fault) (fault : Fault) → r ≡ Err fault → FindsFault (fault_of n base piece) r → Some fault ≡ option_map fault_from (first_of (stands n f piece behind) early_kinds)
 finds_some n f piece behind base caret b e r fault is h =

@@ -20,25 +20,25 @@ use Rattle.bound_text.proofs.BoundParts.{factors_of, terms_from, last_factors, t
 use Rattle.bound_text.proofs.BoundParts.{appended, appended-none, bound-parts}
 use Rattle.std.proofs.lemmas.Bool.{eqb-true as same_number}
 
--- where an item can begin, and after one
+-- the state where an item can begin
 abbrev pub starts : Outer → Parts → Parts → Option Front
 starts outer ts fs = Some (front_at outer ts fs Begins)
 
--- after an item
+-- the state after an item
 abbrev pub stands : Outer → Parts → Parts → Option Front
 stands outer ts fs = Some (front_at outer ts fs ItemRead)
 
--- a walk from where a test leads
+-- a walk from a state that is reached only if a test holds
 pub walk-when : (v : Bool) (f : Front) (pieces : List Piece) → v ≡ true → walk (when v f) pieces ≡ walk (Some f) pieces
 walk-when true f pieces h = refl
 walk-when false f pieces h = cc
 
--- a variable is read where it isn't the last factor
+-- a variable is read unless it is the last factor
 pub read_input : (outer : Outer) (ts fs : Parts) (i : ℕ) (rest : List Piece) → is_input i (last fs) ≡ false
     → walk (starts outer ts fs) (Variable i ∷ rest) ≡ walk (stands outer ts (with_part fs (Input i))) rest
 read_input outer ts fs i rest h = walk-when (not (is_input i (last fs))) (behind_factor outer ts fs (Input i)) rest (ap not h)
 
--- `^` after a variable, and after a number
+-- `^` after a variable is read as that of a run
 pub read_run_caret : (outer : Outer) (ts fs : Parts) (i : ℕ) (rest : List Piece) → is_input i (last fs) ≡ false
     → walk (stands outer ts (with_part fs (Input i))) (Caret ∷ rest) ≡ walk (Some (front_at outer ts fs (RunCaret i))) rest
 read_run_caret outer ts fs i rest h =
@@ -65,9 +65,8 @@ read_run outer ts fs (suc n) i rest h =
     ∙ read_run_caret outer ts fs i (Number (suc (suc n)) ∷ rest) h
     ∙ walk-when (nat_lt 1 (suc (suc n))) (front_at outer ts (with_copies (suc (suc n)) i fs) ItemRead) rest more
 
--- the next bound can follow: as a sum's term after the first terms, as a product if there is no factor before, or as
--- one more factor
--- one more factor
+-- the next bound can follow: as a sum's term after other terms, as a product if there is no factor before, or as one
+-- more factor
 abbrev pub CanFollow : Bound → Parts → Type 0
 CanFollow (Input i) fs = is_input i (last fs) ≡ false
 CanFollow (Constant c) fs = ⊤
@@ -94,7 +93,7 @@ Reads (Input i) = ReadsItem (Input i)
 Reads (MaximumOf bs) = ReadsItem (MaximumOf bs)
 Reads (PowerOf c e) = ReadsItem (PowerOf c e)
 
--- each part is read
+-- each of the parts is read as it is written
 abbrev pub AllRead : Parts → Type 0
 AllRead NoParts = ⊤
 AllRead (Part b bs) = Reads b × AllRead bs
@@ -117,7 +116,7 @@ term_read (Input i) r none outer ts rest = r.each outer ts NoParts rest refl
 term_read (MaximumOf bs) r none outer ts rest = r.each outer ts NoParts rest tt
 term_read (PowerOf c e) r none outer ts rest = r.each outer ts NoParts rest tt
 
--- ` + ` after a term
+-- ` + ` after a term is read
 pub read_plus : (b : Bound) → IsShaped b → IsNoSum b → (outer : Outer) (ts : Parts) (rest : List Piece)
     → walk (stands outer ts (factors_of b)) (Blank ∷ Plus ∷ Blank ∷ rest) ≡ walk (starts outer (with_part ts b) NoParts) rest
 read_plus b shaped none outer ts rest =
@@ -141,7 +140,7 @@ close_read bracket b outer ts' fs' ts fs rest ends is closes =
     ap (λ (c : Bound). walk (when (can_end fs && can_close bracket c) (behind_factor outer ts' fs' (item_of bracket c))) rest) is
     ∙ walk-when (can_end fs && can_close bracket b) (behind_factor outer ts' fs' (item_of bracket b)) rest (ap (λ (v : Bool). v && can_close bracket b) ends ∙ closes)
 
--- a bound in the brackets of an item
+-- a bound in the brackets of an item is read
 in_brackets_read : (bracket : Bracket) (b : Bound) → Reads b → IsShaped b → can_close bracket b ≡ true → (outer : Outer) (ts fs : Parts) (rest : List Piece)
     → walk (starts (Inside bracket ts fs outer) NoParts NoParts) (text_then b (Close ∷ rest)) ≡ walk (stands outer ts (with_part fs (item_of bracket b))) rest
 in_brackets_read bracket b r shaped closes outer ts fs rest =
@@ -159,11 +158,11 @@ factor_read (Input i) r shaped none h outer ts fs rest = cc
 factor_read (MaximumOf bs) r shaped none h outer ts fs rest = r.each outer ts fs rest tt
 factor_read (PowerOf c e) r shaped none h outer ts fs rest = r.each outer ts fs rest tt
 
--- the last of copies is the variable
+-- the last of one or more copies of a variable is that variable
 last-copies : (n i j : ℕ) (fs : Parts) → is_input j (last (with_copies (suc n) i fs)) ≡ nat_eq i j
 last-copies n i j fs = ap (is_input j) (last-with_part (with_copies n i fs) (Input i))
 
--- after a factor that is no variable the last one is none
+-- a factor that is no variable is the last factor, and that is no variable
 no_input : (b : Bound) (j : ℕ) (fs : Parts) → is_variable b ≡ false → is_input j (last (with_part fs b)) ≡ false
 no_input b j fs h = ap (is_input j) (last-with_part fs b) ∙ go b h
   where
@@ -175,7 +174,7 @@ no_input b j fs h = ap (is_input j) (last-with_part fs b) ∙ go b h
     go (MaximumOf bs) h = refl
     go (PowerOf c e) h = refl
 
--- a variable after a run that isn't read yet
+-- a variable is read after a run whose pieces are still to be read
 variable_read : (bs : Parts) (n i j : ℕ) (outer : Outer) (ts fs : Parts) (rest : List Piece) → is_input i (last fs) ≡ false → (v : Bool) → nat_eq i j ≡ v
     → ((m : ℕ) (gs : Parts) → is_input i (last gs) ≡ false → walk (starts outer ts gs) (factors_then (Run i (suc m)) bs rest) ≡ walk (stands outer ts (appended (with_copies (suc m) i gs) bs)) rest)
     → ((gs : Parts) → is_input j (last gs) ≡ false → walk (starts outer ts gs) (factors_then (Run j 1) bs rest) ≡ walk (stands outer ts (appended (with_part gs (Input j)) bs)) rest)
@@ -190,7 +189,7 @@ variable_read bs n i j outer ts fs rest h false e same other =
     ∙ other (with_copies (suc n) i fs) (last-copies n i j fs ∙ e)
 
 mutual
-  -- the factors after a run that isn't read yet
+  -- factors are read after a run whose pieces are still to be read
   run_factors_read : (bs : Parts) → AllRead bs → EachPart IsNoProduct bs → AreShaped bs → (n i : ℕ) (outer : Outer) (ts fs : Parts) (rest : List Piece) → is_input i (last fs) ≡ false
       → walk (starts outer ts fs) (factors_then (Run i (suc n)) bs rest) ≡ walk (stands outer ts (appended (with_copies (suc n) i fs) bs)) rest
   run_factors_read NoParts rs none shaped n i outer ts fs rest h = read_run outer ts fs n i rest h
@@ -203,7 +202,7 @@ mutual
       ∙ factor_read b rs.0 shaped.0 none.0 refl outer ts (with_copies (suc n) i fs) (factors_then Other bs rest)
       ∙ factors_read bs rs.1 none.1 shaped.1 outer ts (with_part (with_copies (suc n) i fs) b) rest (λ j. no_input b j (with_copies (suc n) i fs) refl)
 
-  -- the factors after others
+  -- the factors of a product are read after other factors
   factors_read : (bs : Parts) → AllRead bs → EachPart IsNoProduct bs → AreShaped bs → (outer : Outer) (ts fs : Parts) (rest : List Piece) → ((j : ℕ) → is_input j (last fs) ≡ false)
       → walk (stands outer ts fs) (factors_then Other bs rest) ≡ walk (stands outer ts (appended fs bs)) rest
   factors_read NoParts rs none shaped outer ts fs rest h = refl
@@ -265,13 +264,13 @@ exponent_read c (ProductOf bs) r shaped outer ts fs rest = in_brackets_read (Exp
 exponent_read c (MaximumOf bs) r shaped outer ts fs rest = in_brackets_read (Exponent c) (MaximumOf bs) r shaped refl outer ts fs rest
 exponent_read c (PowerOf d e) r shaped outer ts fs rest = in_brackets_read (Exponent c) (PowerOf d e) r shaped refl outer ts fs rest
 
--- arguments are at least two
+-- the arguments of a maximum are at least two
 two_arguments : (b : Bound) (bs : Parts) → 2 ≤ part_count (Part b bs) → is_empty bs && true ≡ false
 two_arguments b NoParts h = absurd (omega (arith, h))
 two_arguments b (Part c cs) h = refl
 
 mutual
-  -- a bound as texts spell it is read
+  -- a bound that a text spells is read
   pub reads : (b : Bound) → IsShaped b → Reads b
   reads (Constant c) shaped = record { each = λ outer ts fs rest h. refl }
   reads (Input i) shaped = record { each = λ outer ts fs rest h. read_input outer ts fs i rest h }
@@ -291,7 +290,7 @@ mutual
         ∙ exponent_read c e (reads e shaped.1) shaped.1 outer ts fs rest;
   }
 
-  -- each of several parts with the shape of a text is read as it is written
+  -- each of several bounds that texts spell is read as it is written
   pub all_read : (bs : Parts) → AreShaped bs → AllRead bs
   all_read NoParts shaped = tt
   all_read (Part b bs) shaped = (reads b shaped.0, all_read bs shaped.1)

@@ -11,30 +11,30 @@ use Rattle.bound_text.specs.Steps.{with_copies, front_at, behind_factor, can_clo
 use Rattle.bound_text.proofs.PartLaws.{is_empty-with_part}
 use Rattle.bound_text.proofs.CompletenessLaws.{starts, stands, walk-when}
 
--- the bound of a text that ends where a walk leads
+-- the bound of a text that ends in the state that was reached, if it was
 abbrev pub finished : Option Front → Option Bound
 finished None = None
 finished (Some f) = finish f
 
--- some pieces lead to the end of a text
+-- some further pieces make a whole text of a bound
 pub record Completes (reached : Option Front) : Type 0 where
   pub pieces : List Piece
   pub bound : Bound
   pub ends : finished (walk reached pieces) ≡ Some bound
 
--- with `0` as one more factor a term can end
+-- after `0` as one more factor a term can end
 can_end_more : (fs : Parts) → can_end (with_part fs (Constant 0)) ≡ true
 can_end_more NoParts = refl
 can_end_more (Part b NoParts) = refl
 can_end_more (Part b (Part c cs)) = refl
 
--- a term and one more are a sum
+-- terms with one more term after them make a sum
 two_terms : (ts : Parts) (t : Bound) → bound_of_parts (with_part ts t) (Part (Constant 0) NoParts) ≡ SumOf (with_part (with_part ts t) (Constant 0))
 two_terms NoParts t = refl
 two_terms (Part c NoParts) t = refl
 two_terms (Part c (Part d ds)) t = refl
 
--- `*0 + 0` makes the bound a sum
+-- `*0 + 0` makes the innermost bound a sum, and that can be completed
 more : (outer : Outer) (ts fs : Parts) → Completes (stands outer (with_part ts (term_of (with_part fs (Constant 0)))) (Part (Constant 0) NoParts)) → Completes (stands outer ts fs)
 more outer ts fs c = record {
   pieces = Times ∷ Number 0 ∷ Blank ∷ Plus ∷ Blank ∷ Number 0 ∷ c.pieces;
@@ -42,7 +42,7 @@ more outer ts fs c = record {
   ends = ap finished (walk-when (can_end (with_part fs (Constant 0))) (front_at outer ts (with_part fs (Constant 0)) BlankRead) (Plus ∷ Blank ∷ Number 0 ∷ c.pieces) (can_end_more fs)) ∙ c.ends;
 }
 
--- a bracket closes after a sum
+-- a bracket that closes after a sum can be completed
 closes : (bracket : Bracket) (ts' fs' : Parts) (outer : Outer) (ts : Parts) (t : Bound) → can_close bracket (bound_of_parts (with_part ts t) (Part (Constant 0) NoParts)) ≡ true
     → Completes (stands outer ts' (with_part fs' (item_of bracket (bound_of_parts (with_part ts t) (Part (Constant 0) NoParts)))))
     → Completes (stands (Inside bracket ts' fs' outer) (with_part ts t) (Part (Constant 0) NoParts))
@@ -52,7 +52,7 @@ closes bracket ts' fs' outer ts t h c = record {
   ends = ap finished (walk-when (can_close bracket (bound_of_parts (with_part ts t) (Part (Constant 0) NoParts))) (behind_factor outer ts' fs' (item_of bracket (bound_of_parts (with_part ts t) (Part (Constant 0) NoParts)))) c.pieces h) ∙ c.ends;
 }
 
--- one more argument, and the maximum closes
+-- an open maximum with one more argument can be completed
 one_more : (bs ts' fs' : Parts) (outer : Outer) (ts : Parts) (t : Bound)
     → Completes (stands outer ts' (with_part fs' (item_of (Arguments (with_part bs (bound_of_parts (with_part ts t) (Part (Constant 0) NoParts)))) (Constant 0))))
     → Completes (stands (Inside (Arguments bs) ts' fs' outer) (with_part ts t) (Part (Constant 0) NoParts))
@@ -75,15 +75,15 @@ close_all (Inside (Arguments bs) ts' fs' outer) ts t = one_more bs ts' fs' outer
 close_all (Inside (Exponent c) ts' fs' outer) ts t = closes (Exponent c) ts' fs' outer ts t (ap (λ (b : Bound). not (is_leaf b)) (two_terms ts t)) (more outer ts' _ (close_all outer ts' _))
 close_all (Inside Factor ts' fs' outer) ts t = closes Factor ts' fs' outer ts t (ap is_sum (two_terms ts t)) (more outer ts' _ (close_all outer ts' _))
 
--- after an item
+-- the state after an item can be completed
 item_completes : (outer : Outer) (ts fs : Parts) → Completes (stands outer ts fs)
 item_completes outer ts fs = more outer ts fs (close_all outer ts (term_of (with_part fs (Constant 0))))
 
--- where an item begins
+-- the state where an item begins can be completed
 begin_completes : (outer : Outer) (ts fs : Parts) → Completes (starts outer ts fs)
 begin_completes outer ts fs = let c = item_completes outer ts (with_part fs (Constant 0)) in record { pieces = Number 0 ∷ c.pieces; bound = c.bound; ends = c.ends }
 
--- the pieces of a state can be completed
+-- every state that pieces lead to can be completed
 pub completes : (f : Front) → IsFront f → Completes (Some f)
 completes f is = go f.position is.position
   where

@@ -1,4 +1,4 @@
--- Flags of pieces, one after the other.
+-- The flags of pieces, appended one after the other.
 use Rattle.std.proofs.Common.{◌≡◌, ℕ, suc, ◌+◌, ◌-◌, ◌≤◌, ◌<◌, Bool, true, false, cond, not, nat_lt, List, [], ◌∷◌}
 use Rattle.std.proofs.Common.{◌++◌, length, drop, get_or, refl, sym, ap, subst, ◌∙◌, arith, Option, Some, None}
 use Rattle.std.specs.Prelude.{Result, Ok, Err, OnOk, IsFalse, if◌then◌else◌, slice_get}
@@ -36,29 +36,29 @@ use Rattle.bound_text.proofs.MarkLaws.{other_factor, front_here}
 abbrev pub Answer : Type 0
 Answer = Result (Unit {0}) AllocError
 
--- where a fact holds unless something fails, so does what follows from it
+-- what follows from a property that holds if no allocation fails holds if none fails, too
 pub on_ok : (P Q : Type 0) (r : Answer) → (P → Q) → OnOk r P → OnOk r Q
 on_ok P Q (Err e) f h = tt
 on_ok P Q (Ok u) f h = f h
 
--- one piece with which no part begins, and then two, and then three
+-- the flags of two pieces with which no part begins, appended one after the other, are those of both
 pub two_passed : (old a new : List Bool) → Passes old a (λ rest. None ∷ rest) → Passes a new (λ rest. None ∷ rest)
     → Passes old new (unmarked comma_between)
 two_passed old a new g h = record { each = λ most rest. h.each most rest ∙ g.each most (None ∷ rest) }
 
--- three pieces with which no part begins are put as those between two terms of a sum
+-- the flags of three pieces with which no part begins are those of the separator of a sum's terms
 pub three_passed : (old a b new : List Bool) → Passes old a (λ rest. None ∷ rest) → Passes a b (λ rest. None ∷ rest)
     → Passes b new (λ rest. None ∷ rest) → Passes old new (unmarked plus_between)
 three_passed old a b new g h k = record {
   each = λ most rest. k.each most rest ∙ h.each most (None ∷ rest) ∙ g.each most (None ∷ None ∷ rest);
 }
 
--- two pieces with which no part begins, at any level
+-- the flags of two pieces with which no part begins are appended at any level
 pub two_pieces : (room : ℕ) (old a new : List Bool) → Passes old a (λ rest. None ∷ rest) → Passes a new (λ rest. None ∷ rest)
     → FlagsAll room old new (λ level rest. None ∷ None ∷ rest)
 two_pieces room old a new g h = record { each = λ most level rest e. h.each most rest ∙ g.each most (None ∷ rest) }
 
--- a run of more than one: its variable, and what says how many there are
+-- the flags of a run of more than one copy: that of its variable, and those of `^` and the number of copies
 pub run_marked : (room : ℕ) (old a b new : List Bool) (i n : ℕ) → 1 < n → FlagsAll room old a (λ level rest. Some level ∷ rest)
     → Passes a b (λ rest. None ∷ rest) → Passes b new (λ rest. None ∷ rest)
     → FlagsAll room old new (λ level. ended_marks level (writing.Run i n))
@@ -73,11 +73,11 @@ run_marked room old a b new i n more g h k = record {
         let e : nat_lt 1 n ≡ true = grind (arith, nat_tests) in
         ap (λ (v : Bool). if v then None ∷ None ∷ rest else rest) (sym e)
 
--- a level more leaves one less
+-- at a level one deeper, parts may have one level less
 less : (room lower most level : ℕ) → lower ≡ room - 1 → room ≡ suc most - level → lower ≡ suc most - suc level
 less room lower most level b e = omega (arith, b, e)
 
--- the terms of a sum, and the factors of a product, are a level below it
+-- the flags of a sum are those of its terms, a level below it
 pub sum_marked : (room lower : ℕ) (old new : List Bool) (b : Bound) (v : Vec Bound Global) (items : List Bound) (r : Answer) → b ≡ Sum v
     → lower ≡ room - 1 → items ≡ v.items
     → OnOk r (FlagsAll lower old new (λ level. joined_marks plus_between level (parts_of (bounds_of items))))
@@ -88,7 +88,7 @@ sum_marked room lower old new b v items r is low same =
     (ap (λ (xs : List Bound). SumOf (parts_of (bounds_of xs))) same ∙ sym (ap bound_of is ∙ bound_of-Sum v))
     (record { each = λ most level rest e. h.each most (suc level) rest (less room lower most level low e) }))
 
--- the factors of a product are a level below it
+-- the flags of a product are those of its factors, a level below it
 pub product_marked : (room lower : ℕ) (old new : List Bool) (b : Bound) (v : Vec Bound Global) (items : List Bound) (r : Answer) → b ≡ Prod v
     → lower ≡ room - 1 → items ≡ v.items
     → OnOk r (FlagsAll lower old new (λ level. factors_marks level writing.Nothing (parts_of (bounds_of items))))
@@ -99,7 +99,7 @@ product_marked room lower old new b v items r is low same =
     (ap (λ (xs : List Bound). ProductOf (parts_of (bounds_of xs))) same ∙ sym (ap bound_of is ∙ bound_of-Prod v))
     (record { each = λ most level rest e. h.each most (suc level) rest (less room lower most level low e) }))
 
--- a maximum: its name, its arguments a level below, and the bracket after them
+-- the flags of a maximum: that of its name, those of its arguments a level below, and that of the bracket after them
 pub maximum_marked : (room lower : ℕ) (old a c new : List Bool) (b : Bound) (v : Vec Bound Global) (items : List Bound) (r : Answer) → b ≡ Max v
     → lower ≡ room - 1 → items ≡ v.items → FlagsAll room old a (λ level rest. Some level ∷ rest)
     → FlagsAll lower a c (λ level. joined_marks comma_between level (parts_of (bounds_of items)))
@@ -114,7 +114,7 @@ maximum_marked room lower old a c new b v items r is low same g h =
           ∙ g.each most level (joined_marks comma_between (suc level) (parts_of (bounds_of items)) (None ∷ rest)) e;
     }))
 
--- a power: its base, `^`, and its exponent a level below
+-- the flags of a power: those of its base and `^`, and those of its exponent a level below
 pub power_marked : (room lower : ℕ) (old a c new : List Bool) (b : Bound) (base : ℕ) (x : Box Bound Global) (exponent : Bound) (r : Answer)
     → b ≡ Power base x → lower ≡ room - 1 → exponent ≡ x.value → FlagsAll room old a (λ level rest. Some level ∷ rest)
     → Passes a c (λ rest. None ∷ rest)
@@ -131,7 +131,7 @@ power_marked room lower old a c new b base x exponent r is low same g h =
           ∙ g.each most level (None ∷ exponent_marks (is_leaf (bound_of exponent)) (bound_marks (suc level) (bound_of exponent)) rest) e;
     }))
 
--- such a factor after what comes before it
+-- a factor that is no variable is flagged after the pieces before it
 pub other_marked : (room : ℕ) (old a new : List Bool) (before : Before) (b : plain.Bound) (r : Answer) → IsFalse (is_variable b)
     → FlagsAll room old a (λ level rest. ended_marks level before (times_marks before rest))
     → OnOk r (FlagsAll room a new (λ level. factor_marks (is_sum b) level (bound_marks level b)))
@@ -147,7 +147,7 @@ other_marked room old a new before b r unlike g =
       };
     })
 
--- one factor more
+-- the flags of one more factor and of the factors after it are those of all these factors
 pub factors_on : (room : ℕ) (old mid new : List Bool) (all : ℕ → Marks → Marks) (before behind : Before) (factors : List Bound) (k : ℕ) (f : Bound)
     → k < length factors → f ≡ get_or factors k f
     → Flags room old mid all (λ level. factors_marks level before (parts_of (bounds_of (drop k factors))))
@@ -161,7 +161,7 @@ factors_on room old mid new all before behind factors k f in_list here w h = rec
       (drop_more factors k f in_list ∙ ap (λ (x : Bound). x ∷ drop (k + 1) factors) (sym here)) (w.each most level rest e);
 }
 
--- after the last factor the run before is all that is left
+-- after the last factor, only the flags of the run before are left to append
 pub factors_done : (room : ℕ) (old mid new : List Bool) (all : ℕ → Marks → Marks) (before : Before) (factors : List Bound) (k : ℕ) (r : Answer)
     → length factors ≤ k → Flags room old mid all (λ level. factors_marks level before (parts_of (bounds_of (drop k factors))))
     → OnOk r (FlagsAll room mid new (λ level. ended_marks level before)) → OnOk r (FlagsAll room old new all)
@@ -173,7 +173,7 @@ factors_done room old mid new all before factors k r past w =
           (drop_all k factors past) (w.each most level rest e);
     })
 
--- after the last part and its separator nothing is left
+-- after the last part and its separator no flag is left to append
 pub each_done : (room : ℕ) (old new : List Bool) (all : ℕ → Marks → Marks) (separator : List Piece) (parts : List Bound) (k : ℕ) → length parts ≤ k
     → Flags room old new all (λ level. each_marks separator level (parts_of (bounds_of (drop k parts)))) → FlagsAll room old new all
 each_done room old new all separator parts k past w = record {
@@ -182,7 +182,7 @@ each_done room old new all separator parts k past w = record {
       (drop_all k parts past) (w.each most level rest e);
 }
 
--- after the last part nothing is left
+-- after the last part no flag is left to append
 pub parts_done : (room : ℕ) (old new : List Bool) (all : ℕ → Marks → Marks) (separator : List Piece) (parts : List Bound) (k : ℕ) → length parts ≤ k
     → Flags room old new all (λ level. more_marks separator level (parts_of (bounds_of (drop k parts)))) → FlagsAll room old new all
 parts_done room old new all separator parts k past w = record {
@@ -191,21 +191,21 @@ parts_done room old new all separator parts k past w = record {
       (drop_all k parts past) (w.each most level rest e);
 }
 
--- the bracket of an exponent, with the base and `^` before it
+-- the flags of the bracket of an exponent, with those of the base and `^` before it
 pub exponent_marked : (room : ℕ) (old a b new : List Bool) (c : ℕ) → FlagsAll room old a (λ level rest. Some level ∷ rest)
     → Passes a b (λ rest. None ∷ rest) → Passes b new (λ rest. None ∷ rest) → FlagsAll room old new (λ level. bracket_marks level (Exponent c))
 exponent_marked room old a b new c g h k = record {
   each = λ most level rest e. k.each most rest ∙ h.each most (None ∷ rest) ∙ g.each most level (None ∷ None ∷ rest) e;
 }
 
--- the brackets left, inside those that were marked, are all the brackets
+-- the brackets that are still to be flagged, inside those that were flagged, are all open brackets
 pub record AreMarked (most room : ℕ) (factor : Bool) (old new : List Bool) (all left : List Opened) : Type 0 where
   pub outer : Outer
   pub reaches : outer_from outer left ≡ outer_of all
   pub marks : FlagsOuter most room old new outer
   pub kind : factor ≡ in_factor outer
 
--- one more bracket
+-- one more bracket is flagged
 pub one_marked : (most room within : ℕ) (factor inside : Bool) (old mid new : List Bool) (all items : List Opened) (k : ℕ) (x : Opened)
     → items ≡ all → k < length items → x ≡ get_or items k x → AreMarked most room factor old mid all (drop k all)
     → FlagsOpened room factor within mid new (bracket_of x.bracket) (parts_in x.terms) (parts_in x.factors)
@@ -226,7 +226,7 @@ one_marked most room within factor inside old mid new all items k x same in_list
     next : drop k all ≡ x ∷ drop (k + 1) all
     next = subst (λ (xs : List Opened). drop k xs ≡ x ∷ drop (k + 1) xs) same (drop_more items k x in_list ∙ ap (λ (y : Opened). y ∷ drop (k + 1) items) (sym here))
 
--- all that has been read
+-- the flags of all pieces that have been read
 pub front_marked : (most room sum product inner : ℕ) (old a b new : List Bool) (position : Position) (outer : Outer) (ts fs : Parts)
     → is_fresh_at position fs ≡ true → sum ≡ sum_here position outer ts → product ≡ product_here position fs
     → FlagsOuter most room old a outer → FlagsParts room sum product inner a b ts fs
@@ -243,11 +243,11 @@ front_marked most room sum product inner old a b new position outer ts fs settle
     marks sum product =
         outer_marks outer (parts_marks (levels_above outer) sum product ts fs (marks_here (level_behind (levels_above outer) sum product) position fs []))
 
--- how many flags come before the first that is set
+-- the number of flags before the first that is set
 abbrev unset : List Bool → ℕ
 unset found = position_or_len (λ (deep : Bool). deep) found
 
--- no flag is set, and no part is too deep
+-- if no flag is set, no part is too deep
 none_deep : (most : ℕ) (marks : Marks) → length (flags most marks) ≤ unset (flags most marks)
     → (ts : List (Token Piece)) → deep_among most marks ts ≡ []
 none_deep most [] h ts = refl
@@ -261,11 +261,11 @@ none_deep most (Some level ∷ marks) h (t ∷ ts) = go (nat_lt most level) h (�
     go true l further = absurd (omega (arith, l))
     go false l further = further (omega (arith, l))
 
--- a token further on
+-- a token at position k + 1 of a list is the one at position k of the rest of the list
 token_behind : (ts : List (Token Piece)) (u t : Token Piece) (k : ℕ) → slice_get (u ∷ ts) (1 + k) ≡ Some t → slice_get ts k ≡ Some t
 token_behind ts u t k e = ap (λ (j : ℕ). slice_get (u ∷ ts) j) (let f : suc k ≡ 1 + k = omega arith in f) ∙ e
 
--- the first flag that is set is that of the first part too deep
+-- the first flag that is set is that of the first part that is too deep
 first_deep : (most : ℕ) (marks : Marks) → unset (flags most marks) < length (flags most marks)
     → (ts : List (Token Piece)) (t : Token Piece) → slice_get ts (unset (flags most marks)) ≡ Some t
     → deep_among most marks ts ≡ record { kind = TooDeep; at = t.at } ∷ []
@@ -281,7 +281,7 @@ first_deep most (Some level ∷ marks) h (u ∷ ts) t e = go (nat_lt most level)
     go true l e further = ap (λ (o : Token Piece). record { kind = TooDeep; at = o.at } ∷ []) (let f : u ≡ t = cc in f)
     go false l e further = further (omega (arith, l)) (token_behind ts u t (unset (flags most marks)) e)
 
--- the first part that is too deep is found
+-- the index of the first flag that is set is the answer which part is too deep
 pub finds : (most : ℕ) (f : Front) (found : List Bool) (r : Option ℕ) → found ≡ flags most (front_marks f)
     → r ≡ position (λ (deep : Bool). deep) found → FindsDeep most f r
 finds most f found r same e =

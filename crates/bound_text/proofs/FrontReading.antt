@@ -1,4 +1,4 @@
--- The part that has been read leads the reader to it, and can be completed.
+-- The pieces of a state lead the reader to that state, and can be completed.
 use Rattle.std.proofs.Common.{◌≡◌, Bool, true, false, not, ◌&&◌, List, ◌∷◌, ◌++◌, Some, refl, ap, ◌∙◌}
 use Rattle.text_core.specs.model.Bounds.{Parts, NoParts, Part}
 use Rattle.bound_expr.specs.Tidy.{IsNoSum, IsNoMaximum, EachPart}
@@ -14,7 +14,7 @@ use Rattle.bound_text.proofs.BoundParts.{appended, appended-none}
 use Rattle.bound_text.proofs.CompletenessLaws.{starts, stands, walk-when, read_input, read_run_caret, read_base}
 use Rattle.bound_text.proofs.CompletenessLaws.{AllRead, term_read, read_plus, argument_read, product_read, all_read}
 
--- terms with ` + ` after each
+-- terms with ` + ` after each are read
 terms_before_read : (ts : Parts) → AllRead ts → EachPart IsNoSum ts → AreShaped ts → (outer : Outer) (acc : Parts) (rest : List Piece)
     → walk (starts outer acc NoParts) (each_then plus_between ts rest) ≡ walk (starts outer (appended acc ts) NoParts) rest
 terms_before_read NoParts rs none shaped outer acc rest = refl
@@ -23,7 +23,7 @@ terms_before_read (Part b bs) rs none shaped outer acc rest =
     ∙ read_plus b shaped.0 none.0 outer acc (each_then plus_between bs rest)
     ∙ terms_before_read bs rs.1 none.1 shaped.1 outer (with_part acc b) rest
 
--- arguments with `, ` after each
+-- arguments with `, ` after each are read
 arguments_before_read : (bs : Parts) → AllRead bs → EachPart IsNoMaximum bs → AreShaped bs → (outer : Outer) (acc ts fs : Parts) (rest : List Piece)
     → walk (starts (Inside (Arguments acc) ts fs outer) NoParts NoParts) (each_then comma_between bs rest) ≡ walk (starts (Inside (Arguments (appended acc bs)) ts fs outer) NoParts NoParts) rest
 arguments_before_read NoParts rs none shaped outer acc ts fs rest = refl
@@ -31,17 +31,17 @@ arguments_before_read (Part b bs) rs none shaped outer acc ts fs rest =
     argument_read b rs.0 shaped.0 none.0 acc ts fs outer (each_then comma_between bs rest)
     ∙ arguments_before_read bs rs.1 none.1 shaped.1 outer (with_part acc b) ts fs rest
 
--- factors at which the text can end
+-- factors after which the text can end are read
 factors_at : (fs : Parts) → AreFactors fs → is_empty fs ≡ false → (outer : Outer) (ts : Parts) (rest : List Piece) → walk (starts outer ts NoParts) (factors_then Nothing fs rest) ≡ walk (stands outer ts fs) rest
 factors_at NoParts all h outer ts rest = cc
 factors_at (Part b bs) all h outer ts rest = product_read b bs (all_read (Part b bs) all.shaped) all.no_products all.shaped outer ts rest
 
--- factors after which an item can begin
+-- factors with `*` after each, after which an item can begin, are read
 factors_before : (fs : Parts) → AreFactors fs → (outer : Outer) (ts : Parts) (rest : List Piece) → walk (starts outer ts NoParts) (factors_then Nothing fs (star_then fs rest)) ≡ walk (starts outer ts fs) rest
 factors_before NoParts all outer ts rest = refl
 factors_before (Part b bs) all outer ts rest = factors_at (Part b bs) all refl outer ts (Times ∷ rest)
 
--- an open bracket
+-- an open bracket is read
 bracket_read : (bracket : Bracket) → IsBracket bracket → (outer : Outer) (ts fs : Parts) (rest : List Piece) → walk (starts outer ts fs) (bracket_then bracket rest) ≡ walk (starts (Inside bracket ts fs outer) NoParts NoParts) rest
 bracket_read (Arguments bs) is outer ts fs rest =
     arguments_before_read bs (all_read bs is.shaped) is.no_maximums is.shaped outer NoParts ts fs rest
@@ -49,7 +49,7 @@ bracket_read (Arguments bs) is outer ts fs rest =
 bracket_read (Exponent c) is outer ts fs rest = read_base outer ts fs c (Open ∷ rest) is
 bracket_read Factor is outer ts fs rest = refl
 
--- the pieces around a bound
+-- the pieces before the innermost bound are read
 outer_read : (outer : Outer) → IsOuter outer → (rest : List Piece) → walk (Some beginning) (outer_then outer rest) ≡ walk (starts outer NoParts NoParts) rest
 outer_read Whole is rest = refl
 outer_read (Inside bracket ts fs outer) is rest =
@@ -59,12 +59,12 @@ outer_read (Inside bracket ts fs outer) is rest =
     ∙ factors_before fs is.2 outer ts (bracket_then bracket rest)
     ∙ bracket_read bracket is.0 outer ts fs rest
 
--- a term that can end has factors
+-- a term that can end has at least one factor
 some_end : (fs : Parts) → can_end fs ≡ true → is_empty fs ≡ false
 some_end NoParts h = cc
 some_end (Part b bs) h = refl
 
--- the part that has been read leads to it
+-- the pieces of a state lead to that state
 pub front_read : (f : Front) → IsFront f → (rest : List Piece) → walk (Some beginning) (front_then f rest) ≡ walk (Some f) rest
 front_read f is rest =
     outer_read f.outer is.outer (each_then plus_between f.terms (factors_then Nothing f.factors (position_then f.position f.factors rest)))

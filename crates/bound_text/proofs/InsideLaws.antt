@@ -1,5 +1,5 @@
--- The reader of bounds inside another text keeps the laws, since it steps as that of bounds alone; and its worked
--- values.
+-- The reader of bounds inside another text satisfies the laws of a reader, since it takes the same steps as the reader
+-- of bounds alone; and its worked values.
 use Rattle.std.proofs.Common.{ℕ, List}
 use Rattle.std.specs.Prelude.{codes, length}
 use Rattle.text_core.specs.Laws.{Laws}
@@ -11,11 +11,11 @@ use Rattle.bound_text.specs.Inside.{inner_bounds}
 use Rattle.bound_text.specs.WorkedInside.{two_names, DepthsAreWorkedOut, InnerBoundsAreRead}
 use Rattle.bound_text.proofs.ReaderLaws.{bound_laws}
 
--- the laws don't depend on the shown faults
+-- the laws of a reader don't depend on the faults that it shows
 inner_laws : (most n : ℕ) → Laws (inner_bounds most n)
 inner_laws most n = let laws = bound_laws n in record { goes_on = laws.goes_on; ends = laws.ends; reads = laws.reads; differ = laws.differ }
 
--- the answer to a text
+-- the answer of reading a text with this limit on levels is the one that the steps give
 abbrev judged : (most : ℕ) (bytes : List ℕ) → Answers (inner_bounds most 2) (length bytes) (tokens two_names bytes) (answer (inner_bounds most 2) (length bytes) (tokens two_names bytes))
 judged most bytes = answer_is (inner_bounds most 2) (inner_laws most 2) (length bytes) (tokens two_names bytes)
 
@@ -42,7 +42,7 @@ worked = record {
   number_alone = judged 3 (codes "max(A, 170141183460469231731687303715884105728)*B");
 }
 
--- the reader of bounds inside another text keeps the laws of a reader, whatever the limit on levels
+-- the reader of bounds inside another text satisfies the laws of a reader, whatever the limit on levels
 pub inner_bounds_are_read : InnerBoundsAreRead
 inner_bounds_are_read = record {
   laws = inner_laws;

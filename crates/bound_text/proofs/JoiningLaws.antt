@@ -11,47 +11,47 @@ use Rattle.bound_expr.specs.Views.{bound_of, bounds_of, parts_of}
 use Rattle.bound_text.specs.Shapes.{is_sum, is_maximum, is_leaf, is_empty, with_part}
 use Rattle.bound_text.specs.Fronts.{as_one, term_of, bound_of_parts, lone, passes, last, product_node}
 
--- parts that aren't one are taken as a whole
+-- several parts, or none, are taken as one node
 pub as_one_more : (whole : Parts → plain.Bound) (xs : List Bound) → length xs ≢ 1 → as_one whole (parts_of (bounds_of xs)) ≡ whole (parts_of (bounds_of xs))
 as_one_more whole [] h = refl
 as_one_more whole (x ∷ []) h = absurd (h refl)
 as_one_more whole (x ∷ y ∷ xs) h = refl
 
--- there are no parts where the list has none
+-- the parts made from a list are empty exactly if the list is
 pub is_empty_parts : (xs : List Bound) → is_empty (parts_of (bounds_of xs)) ≡ nat_eq (length xs) 0
 is_empty_parts [] = refl
 is_empty_parts (x ∷ xs) = grind (arith, nat_tests)
 
--- terms before make a sum
+-- a sum of terms with one more is a sum
 pub as_one-with_part : (b : plain.Bound) (bs : Parts) (t : plain.Bound) → as_one SumOf (with_part (Part b bs) t) ≡ SumOf (with_part (Part b bs) t)
 as_one-with_part b NoParts t = refl
 as_one-with_part b (Part c bs) t = refl
 
--- when terms and factors make a sum
+-- the bound of terms and factors is a sum exactly if there are terms before, or the only factor is a sum
 pub is_sum-bound_made : (ts fs : Parts) → is_sum (bound_of_parts ts fs) ≡ not (is_empty ts) || passes is_sum (lone fs)
 is_sum-bound_made NoParts NoParts = refl
 is_sum-bound_made NoParts (Part b NoParts) = refl
 is_sum-bound_made NoParts (Part b (Part c bs)) = refl
 is_sum-bound_made (Part b bs) fs = ap is_sum (as_one-with_part b bs (term_of fs))
 
--- when they make a maximum
+-- the bound of terms and factors is a maximum exactly if there are no terms before, and the only factor is a maximum
 pub is_maximum-bound_made : (ts fs : Parts) → is_maximum (bound_of_parts ts fs) ≡ is_empty ts && passes is_maximum (lone fs)
 is_maximum-bound_made NoParts NoParts = refl
 is_maximum-bound_made NoParts (Part b NoParts) = refl
 is_maximum-bound_made NoParts (Part b (Part c bs)) = refl
 is_maximum-bound_made (Part b bs) fs = ap is_maximum (as_one-with_part b bs (term_of fs))
 
--- when they make a constant or a variable
+-- the bound of terms and factors is a leaf exactly if there are no terms before, and the only factor is a leaf
 pub is_leaf-bound_made : (ts fs : Parts) → is_leaf (bound_of_parts ts fs) ≡ is_empty ts && passes is_leaf (lone fs)
 is_leaf-bound_made NoParts NoParts = refl
 is_leaf-bound_made NoParts (Part b NoParts) = refl
 is_leaf-bound_made NoParts (Part b (Part c bs)) = refl
 is_leaf-bound_made (Part b bs) fs = ap is_leaf (as_one-with_part b bs (term_of fs))
 
--- the kind of bound that terms and factors make
+-- rewrites the kind of bound that terms and factors make
 pub ruleset kinds = (is_sum-bound_made, is_maximum-bound_made, is_leaf-bound_made)
 
--- the last part is the last of the list
+-- the last part is the last element of the list
 pub last_got : (xs : List Bound) → last (parts_of (bounds_of xs)) ≡ option_map bound_of (slice_get xs (length xs - 1))
 last_got [] = refl
 last_got (x ∷ []) = refl
@@ -69,7 +69,7 @@ lone_got [] h = cc
 lone_got (x ∷ []) h = refl
 lone_got (x ∷ y ∷ xs) h = absurd (omega (arith, h))
 
--- a product counts where there is more than one factor, or a lone sum
+-- factors count as a product if there are several, or a lone sum
 pub makes_product : (xs : List Bound) → product_node (parts_of (bounds_of xs)) ≡ cond (nat_lt 1 (length xs) || passes is_sum (lone (parts_of (bounds_of xs)))) 1 0
 makes_product [] = refl
 makes_product (x ∷ []) = refl

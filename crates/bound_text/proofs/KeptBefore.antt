@@ -1,4 +1,4 @@
--- If the conditions hold of the tree after a piece, they hold before it.
+-- If the checked conditions (`Kept`) hold of the state after a piece, they hold of the state before it.
 use Rattle.std.proofs.Common.{◌≡◌, ℕ, zero, suc, ◌^◌, ◌<◌, ◌≤◌, true, Option, Some, None, refl, ap, sym, subst, ◌∙◌}
 use Rattle.std.proofs.Common.{arith}
 use Rattle.std.specs.Prelude.{⊤}
@@ -20,31 +20,31 @@ use Rattle.bound_text.proofs.StepCases.{of_close, of_plus, of_term, of_argument}
 use Rattle.bound_text.proofs.KeptBounds.{Kept, AllKept, KeptBracket, KeptFront, KeptPiece, kept-more, kept-less}
 use Rattle.bound_text.proofs.KeptBounds.{kept_front}
 
--- if they hold of factors with copies, they hold of the factors before
+-- if the conditions hold of factors with copies of a variable after them, they hold of the factors
 kept-fewer : (n k i : ℕ) (fs : Parts) → AllKept n (with_copies k i fs) → AllKept n fs
 kept-fewer n zero i fs all = all
 kept-fewer n (suc k) i fs all = kept-fewer n k i fs (kept-less n (with_copies k i fs) (Input i) all).0
 
--- a kept term has kept factors
+-- if the conditions hold of a term, they hold of its factors
 term_kept : (n : ℕ) (fs : Parts) → Kept n (term_of fs) → AllKept n fs
 term_kept n NoParts k = tt
 term_kept n (Part b NoParts) k = (k, tt)
 term_kept n (Part b (Part c cs)) k = k
 
--- a kept bound has kept terms and factors
+-- if the conditions hold of a bound, they hold of its terms and factors
 pub bound_kept : (n : ℕ) (ts fs : Parts) → Kept n (bound_of_parts ts fs) → AllKept n ts × AllKept n fs
 bound_kept n NoParts fs k = (tt, term_kept n fs k)
 bound_kept n (Part c cs) fs k =
     let t = kept-less n (Part c cs) (term_of fs) (subst (Kept n) (as_one-with_part c cs (term_of fs)) k) in
     (t.0, term_kept n fs t.1)
 
--- a kept item has a kept bracket and bound
+-- if the conditions hold of the item that a bracket makes, they hold of the bracket and of its bound
 item_kept : (n : ℕ) (bracket : Bracket) (b : Bound) → Kept n (item_of bracket b) → KeptBracket n bracket × Kept n b
 item_kept n (Arguments bs) b k = kept-less n bs b k
 item_kept n (Exponent c) b k = k
 item_kept n Factor b k = (tt, k)
 
--- if they hold after a piece, they hold before it, and of the piece
+-- if the conditions hold of the state after a piece, they hold of the state before it and of the piece
 pub keeps_back : (n : ℕ) (f g : Front) (piece : Piece) → Leads f piece g → nodes_of g < 2 ^ 127 → KeptFront n g → KeptFront n f × KeptPiece n piece
 keeps_back n f g piece (of_variable o ts fs i) m k = let t = kept-less n fs (Input i) k.factors in (kept_front n o ts fs Begins k.outer k.terms t.0 tt, t.1)
 keeps_back n f g piece (of_number o ts fs c) m k = let t = kept-less n fs (Constant c) k.factors in (kept_front n o ts fs Begins k.outer k.terms t.0 tt, t.1)
@@ -75,7 +75,7 @@ keeps_back n f g piece (of_argument o bs ts' fs' ts fs e) m k =
     let b = bound_kept n ts fs t.1 in
     (kept_front n (Inside (Arguments bs) ts' fs' o) ts fs CommaRead (t.0, k.outer.1, k.outer.2, k.outer.3) b.0 b.1 tt, tt)
 
--- a base that `^` follows is one
+-- the base before a `^`, if it is a number, is at least 2 and below 2^64
 abbrev pub BaseFits : Option Bound → Type 0
 BaseFits None = ⊤
 BaseFits (Some (Constant c)) = (2 ≤ c) × (c < 2 ^ 64)
@@ -85,7 +85,7 @@ BaseFits (Some (ProductOf bs)) = ⊤
 BaseFits (Some (MaximumOf bs)) = ⊤
 BaseFits (Some (PowerOf c e)) = ⊤
 
--- the base before a `^` is one that fits, or a variable
+-- the base before an accepted `^` fits, or it is a variable
 pub base_fits : (n : ℕ) (f g : Front) → Leads f Caret g → IsFront g → KeptFront n g → BaseFits (last f.factors)
 base_fits n f g leads is kept = go f g Caret leads refl is kept
   where
@@ -108,7 +108,7 @@ base_fits n f g leads is kept = go f g Caret leads refl is kept
     go f g piece (of_term o ts fs h) e is kept = cc
     go f g piece (of_argument o bs ts' fs' ts fs h) e is kept = cc
 
--- where a number begins an item
+-- if a number is accepted where an item begins, the next state has it as a number that begins an item
 pub begin_number : (f g : Front) (c : ℕ) → begins f.position ≡ true → step f (Number c) ≡ Some g → last g.factors ≡ Some (Constant c)
 begin_number f g c b e = go f.position b e
   where

@@ -1,4 +1,4 @@
--- The conditions that the checks of pieces keep in the tree so far.
+-- The conditions on the tree so far that the checks of pieces ensure: constants, bases and variables in range.
 use Rattle.std.proofs.Common.{◌≡◌, ℕ, zero, suc, ◌^◌, ◌<◌, nat_le, true, false, ◌&&◌, List, [], ◌∷◌, Some, refl, ap}
 use Rattle.std.proofs.Common.{sym, subst, ◌∙◌, arith}
 use Rattle.std.specs.Prelude.{⊤}
@@ -22,7 +22,7 @@ use Rattle.bound_text.proofs.StepCases.{Leads, of_variable, of_number, of_maximu
 use Rattle.bound_text.proofs.StepCases.{of_power_of, of_exponent, of_times, of_base, of_caret, of_blank, of_comma}
 use Rattle.bound_text.proofs.StepCases.{of_close, of_plus, of_term, of_argument}
 
--- constants below 2^127, bases below 2^64, and variables among the first n
+-- the conditions on bounds and on lists of parts
 abbrev mutual
   -- the checks keep large constants, large bases and unlisted variables out of a bound
   pub Kept : ℕ → Bound → Type 0
@@ -65,7 +65,7 @@ pub record KeptFront (n : ℕ) (f : Front) : Type 0 where
   pub factors : AllKept n f.factors
   pub position : KeptPosition n f.position
 
--- a piece that the checks let through
+-- the conditions on a piece that passes the checks
 abbrev pub KeptPiece : ℕ → Piece → Type 0
 KeptPiece n (Variable i) = i < n
 KeptPiece n (Number c) = c < 2 ^ 127
@@ -79,52 +79,52 @@ KeptPiece n Blank = ⊤
 KeptPiece n Comma = ⊤
 KeptPiece n Wrong = ⊥
 
--- each piece is kept
+-- each of the pieces meets the conditions
 abbrev pub AllPiecesKept : ℕ → List Piece → Type 0
 AllPiecesKept n [] = ⊤
 AllPiecesKept n (p ∷ ps) = KeptPiece n p × AllPiecesKept n ps
 
--- one more kept part
+-- parts with one more that meets the conditions meet them
 pub kept-more : (n : ℕ) (bs : Parts) (b : Bound) → AllKept n bs → Kept n b → AllKept n (with_part bs b)
 kept-more n NoParts b all here = (here, tt)
 kept-more n (Part c cs) b all here = (all.0, kept-more n cs b all.1 here)
 
--- kept parts without the last, and the last
+-- if parts with one more meet the conditions, so do the parts and that one
 pub kept-less : (n : ℕ) (bs : Parts) (b : Bound) → AllKept n (with_part bs b) → AllKept n bs × Kept n b
 kept-less n NoParts b all = (tt, all.0)
 kept-less n (Part c cs) b all = let t = kept-less n cs b all.1 in ((all.0, t.0), t.1)
 
--- copies of a listed variable
+-- factors with copies of a listed variable after them meet the conditions
 kept-copies : (n k i : ℕ) (fs : Parts) → i < n → AllKept n fs → AllKept n (with_copies k i fs)
 kept-copies n zero i fs h all = all
 kept-copies n (suc k) i fs h all = kept-more n (with_copies k i fs) (Input i) (kept-copies n k i fs h all) h
 
--- kept factors make a kept term
+-- factors that meet the conditions make a term that does
 kept_term : (n : ℕ) (fs : Parts) → AllKept n fs → Kept n (term_of fs)
 kept_term n NoParts all = tt
 kept_term n (Part b NoParts) all = all.0
 kept_term n (Part b (Part c cs)) all = all
 
--- kept terms and factors make a kept bound
+-- terms and factors that meet the conditions make a bound that does
 pub kept_bound : (n : ℕ) (ts fs : Parts) → AllKept n ts → AllKept n fs → Kept n (bound_of_parts ts fs)
 kept_bound n NoParts fs terms factors = kept_term n fs factors
 kept_bound n (Part c cs) fs terms factors = subst (Kept n) (sym (as_one-with_part c cs (term_of fs))) (kept-more n (Part c cs) (term_of fs) terms (kept_term n fs factors))
 
--- a kept bracket and bound make a kept item
+-- a bracket and a bound that meet the conditions make an item that does
 kept_item : (n : ℕ) (bracket : Bracket) (b : Bound) → KeptBracket n bracket → Kept n b → Kept n (item_of bracket b)
 kept_item n (Arguments bs) b all here = kept-more n bs b all here
 kept_item n (Exponent c) b all here = (all, here)
 kept_item n Factor b all here = here
 
--- a kept state, put together
+-- a state meets the conditions if its parts do
 pub kept_front : (n : ℕ) (o : Outer) (ts fs : Parts) (position : Position) → KeptOuter n o → AllKept n ts → AllKept n fs → KeptPosition n position → KeptFront n (front_at o ts fs position)
 kept_front n o ts fs position a b c d = record { outer = a; terms = b; factors = c; position = d }
 
--- a base that isn't too large
+-- a base that passes the check is below 2^64
 not_large : (c : ℕ) (fs : Parts) → is_large_number (last (with_part fs (Constant c))) ≡ false → c < 2 ^ 64
 not_large c fs h = let e : nat_le (2 ^ 64) c ≡ false = sym (ap is_large_number (last-with_part fs (Constant c))) ∙ h in grind (arith, nat_tests)
 
--- a piece that passes the checks keeps the conditions
+-- a piece that passes the checks leads from a state that meets the conditions to one that does
 pub keeps : (n : ℕ) (f g : Front) (piece : Piece) → Leads f piece g → KeptFront n f → KeptPiece n piece → has_large_base f piece ≡ false → KeptFront n g
 keeps n f g piece (of_variable o ts fs i) k p h = kept_front n o ts (with_part fs (Input i)) ItemRead k.outer k.terms (kept-more n fs (Input i) k.factors p) tt
 keeps n f g piece (of_number o ts fs c) k p h = kept_front n o ts (with_part fs (Constant c)) ItemRead k.outer k.terms (kept-more n fs (Constant c) k.factors p) tt
@@ -148,11 +148,11 @@ keeps n f g piece (of_argument o bs ts' fs' ts fs e) k p h =
     kept_front n (Inside (Arguments (with_part bs (bound_of_parts ts fs))) ts' fs' o) NoParts NoParts Begins
     (kept-more n bs (bound_of_parts ts fs) k.outer.0 (kept_bound n ts fs k.terms k.factors), k.outer.1, k.outer.2, k.outer.3) tt tt tt
 
--- a base that is too large was a number that began an item
+-- if the last factor of a product is a base that is too large, it was a number that began an item
 no_number : (b : Bound) (fs : Parts) → is_large_number (Some b) ≡ false → is_large_number (last (with_part fs b)) ≡ false
 no_number b fs h = ap is_large_number (last-with_part fs b) ∙ h
 
--- a bracket's item is no number
+-- the item of a bracket is no base that is too large
 item_no_number : (bracket : Bracket) (b : Bound) → can_close bracket b ≡ true → is_large_number (Some (item_of bracket b)) ≡ false
 item_no_number (Arguments bs) b h = refl
 item_no_number (Exponent c) b h = refl
@@ -163,7 +163,7 @@ item_no_number Factor (ProductOf bs) h = cc
 item_no_number Factor (MaximumOf bs) h = cc
 item_no_number Factor (PowerOf c e) h = cc
 
--- after a piece no base that is too large is left
+-- after a piece that isn't a base that is too large, no such base comes before a `^`
 pub large_after : (f g : Front) (piece : Piece) → Leads f piece g → begins f.position && is_large_base piece ≡ false → has_large_base g Caret ≡ false
 large_after f g piece (of_variable o ts fs i) h = no_number (Input i) fs refl
 large_after f g piece (of_number o ts fs c) h = no_number (Constant c) fs h
@@ -183,9 +183,10 @@ large_after f g piece (of_plus o ts fs) h = refl
 large_after f g piece (of_term o ts fs e) h = refl
 large_after f g piece (of_argument o bs ts' fs' ts fs e) h = refl
 
--- a bound with the shape of a text that meets the conditions is tidy, reads the first n variables, and has short bases
+-- from the conditions to being tidy, for a bound and for parts
 mutual
-  -- a shaped bound that the checks let through is tidy, reads listed variables alone, and has short bases
+  -- a bound with the shape of a text that meets the conditions is tidy, reads listed variables alone, and has short
+  -- bases
   pub kept_tidy : (n : ℕ) (b : Bound) → IsShaped b → Kept n b → IsTidy b × ReadsBelow n b × HasShortBases b
   kept_tidy n (Constant c) shaped kept = (omega (arith, kept), tt, tt)
   kept_tidy n (Input i) shaped kept = (tt, kept, tt)
@@ -194,7 +195,7 @@ mutual
   kept_tidy n (MaximumOf bs) shaped kept = let t = all_tidy n bs shaped.2 kept in (((shaped.0, shaped.1), t.0), (tt, t.1), t.2)
   kept_tidy n (PowerOf c e) shaped kept = let t = kept_tidy n e shaped.1 kept.1 in ((shaped.0, t.0), (tt, t.1), (kept.0, t.2))
 
-  -- the same law for parts
+  -- parts with the shape of a text that meet the conditions are tidy, read listed variables alone, and have short bases
   all_tidy : (n : ℕ) (bs : Parts) → AreShaped bs → AllKept n bs → AreTidy bs × AllReadBelow n bs × HaveShortBases bs
   all_tidy n NoParts shaped kept = (tt, tt, tt)
   all_tidy n (Part b bs) shaped kept =
@@ -202,9 +203,9 @@ mutual
       let u = all_tidy n bs shaped.1 kept.1 in
       ((t.0, u.0), (t.1, u.1), (t.2, u.2))
 
--- a tidy bound that reads the first n variables and has short bases meets the conditions
+-- from being tidy to the conditions, for a bound and for parts
 mutual
-  -- a tidy bound that reads listed variables alone, with short bases, is shaped, and the checks let it through
+  -- a tidy bound that reads listed variables alone, with short bases, has the shape of a text and meets the conditions
   pub tidy_kept : (n : ℕ) (b : Bound) → IsTidy b → ReadsBelow n b → HasShortBases b → IsShaped b × Kept n b
   tidy_kept n (Constant c) tidy listed short = (tt, omega (arith, tidy))
   tidy_kept n (Input i) tidy listed short = (tt, listed)
@@ -213,7 +214,7 @@ mutual
   tidy_kept n (MaximumOf bs) tidy listed short = let t = all_kept n bs tidy.1 listed.1 short in ((tidy.0.0, tidy.0.1, t.0), t.1)
   tidy_kept n (PowerOf c e) tidy listed short = let t = tidy_kept n e tidy.1 listed.1 short.1 in ((tidy.0, t.0), (short.0, t.1))
 
-  -- the converse for parts
+  -- tidy parts that read listed variables alone, with short bases, have the shape of a text and meet the conditions
   all_kept : (n : ℕ) (bs : Parts) → AreTidy bs → AllReadBelow n bs → HaveShortBases bs → AreShaped bs × AllKept n bs
   all_kept n NoParts tidy listed short = (tt, tt)
   all_kept n (Part b bs) tidy listed short =

@@ -16,7 +16,7 @@ use Rattle.bound_text.specs.declared.lexer.Lexeme.{Lexeme}
 use Rattle.text_core.proofs.PrefixLaws.{take-prefix, drop-prefix, all_prefix}
 
 module _ (p : ℕ → Bool) where
-  -- the first byte and the prefix of the others
+  -- a prefix of a text is its first byte and a prefix of the others
   pub take_with_first : (text others : List ℕ) (b n : ℕ) → text ≡ b ∷ others → n ≡ length (prefix p others) → take (1 + n) text ≡ b ∷ prefix p others
   take_with_first text others b n e h =
       ap (λ (xs : List ℕ). take (1 + n) xs) e
@@ -24,7 +24,7 @@ module _ (p : ℕ → Bool) where
       ∙ ap (λ (k : ℕ). b ∷ take k others) h
       ∙ ap (λ (xs : List ℕ). b ∷ xs) (take-prefix p others)
 
-  -- the bytes after a first byte and a prefix
+  -- the text after a prefix is the rest of the others after a prefix one shorter
   pub drop_with_first : (text others : List ℕ) (b n : ℕ) → text ≡ b ∷ others → n ≡ length (prefix p others) → drop (1 + n) text ≡ rest p others
   drop_with_first text others b n e h =
       ap (λ (xs : List ℕ). drop (1 + n) xs) e
@@ -32,11 +32,11 @@ module _ (p : ℕ → Bool) where
       ∙ ap (λ (k : ℕ). drop k others) h
       ∙ drop-prefix p others
 
--- a first digit and those after it are digits
+-- a first digit and the digits after it are all digits
 pub all_digits : (text others : List ℕ) (b n : ℕ) → text ≡ b ∷ others → n ≡ length (prefix is_ascii_digit others) → is_ascii_digit b ≡ true → IsTrue (list_all is_ascii_digit (take (1 + n) text))
 all_digits text others b n e h d = rw (take_with_first is_ascii_digit text others b n e h, d) (all_prefix is_ascii_digit others)
 
--- the piece of a name
+-- the lexeme of a name that was found is that at the beginning of the text
 pub word_found : (names : List Name) (text others name behind : List ℕ) (b n : ℕ) (r : Result Lexeme AllocError) → text ≡ b ∷ others → n ≡ length (prefix continues_name others)
     → name ≡ take (1 + n) text → behind ≡ drop (1 + n) text → begins_name b ≡ true → IfOk r (λ l. lexeme_of l ≡ word_at names name behind) → IfOk r (λ l. lexeme_of l ≡ lexeme_at names b others)
 word_found names text others name behind b n (Err x) e h is_name is_rest begins found = tt
@@ -49,7 +49,7 @@ word_found names text others name behind b n (Ok l) e h is_name is_rest begins f
     other : List Name → ℕ → List ℕ → plain.Lexeme Piece
     other names b others = cond (is_ascii_digit b) (number_at (b ∷ prefix is_ascii_digit others)) (one (mark_at b) 1)
 
--- the piece of a number
+-- the lexeme of a number that was found is that at the beginning of the text
 pub number_found : (names : List Name) (text others digits : List ℕ) (b n : ℕ) (l : Lexeme) → text ≡ b ∷ others → n ≡ length (prefix is_ascii_digit others)
     → digits ≡ take (1 + n) text → begins_name b ≡ false → is_ascii_digit b ≡ true → lexeme_of l ≡ number_at digits → lexeme_of l ≡ lexeme_at names b others
 number_found names text others digits b n l e h is_digits begins digit found =

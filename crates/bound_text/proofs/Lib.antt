@@ -1,4 +1,4 @@
--- laws of the printer and the parser of bounds: texts, states, faults, limits and levels
+-- Laws of the printer and the parser of bounds: texts, states, faults, limits and levels.
 pub mod PrintingLaws
 pub mod LexingLaws
 pub mod PartLaws

@@ -1,5 +1,5 @@
--- The limits on bounds, as the reader's states decide them: what is read is within them, and a text within them has no
--- fault.
+-- The limits on bounds, as the reader's states decide them: a bound that is read is within them, and the text of a
+-- bound within them has no fault.
 use Rattle.std.proofs.Common.{◌≡◌, ℕ, ◌^◌, ◌≤◌, Bool, true, false, ◌&&◌, List, [], ◌∷◌, Some, None, refl, ap, sym}
 use Rattle.std.proofs.Common.{subst, ◌∙◌, inl, inr, arith}
 use Rattle.std.specs.Prelude.{⊤}
@@ -28,13 +28,13 @@ use Rattle.bound_text.proofs.KeptBefore.{BaseFits, bound_kept, keeps_back, base_
 use Rattle.bound_text.proofs.ReaderLaws.{is_front}
 use Rattle.bound_expr.specs.Limits.{depth_limit, node_limit}
 
--- a base that is too large has no `^` after it
+-- a base that is too large is followed by no accepted `^`
 pub base_ok : (position : Position) (fs : Parts) (piece : Piece) → (is_caret piece ≡ true → has_large_base_at position fs Caret ≡ false) → has_large_base_at position fs piece ≡ false
 base_ok position fs Caret h = h refl
 base_ok ItemRead fs piece h = refl
 base_ok position fs piece h = refl
 
--- a piece that is in no text is rejected
+-- a piece of bytes that are in no text is rejected
 wrong_none : (f : Front) → step f Wrong ≡ None
 wrong_none f = go f.position
   where
@@ -47,7 +47,7 @@ wrong_none f = go f.position
     go PlusRead = refl
     go CommaRead = refl
 
--- a piece that is `^`
+-- a piece that passes the test of `^` is `^`
 caret_piece : (piece : Piece) → is_caret piece ≡ true → piece ≡ Caret
 caret_piece Caret h = refl
 caret_piece (Variable i) h = cc
@@ -61,7 +61,7 @@ caret_piece Blank h = cc
 caret_piece Comma h = cc
 caret_piece Wrong h = cc
 
--- each kind is one of them
+-- each kind of refusal is listed
 pub each_kind : (kind : Kind) → Among kind kinds
 each_kind Syntax = inl refl
 each_kind NumberTooLarge = inr (inl refl)
@@ -75,16 +75,16 @@ pub record IsKeptWithin (n : ℕ) (b : Bound) : Type 0 where
   pub levels : depth_of b ≤ depth_limit
   pub nodes : node_count b ≤ node_limit
 
--- a state that is kept and within the limits, and no base that is too large has `^` after it
+-- a state that meets the conditions and is within the limits, where no base that is too large is followed by `^`
 pub record IsKept (n : ℕ) (f : Front) (ps : List Piece) : Type 0 where
   pub kept : KeptFront n f
   pub levels : levels_of f ≤ depth_limit
   pub nodes : nodes_of f ≤ node_limit
   pub bases : caret_next ps ≡ true → has_large_base f Caret ≡ false
 
--- a piece that is accepted, without a fault
+-- laws for a piece that is accepted and has no fault
 module _ (n : ℕ) (f g : Front) (piece : Piece) (behind : List Piece) (led : step f piece ≡ Some g) (none : (kind : Kind) → stands n f piece behind kind ≡ false) where
-  -- a piece without a fault is one within the limits
+  -- a piece without a fault meets the conditions
   pub kept_piece : KeptPiece n piece
   kept_piece = go piece refl
     where
@@ -101,7 +101,7 @@ module _ (n : ℕ) (f g : Front) (piece : Piece) (behind : List Piece) (led : st
       go Comma e = tt
       go Wrong e = let w = wrong_none f in let l = sym (ap (step f) e) ∙ led in cc
 
-  -- after it no base that is too large comes before a `^`
+  -- after a piece without a fault, no base that is too large is followed by `^`
   pub base_kept : Leads f piece g → caret_next behind ≡ true → has_large_base g Caret ≡ false
   base_kept leads h = large_after f g piece leads (sym (ap (λ (v : Bool). v && is_large_base piece) (with_caret (begins f.position) (caret_next behind) h)) ∙ (or_parts (is_large piece) (is_base f behind && is_large_base piece) (none NumberTooLarge)).1)
     where
@@ -109,7 +109,7 @@ module _ (n : ℕ) (f g : Front) (piece : Piece) (behind : List Piece) (led : st
       with_caret true b h = h
       with_caret false b h = refl
 
--- a bound that a text ends at is no larger than what has been read, and is kept like it
+-- the bound of a text that ends here is no larger than the tree so far, and meets the conditions if that does
 measures : (n : ℕ) (position : Position) (outer : Outer) (ts fs : Parts) (b : Bound) → finish_at position outer ts fs ≡ Some b
     → (KeptFront n (front_at outer ts fs position) → Kept n b) × (depth_of b ≤ levels_of (front_at outer ts fs position)) × (node_count b ≤ nodes_of (front_at outer ts fs position))
 measures n ItemRead Whole ts fs b h =
@@ -128,7 +128,7 @@ measures n BlankRead outer ts fs b h = cc
 measures n PlusRead outer ts fs b h = cc
 measures n CommaRead outer ts fs b h = cc
 
--- the reader leads to bounds within the limits
+-- the reader leads to bounds within the limits alone
 pub keeps_limits : (n : ℕ) → KeepsLimits (bounds n) (IsKeptWithin n) (IsKept n)
 keeps_limits n = record {
   begins = λ ps. record { kept = record { outer = tt; terms = tt; factors = tt; position = tt }; levels = omega arith; nodes = omega arith; bases = λ h. refl };
@@ -147,12 +147,12 @@ keeps_limits n = record {
       record { kept = m.0 (record { outer = k.kept.outer; terms = k.kept.terms; factors = k.kept.factors; position = k.kept.position }); levels = (let d = m.1 in omega (arith, d, l)); nodes = (let c = m.2 in omega (arith, c, s)) };
 }
 
--- the first of these pieces has no fault
+-- the first of the pieces has no fault
 abbrev pub Nothing : ℕ → Front → List Piece → Type 0
 Nothing n f [] = ⊤
 Nothing n f (p ∷ ps) = (kind : Kind) → stands n f p ps kind ≡ false
 
--- a state within the limits, where the base before `^` fits, and the next piece has no fault
+-- a state within the limits, where the base before `^` fits and the next piece has no fault
 pub record IsSmall (n : ℕ) (f : Front) (ps : List Piece) : Type 0 where
   pub kept : KeptFront n f
   pub levels : levels_of f ≤ depth_limit
@@ -160,15 +160,15 @@ pub record IsSmall (n : ℕ) (f : Front) (ps : List Piece) : Type 0 where
   pub bases : caret_next ps ≡ true → BaseFits (last f.factors)
   pub none : Nothing n f ps
 
--- a piece after which all is within the limits has no fault
+-- laws for a piece after which the state is within the limits: it has no fault
 module _ (n : ℕ) (f g : Front) (piece : Piece) (behind : List Piece) (led : step f piece ≡ Some g) (kept : KeptPiece n piece) (fits : caret_next behind ≡ true → BaseFits (last g.factors)) where
-  -- a base fits
+  -- a number that is a base fits
   fitting : (c : ℕ) → is_base f behind ≡ true → piece ≡ Number c → BaseFits (Some (Constant c))
   fitting c base e =
       let t = and_parts (begins f.position) (caret_next behind) base in
       subst BaseFits (begin_number f g c t.0 (sym (ap (step f) e) ∙ led)) (fits t.1)
 
-  -- the base isn't under 2
+  -- the piece is no base under 2
   no_small : is_base f behind && is_small_base piece ≡ false
   no_small = go (is_base f behind) refl piece refl
     where
@@ -177,7 +177,7 @@ module _ (n : ℕ) (f g : Front) (piece : Piece) (behind : List Piece) (led : st
       go true b (Number c) e = false_lt c 2 (fitting c b e).0
       go true b q e = refl
 
-  -- the base isn't over 2^64-1
+  -- the piece is no base over 2^64-1
   no_large : is_base f behind && is_large_base piece ≡ false
   no_large = go (is_base f behind) refl piece refl
     where
@@ -186,7 +186,7 @@ module _ (n : ℕ) (f g : Front) (piece : Piece) (behind : List Piece) (led : st
       go true b (Number c) e = false_le (2 ^ 64) c (fitting c b e).1
       go true b q e = refl
 
-  -- no number is over 2^127-1
+  -- the piece is no number over 2^127-1
   no_large_number : is_large piece ≡ false
   no_large_number = go piece kept
     where
@@ -194,7 +194,7 @@ module _ (n : ℕ) (f g : Front) (piece : Piece) (behind : List Piece) (led : st
       go (Number c) k = false_le (2 ^ 127) c k
       go q k = refl
 
-  -- each name is listed
+  -- the piece is no name that isn't listed
   no_unlisted : is_unlisted n piece ≡ false
   no_unlisted = go piece kept
     where

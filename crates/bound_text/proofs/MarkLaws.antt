@@ -1,4 +1,4 @@
--- Marks of factors with one more at the end, of the state at a position of the code, and of the first part too deep.
+-- The marks of factors with one more at the end, of a code state, and of the first part that is too deep.
 use Rattle.std.proofs.Common.{◌≡◌, ℕ, zero, suc, ◌+◌, Bool, true, false, cond, nat_eq, [], ◌∷◌, Some, None, refl, ap}
 use Rattle.std.proofs.Common.{sym, ◌∙◌, arith}
 use Rattle.std.specs.Prelude.{⊤, not}
@@ -29,32 +29,32 @@ other_factor level before (ProductOf ps) bs rest h = refl
 other_factor level before (MaximumOf ps) bs rest h = refl
 other_factor level before (PowerOf c e) bs rest h = refl
 
--- the marks of factors of which the first is a variable, by the test whether it continues a run
+-- the marks of factors of which the first is a variable, for each result of the test whether it continues a run
 input_factor : (level : ℕ) (w : Before) (j : ℕ) (bs : Parts) (rest : Marks) (v : Bool) → goes_on w j ≡ v
     → factors_marks level w (Part (Input j) bs) rest
     ≡ cond v (factors_marks level (run_with w j) bs rest) (ended_marks level w (times_marks w (factors_marks level (Run j 1) bs rest)))
 input_factor level w j bs rest v e =
     ap (λ (u : Bool). cond u (factors_marks level (run_with w j) bs rest) (ended_marks level w (times_marks w (factors_marks level (Run j 1) bs rest)))) e
 
--- the mark of `*` where something comes before, or among the factors
+-- the marks of the `*` before the next factor: there is one if a factor or a run comes before
 abbrev pub lead_marks : Before → Parts → Marks → Marks
 lead_marks Nothing fs rest = star_marks fs rest
 lead_marks (Run i n) fs rest = None ∷ rest
 lead_marks Other fs rest = None ∷ rest
 
--- without factors, the lead is the part before
+-- without factors, the marks of `*` are those after the part before
 lead_none : (w : Before) (rest : Marks) → lead_marks w NoParts rest ≡ times_marks w rest
 lead_none Nothing rest = refl
 lead_none (Run i n) rest = refl
 lead_none Other rest = refl
 
--- after a factor `*` leads
+-- after a factor there is a mark of `*`
 lead_some : (w : Before) (c : Bound) (cs : Parts) (rest : Marks) → lead_marks w (Part c cs) rest ≡ None ∷ rest
 lead_some Nothing c cs rest = refl
 lead_some (Run i n) c cs rest = refl
 lead_some Other c cs rest = refl
 
--- a run that continues is a run
+-- a run that continues leads to the same marks as a run
 lead_run : (w : Before) (j : ℕ) (cs : Parts) (rest : Marks) → lead_marks (run_with w j) cs rest ≡ None ∷ rest
 lead_run Nothing j cs rest = refl
 lead_run (Run i n) j cs rest = go (nat_eq i j)
@@ -64,7 +64,7 @@ lead_run (Run i n) j cs rest = go (nat_eq i j)
     go false = refl
 lead_run Other j cs rest = refl
 
--- factors added after others continue no run of those before, which satisfy P, and have their own marks
+-- factors added after others that satisfy P continue no run of them, and have their own marks
 pub record StandsOff (level : ℕ) (add : Parts → Parts) (own rest : Marks) (P : Before → Parts → Type 0) : Type 0 where
   pub behind : (c : Bound) (cs : Parts) → add (Part c cs) ≡ Part c (add cs)
   pub alone : (w : Before) → P w NoParts → factors_marks level w (add NoParts) rest ≡ ended_marks level w (times_marks w own)
@@ -72,7 +72,7 @@ pub record StandsOff (level : ℕ) (add : Parts → Parts) (own rest : Marks) (P
   pub run : (w : Before) (j : ℕ) (cs : Parts) → P w (Part (Input j) cs) → P (Run j 1) cs
   pub other : (w : Before) (c : Bound) (cs : Parts) → P w (Part c cs) → P Other cs
 
--- the marks of added factors follow those of the factors before
+-- the marks of factors with more added are those of the factors, of `*`, and of the added ones
 pub factors_behind : (level : ℕ) (add : Parts → Parts) (own rest : Marks) (P : Before → Parts → Type 0) → StandsOff level add own rest P
     → (w : Before) (fs : Parts) → P w fs → factors_marks level w (add fs) rest ≡ factors_marks level w fs (lead_marks w fs own)
 factors_behind level add own rest P off w NoParts p = off.alone w p ∙ ap (ended_marks level w) (sym (lead_none w own))
@@ -97,14 +97,14 @@ factors_behind level add own rest P off w (Part c cs) p =
     (factors_behind level add own rest P off Other cs (off.other w c cs p) ∙ ap (factors_marks level Other cs) (sym (lead_some w c cs own)))
     ∙ sym (other_factor level w c cs (lead_marks w (Part c cs) own) refl)
 
--- a constant continues no run
+-- a constant added after factors continues no run
 pub constant_behind : (level c : ℕ) (fs : Parts) (rest : Marks)
     → factors_marks level Nothing (with_part fs (Constant c)) rest ≡ factors_marks level Nothing fs (star_marks fs (Some level ∷ rest))
 constant_behind level c fs rest =
     factors_behind level (λ gs. with_part gs (Constant c)) (Some level ∷ rest) rest (λ w cs. ⊤)
     (record { behind = λ d ds. refl; alone = λ w p. refl; same = λ w j cs e p. tt; run = λ w j cs p. tt; other = λ w c cs p. tt }) Nothing fs tt
 
--- a variable after another factor continues no run
+-- a variable added after another factor continues no run
 pub input_behind : (level i : ℕ) (fs : Parts) (rest : Marks) → ends_in Nothing fs i ≡ false
     → factors_marks level Nothing (with_part fs (Input i)) rest ≡ factors_marks level Nothing fs (star_marks fs (Some level ∷ rest))
 input_behind level i fs rest =
@@ -117,7 +117,7 @@ input_behind level i fs rest =
       other = λ w c cs p. ends_other w c cs i p;
     }) Nothing fs
 
--- copies continue a run
+-- copies added after a run of the same variable continue it
 run_on : (level n i m : ℕ) (rest : Marks) → factors_marks level (Run i m) (with_copies n i NoParts) rest ≡ ended_marks level (Run i (m + n)) rest
 run_on level zero i m rest = ap (λ (k : ℕ). ended_marks level (Run i k) rest) (let e : m ≡ m + zero = omega arith in e)
 run_on level (suc n) i m rest =
@@ -127,7 +127,7 @@ run_on level (suc n) i m rest =
     ∙ run_on level n i (suc m) rest
     ∙ ap (λ (k : ℕ). ended_marks level (Run i k) rest) (let e : suc m + n ≡ m + suc n = omega arith in e)
 
--- a run after another factor has its own marks
+-- a run added after another factor has its own marks
 pub copies_behind : (level n i : ℕ) (fs : Parts) (rest : Marks) → ends_in Nothing fs i ≡ false
     → factors_marks level Nothing (with_copies (suc n) i fs) rest ≡ factors_marks level Nothing fs (star_marks fs (ended_marks level (Run i (suc n)) rest))
 copies_behind level n i fs rest =
@@ -152,7 +152,7 @@ ends_nothing (Part b bs) i h = go (is_input i (last (Part b bs))) h
     go true e = cc
     go false e = refl
 
--- the marks of a leaf that is no factor yet are those of one
+-- the marks of a leaf that is no factor yet are those of the same leaf as a factor
 leaf_here : (outer : Outer) (ts fs : Parts) (b : Bound) (product : ℕ) → product ≡ node_of_any fs
     → ((level : ℕ) → factors_marks level Nothing (with_part fs b) [] ≡ factors_marks level Nothing fs (star_marks fs (Some level ∷ [])))
     → outer_marks outer (parts_marks (levels_above outer) (sum_node outer ts) product ts (with_part fs b) [])
@@ -162,7 +162,7 @@ leaf_here outer ts fs b product e h =
     ∙ ap (λ (ms : Marks). outer_marks outer (each_marks plus_between (level_behind (levels_above outer) (sum_node outer ts) 0) ts ms))
     (h (level_behind (levels_above outer) (sum_node outer ts) (node_of_any fs)))
 
--- the marks of the state at a position of the code
+-- the marks of a state are those computed by the position of the code
 pub front_here : (position : Position) (outer : Outer) (ts fs : Parts) → is_fresh_at position fs ≡ true
     → front_marks (front_with position outer ts fs)
     ≡ outer_marks outer (parts_marks (levels_above outer) (sum_here position outer ts) (product_here position fs) ts fs

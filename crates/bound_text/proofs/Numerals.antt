@@ -12,7 +12,7 @@ use Rattle.text_core.specs.Bytes.{begins_with, has_leading_zero}
 use Rattle.std.proofs.lemmas.Bool.{and_parts}
 use Rattle.text_core.proofs.NumberLaws.{digit_value-digit}
 
--- a digit's byte, from its value and back
+-- the byte of a digit is 48 more than its value, and the value is below 10
 digit_byte : (c : ℕ) → is_ascii_digit c ≡ true → (c ≡ 48 + digit_value c) × (digit_value c < 10)
 digit_byte c h =
     let d = digit_value-digit c h in
@@ -20,21 +20,21 @@ digit_byte c h =
     let high : c ≤ 57 = grind (arith, nat_tests) in
     (omega (arith, d), omega (arith, d))
 
--- a byte with the value of a digit is one
+-- a byte whose digit value is below 10 is a digit
 value_digit : (c : ℕ) → digit_value c < 10 → is_ascii_digit c ≡ true
 value_digit c h = grind (arith, nat_tests)
 
--- digits pass the test of digits
+-- digits below 10 have bytes that pass the test of digits
 pub digits_pass : (ds : List ℕ) → AllDigits 10 ds → list_all is_ascii_digit ds ≡ true
 digits_pass [] h = refl
 digits_pass (c ∷ ds) h = rw (value_digit c h.0, digits_pass ds h.1) refl
 
--- the number that digits write is at least the one that those before wrote
+-- reading further digits doesn't make the number smaller
 grows_after : (n : ℕ) (ds : List ℕ) → n ≤ digits_value_after 10 n ds
 grows_after n [] = omega arith
 grows_after n (c ∷ ds) = omega (arith, grows_after (n * 10 + digit_value c) ds)
 
--- digits after those of a number that isn't 0
+-- the numeral of a number that isn't 0, with further digits appended, is the numeral of the number that they write
 numeral_after : (n : ℕ) (xs ds : List ℕ) → 1 ≤ n → decimal n ≡ xs → list_all is_ascii_digit ds ≡ true → digits_value_after 10 n ds < 10 ^ 64 → decimal (digits_value_after 10 n ds) ≡ xs ++ ds
 numeral_after n xs [] some is all small = is ∙ sym (append-nil xs)
 numeral_after n xs (c ∷ ds) some is all small =
@@ -49,7 +49,7 @@ numeral_after n xs (c ∷ ds) some is all small =
     step ∙ ap (λ (k : ℕ). decimal k ++ ((48 + m % 10) ∷ [])) front ∙ ap (λ (ys : List ℕ). ys ++ ((48 + m % 10) ∷ [])) is ∙ ap (λ (k : ℕ). xs ++ ((48 + k) ∷ [])) rest ∙ ap (λ (k : ℕ). xs ++ k ∷ []) (sym b.0) in
     numeral_after m (xs ++ c ∷ []) ds (omega (arith, some)) here t.1 small ∙ append_assoc xs (c ∷ []) ds
 
--- digits without leading zeros are the numeral of their number
+-- digits without leading zeros are the numeral of the number that they write
 pub numeral_of : (c : ℕ) (ds : List ℕ) → is_ascii_digit c ≡ true → list_all is_ascii_digit ds ≡ true → has_leading_zero (c ∷ ds) ≡ false → digits_value 10 (c ∷ ds) < 10 ^ 64 → decimal (digits_value 10 (c ∷ ds)) ≡ c ∷ ds
 numeral_of c [] d all lead small =
     let b = digit_byte c d in
@@ -70,22 +70,22 @@ numeral_of c (e ∷ ds) d all lead small =
     nonzero : (c v : ℕ) → c ≡ 48 + v → nat_eq c 48 ≡ false → 1 ≤ v
     nonzero c v e h = grind (arith, nat_tests)
 
--- the beginning of a numeral
+-- bytes that are digits without a leading zero, unless they are `0` alone
 pub record IsProper (n : ℕ) (ds : List ℕ) : Type 0 where
   pub some : 0 < length ds
   pub first : 1 ≤ n → begins_with 48 ds ≡ false
   pub single : n < 10 → length ds ≡ 1
 
--- a prefix of bytes is one of these followed by others
+-- whether the bytes of two lists joined begin with 0 depends on the first list, if that is not empty
 begins-append : (xs ys : List ℕ) → 0 < length xs → begins_with 48 (xs ++ ys) ≡ begins_with 48 xs
 begins-append [] ys h = absurd (omega arith)
 begins-append (x ∷ xs) ys h = refl
 
--- one digit
+-- one digit is proper
 proper_one : (n : ℕ) → n < 10 → IsProper n ((48 + n) ∷ [])
 proper_one n h = record { some = omega arith; first = λ k. (let e : nat_eq (48 + n) 48 ≡ false = grind (arith, nat_tests) in e); single = λ k. refl }
 
--- one digit more
+-- a proper numeral of n / 10 with one digit more is proper
 proper_more : (n : ℕ) (ds : List ℕ) → 10 ≤ n → IsProper (n / 10) ds → IsProper n (ds ++ ((48 + n % 10) ∷ []))
 proper_more n ds h p = record {
   some = omega (arith, length-append ds ((48 + n % 10) ∷ []), p.some);

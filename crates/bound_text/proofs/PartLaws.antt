@@ -1,4 +1,4 @@
--- One more part at the end, and what the measures say of it.
+-- Parts with one more at the end: the last of them, the others, and their measures.
 use Rattle.std.proofs.Common.{◌≡◌, false, Some, refl, ap}
 use Rattle.text_core.specs.model.Bounds as plain
 use Rattle.text_core.specs.model.Bounds.{Parts, NoParts, Part}
@@ -6,13 +6,13 @@ pub use Rattle.bound_expr.proofs.Lists.{parts_of-push, node_count-with_part, dep
 use Rattle.bound_text.specs.Shapes.{is_sum, is_empty, with_part}
 use Rattle.bound_text.specs.Fronts.{last, init, product_node, node_of_any}
 
--- the last part is the one at the end, and the others are those before it
+-- the last of parts with one more at the end is that one
 pub last-with_part : (bs : Parts) (b : plain.Bound) → last (with_part bs b) ≡ Some b
 last-with_part NoParts b = refl
 last-with_part (Part c NoParts) b = refl
 last-with_part (Part c (Part d ds)) b = last-with_part (Part d ds) b
 
--- the parts before the last
+-- the parts but the last of parts with one more at the end are the parts before it
 pub init-with_part : (bs : Parts) (b : plain.Bound) → init (with_part bs b) ≡ bs
 init-with_part NoParts b = refl
 init-with_part (Part c NoParts) b = refl
@@ -24,13 +24,13 @@ product_node-with_part NoParts b h = rw h refl
 product_node-with_part (Part c NoParts) b h = refl
 product_node-with_part (Part c (Part d ds)) b h = refl
 
--- parts with one more are some
+-- parts with one more are not empty
 pub is_empty-with_part : (bs : Parts) (b : plain.Bound) → is_empty (with_part bs b) ≡ false
 is_empty-with_part NoParts b = refl
 is_empty-with_part (Part c cs) b = refl
 
--- the measures of parts with one more
+-- rewrites the measures of parts with one more
 pub ruleset pushes = (parts_of-push, node_count-with_part, depth-with_part)
 
--- the last of parts
+-- rewrites the last of parts, and the others
 pub ruleset ends = (parts_of-push, last-with_part, init-with_part)

@@ -21,23 +21,23 @@ module _ (n : ℕ) (f : Front) (piece : Piece) (behind : List Piece) where
     pub nowhere : step f piece ≡ None → kind ≡ Syntax
     pub least : (other : Kind) → stands n f piece behind other ≡ true → number_of kind ≤ number_of other
 
-  -- where the piece leads, with nothing against it
+  -- the piece is accepted, leads to this state, and has no fault
   pub record IsTaken (g : Front) : Type 0 where
     pub leads : step f piece ≡ Some g
     pub none : (other : Kind) → stands n f piece behind other ≡ false
     pub levels : levels_of g ≤ depth_limit
     pub nodes : nodes_of g ≤ node_limit
 
-  -- the result of taking the piece
+  -- the piece is taken or refused, as this result says
   abbrev pub IsJudged : PieceResult → Type 0
   IsJudged (Refused kind) = IsRefused kind
   IsJudged (Reached g) = IsTaken g
 
-  -- a step that leads somewhere leads not nowhere
+  -- a step that is accepted isn't rejected
   somewhere : {X : Type 0} (g : Front) → step f piece ≡ Some g → step f piece ≡ None → X
   somewhere g e none = cc
 
-  -- the first kind is the least
+  -- the number of each kind is at least 1
   one_least : (other : Kind) → 1 ≤ number_of other
   one_least Syntax = omega arith
   one_least NumberTooLarge = omega arith
@@ -45,11 +45,11 @@ module _ (n : ℕ) (f : Front) (piece : Piece) (behind : List Piece) where
   one_least TooDeep = omega arith
   one_least TooLarge = omega arith
 
-  -- if the levels of the innermost bound are within the limit, all levels are
+  -- if the levels of the innermost bound are within the limit after a piece, so are all levels of the tree
   shallow_after : IsFront f → levels_of f ≤ depth_limit → (g : Front) → step f piece ≡ Some g → inner_levels g ≤ depth_limit → levels_of g ≤ depth_limit
   shallow_after is shallow g e h = let r = (grows f g piece (step_leads f g piece is e)).round in omega (arith, r, shallow, h)
 
-  -- if there is no other fault, the limits decide
+  -- if the piece has no other fault, the limits decide the result
   judge_size : IsFront f → levels_of f ≤ depth_limit → (g : Front) → step f piece ≡ Some g → stands n f piece behind Syntax ≡ false → stands n f piece behind NumberTooLarge ≡ false → stands n f piece behind UnknownName ≡ false
       → (d m : Bool) → nat_lt depth_limit (inner_levels g) ≡ d → nat_lt node_limit (nodes_of g) ≡ m → IsJudged (cond d (Refused TooDeep) (cond m (Refused TooLarge) (Reached g)))
   judge_size is shallow g e s l u true m deep big = record { is = inl (ap is_deep e ∙ past depth_limit (levels_of g) (let d = ltb-true depth_limit (inner_levels g) deep in omega (arith, d))); nowhere = somewhere g e; least = least }
@@ -83,7 +83,7 @@ module _ (n : ℕ) (f : Front) (piece : Piece) (behind : List Piece) where
       none TooDeep = ap is_deep e ∙ within depth_limit (levels_of g) few
       none TooLarge = ap has_many e ∙ big
 
-  -- the tests of the piece decide before
+  -- the faults of the piece by itself decide the result before the limits do
   judge : IsFront f → levels_of f ≤ depth_limit → (o : Option Front) → step f piece ≡ o → (s l u : Bool) → stands n f piece behind Syntax ≡ s → stands n f piece behind NumberTooLarge ≡ l → stands n f piece behind UnknownName ≡ u
       → IsJudged (fault_or_front (cond s (Some Syntax) (cond l (Some NumberTooLarge) (cond u (Some UnknownName) None))) o)
   judge is shallow None e s l u se le ue = record { is = inr (e, refl); nowhere = λ h. refl; least = λ other t. one_least other }
@@ -106,7 +106,7 @@ module _ (n : ℕ) (f : Front) (piece : Piece) (behind : List Piece) where
       least TooLarge t = omega arith
   judge is shallow (Some g) e false false false se le ue = judge_size is shallow g e se le ue (nat_lt depth_limit (inner_levels g)) (nat_lt node_limit (nodes_of g)) refl refl
 
-  -- the result of taking the piece
+  -- the result of taking a piece is its first fault, or the next state
   pub piece_judged : IsFront f → levels_of f ≤ depth_limit → has_large_base f piece ≡ false → IsJudged (piece_result n (caret_next behind) f piece)
   piece_judged is shallow h =
       subst (λ (v : Bool). IsJudged (cond v (Refused NumberTooLarge) (fault_or_front (fault_of n (begins f.position && caret_next behind) piece) (step f piece)))) (sym h)

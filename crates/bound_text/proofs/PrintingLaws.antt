@@ -1,4 +1,4 @@
--- The text written so far, and the text still to write.
+-- Laws of printing: the text written so far, and the text still to write.
 use Rattle.std.proofs.Common.{◌≡◌, ℕ, ◌≤◌, List, ◌++◌, length, drop, subst, ◌∙◌}
 use Rattle.std.specs.Prelude.{Result, Ok, Err, OnOk}
 use Rattle.std.specs.declared.alloc.AllocError.{AllocError}
@@ -10,7 +10,7 @@ use Rattle.bound_text.specs.Pieces.{Piece, bytes_of}
 use Rattle.bound_text.specs.Writing.{Before, factors_then, ended_then}
 use Rattle.bound_text.specs.Printing.{Writes, WritesAll}
 
--- after the last factor the run before is all that is left
+-- after the last factor only the run before is left to write
 pub factors_ended : (names : List Name) (old mid new : List ℕ) (all : List Piece → List Piece) (before : Before) (factors : List Bound) (k : ℕ) (r : Result (Unit {0}) AllocError)
     → length factors ≤ k → Writes names old mid all (factors_then before (parts_of (bounds_of (drop k factors)))) → OnOk r (WritesAll names mid new (ended_then before))
     → OnOk r (WritesAll names old new all)

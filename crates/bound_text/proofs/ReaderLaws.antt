@@ -1,4 +1,4 @@
--- The reader of bounds keeps the laws of a reader, and its states are written as what has been read.
+-- The reader of bounds satisfies the laws of a reader, and its states describe the pieces read so far.
 use Rattle.std.proofs.Common.{◌≡◌, ℕ, Bool, true, false, cond, List, [], ◌∷◌, Option, Some, None, refl, ap, sym, ◌∙◌}
 use Rattle.std.proofs.Common.{inl, inr, arith}
 use Rattle.std.specs.Prelude.{◌⊎◌}
@@ -29,7 +29,7 @@ walked n done f e = walk-onto (bounds n) done [] ∙ e
 pub is_front : (n : ℕ) (done : List Piece) (f : Front) → reached (bounds n) done ≡ Some f → IsFront f
 is_front n done f e = (walk_read (onto done []) f (walked n done f e)).is_front
 
--- kinds differ in their numbers
+-- kinds with the same number are the same
 kinds_differ : (a b : Kind) → number_of a ≡ number_of b → a ≡ b
 kinds_differ Syntax Syntax h = refl
 kinds_differ NumberTooLarge NumberTooLarge h = refl
@@ -38,7 +38,7 @@ kinds_differ TooDeep TooDeep h = refl
 kinds_differ TooLarge TooLarge h = refl
 kinds_differ a b h = absurd (omega (arith, h))
 
--- the laws
+-- the reader of bounds satisfies the laws of a reader
 pub bound_laws : (n : ℕ) → Laws (bounds n)
 bound_laws n = record {
   goes_on = λ done f e. let b = walk_begins (onto done []) f (walked n done f e) in (b.0, b.1, (b.2, b.3 ∙ sym (onto-append done [] b.1)));
@@ -47,14 +47,14 @@ bound_laws n = record {
   differ = kinds_differ;
 }
 
--- where nothing takes `^`, none can follow
+-- where the last factor takes no `^`, none can follow
 no_caret : (fs : Parts) (b : Option Bound) (o : Outer) (ts : Parts) → takes_caret fs b ≡ false → caret_behind o ts fs b ≡ None
 no_caret fs None o ts h = refl
 no_caret fs (Some (Constant c)) o ts h = cc
 no_caret fs (Some (Input i)) o ts h = ap (λ (v : Bool). cond v (Some (front_at o ts fs (RunCaret i))) None) h
 no_caret fs (Some b) o ts h = refl
 
--- where an item begins alone, a base is possible
+-- a base and its `^` can follow only where an item begins
 base_begins : (f : Front) → next step (step f (Number 2)) Caret ≡ None ⊎ (begins f.position ≡ true)
 base_begins f = go f.position
   where
@@ -67,7 +67,7 @@ base_begins f = go f.position
     go PlusRead = inl refl
     go CommaRead = inl refl
 
--- where an item begins, a base is possible
+-- if an item begins, a base and its `^` can follow
 begins_base : (f : Front) → begins f.position ≡ true → (g : Front) × (next step (step f (Number 2)) Caret ≡ Some g)
 begins_base f h = go f.position h
   where
@@ -84,11 +84,11 @@ begins_base f h = go f.position h
     go PlusRead h = cc
     go CommaRead h = cc
 
--- two more pieces
+-- the state after two more pieces is that of two further steps
 two_more : (n : ℕ) (done : List Piece) (f : Front) (a b : Piece) → reached (bounds n) done ≡ Some f → reached (bounds n) (b ∷ a ∷ done) ≡ next step (step f a) b
 two_more n done f a b e = ap (λ (o : Option Front). next step (next step o a) b) e
 
--- states are written as what has been read
+-- each state describes exactly the pieces read so far
 pub fronts_are_read : FrontsAreRead
 fronts_are_read = record {
   read = λ n done f e. let r = walk_reads (onto done []) f (walked n done f e) in (r.is, r.text);

@@ -1,4 +1,4 @@
--- The state after some pieces decides the answer together with the remaining pieces.
+-- Laws of reading: the current state, with the pieces that are left, decides the answer to the text.
 use Rattle.std.proofs.Common.{◌≡◌, length-drop, ℕ, ◌+◌, ◌-◌, ◌^◌, ◌<◌, ◌≤◌, Bool, true, false, cond, nat_eq, List, []}
 use Rattle.std.proofs.Common.{◌∷◌, length, drop, Option, Some, None, refl, ap, sym, subst, ◌∙◌, inl, inr, arith}
 use Rattle.std.specs.Prelude.{Result, Ok, Err, IsErrAnd, IsTrue, codes, ◌⊎◌}
@@ -59,7 +59,7 @@ number_no_caret digits = go (has_leading_zero digits)
     go true = refl
     go false = refl
 
--- of the other bytes one is
+-- of the other bytes only 94 is `^`
 mark_caret : (b : ℕ) → is_caret (mark_at b) ≡ nat_eq b 94
 mark_caret b = grind (arith, nat_tests)
 
@@ -71,7 +71,7 @@ begins_no_caret b h = grind (arith, nat_tests)
 digit_no_caret : (b : ℕ) → is_ascii_digit b ≡ true → nat_eq b 94 ≡ false
 digit_no_caret b h = grind (arith, nat_tests)
 
--- a piece is `^` where the first byte is
+-- the lexeme that bytes begin with is `^` exactly if the first byte is
 lexeme_caret : (names : List Name) (b : ℕ) (bytes : List ℕ) → is_caret (lexeme_at names b bytes).piece ≡ nat_eq b 94
 lexeme_caret names b bytes = go (begins_name b) (is_ascii_digit b) refl refl
   where
@@ -81,7 +81,7 @@ lexeme_caret names b bytes = go (begins_name b) (is_ascii_digit b) refl refl
     go false true e f = number_no_caret (b ∷ prefix is_ascii_digit bytes) ∙ sym (digit_no_caret b f)
     go false false e f = mark_caret b
 
--- `^` comes next where the bytes begin with it
+-- `^` comes next exactly if the bytes begin with it
 pub caret-tokens : (names : List Name) (at : ℕ) (bytes : List ℕ) → caret_next (pieces (tokens_from (each_piece (lexeme_at names)) at 0 bytes)) ≡ begins_with 94 bytes
 caret-tokens names at [] = refl
 caret-tokens names at (b ∷ bytes) = lexeme_caret names b bytes
@@ -94,13 +94,13 @@ shown_next n len f (t ∷ rest) x a = (among_faults t.at (stands n f t.piece (pi
 shows_next : (n : ℕ) → ShowsNext (bounds n)
 shows_next n = record { each = λ len done f rest x a. shown_next n len f rest x a }
 
--- a piece that is taken decides nothing
+-- a piece that is taken leaves the answer to the state after it
 run_taken : (n len : ℕ) (done rest : List (Token Piece)) (f g : Front) (t : Token Piece) → IsTaken n f t.piece (pieces rest) g → run (bounds n) len (Going None done f) (t ∷ rest) ≡ run (bounds n) len (Going None (t ∷ done) g) rest
 run_taken n len done rest f g t is =
     ap (λ (xs : List (text.Fault Kind)). run (bounds n) len (further (bounds n) (first_among (bounds n) None xs) done t (step f t.piece) (off_at (bounds n) len f (t ∷ rest))) rest) (no_faults t.at (stands n f t.piece (pieces rest)) kinds is.none)
     ∙ ap (λ (o : Option Front). run (bounds n) len (further (bounds n) None done t o (off_at (bounds n) len f (t ∷ rest))) rest) is.leads
 
--- a piece that is refused decides
+-- a piece that is refused decides the answer
 run_refused : (n len : ℕ) (done rest : List (Token Piece)) (f : Front) (t : Token Piece) (kind : Kind) → reached (bounds n) (pieces done) ≡ Some f → t.at < t.upto → AreInOrder t.upto rest len → IsRefused n f t.piece (pieces rest) kind
     → run (bounds n) len (Going None done f) (t ∷ rest) ≡ RefusedBy (record { kind = kind; at = t.at })
 run_refused n len done rest f t kind led some order is = first_ahead (bounds n) (bound_laws n) len done (t ∷ rest) f (record { kind = kind; at = t.at }) led (here is.is) least
@@ -126,7 +126,7 @@ run_refused n len done rest f t kind led some order is = first_ahead (bounds n) 
         let e = ahead_next (bounds n) (shows_next n) rest len t.upto (t ∷ done) (step f t.piece) y order a in
         record { position = omega (arith, e, some); kind = λ p. absurd (omega (arith, e, some, p)) }
 
--- running out of memory is an answer to each refusal
+-- every refusal may be answered by running out of memory
 refusal_memory : (kind : Kind) (at : ℕ) → IsRefusal kind at errors.Memory
 refusal_memory Syntax at = tt
 refusal_memory NumberTooLarge at = tt
@@ -134,17 +134,17 @@ refusal_memory UnknownName at = tt
 refusal_memory TooDeep at = tt
 refusal_memory TooLarge at = tt
 
--- running out of memory is permitted with each answer
+-- every answer may be replaced by running out of memory
 pub says_memory : (a : Answer plain.Bound Kind) → Says a (Err errors.Memory)
 says_memory (RefusedBy x) = refusal_memory x.kind x.at
 says_memory (Stands b) = tt
 
--- the answer if an error is passed on
+-- an error that is passed on agrees with the answer that it was
 pub says_passed_on : (a : Answer plain.Bound Kind) (result : Result Bound BoundTextError) → IsErrAnd result (λ e. e ≡ errors.Memory) → Says a result
 says_passed_on a (Ok b) h = absurd h
 says_passed_on a (Err e) h = subst (λ (x : BoundTextError). Says a (Err x)) (sym h) (says_memory a)
 
--- a refusal of the code with its position
+-- a refusal of the code, put at its position, is that refusal there
 refusal_at : (kind : Kind) (fault : Fault) (at : ℕ) → IsKind kind fault → IsRefusal kind at (error_at fault at)
 refusal_at Syntax faults.Syntax at h = refl
 refusal_at NumberTooLarge faults.NumberTooLarge at h = refl
@@ -154,12 +154,12 @@ refusal_at TooLarge faults.TooLarge at h = refl
 refusal_at kind faults.Memory at h = refusal_memory kind at
 refusal_at kind fault at h = absurd h
 
--- the answer of taking a piece
+-- if the code takes a piece, its reader is in the state of the result
 reached_front : (c : PieceResult) (r : Reader) (u : Unit {0}) → Obeys c r (Ok u) → c ≡ Reached (front_of r)
 reached_front (Refused kind) r u h = absurd h
 reached_front (Reached f) r u h = ap Reached h.0
 
--- a reader that took a piece is settled (its state is the one that the piece leads to)
+-- after taking a piece a reader is settled: its state is the one that the piece leads to
 pub settled_front : (c : PieceResult) (r : Reader) (result : Result (Unit {0}) Fault) (u : Unit {0}) → result ≡ Ok u → Obeys c r result → IsTrue (is_settled r)
 settled_front c r result u e h = go c (subst (λ (x : Result (Unit {0}) Fault). Obeys c r x) e h)
   where
@@ -171,7 +171,7 @@ settled_front c r result u e h = go c (subst (λ (x : Result (Unit {0}) Fault). 
 abbrev pub left_tokens : List Name → List ℕ → List ℕ → List (Token Piece)
 left_tokens names bytes left = tokens_from (each_piece (lexeme_at names)) (length bytes - length left) 0 left
 
--- in the reader's state, the rest of the text decides the answer for the whole
+-- the state f, with the bytes that are left, decides the answer to the whole text
 pub record Decides (names : List Name) (bytes left : List ℕ) (f : Front) : Type 0 where
   pub within : length left ≤ length bytes
   pub done : List (Token Piece)
@@ -180,7 +180,7 @@ pub record Decides (names : List Name) (bytes left : List ℕ) (f : Front) : Typ
   pub bases : begins_with 94 left ≡ true → has_large_base f Caret ≡ false
   pub same : answer (bounds (length names)) (length bytes) (tokens names bytes) ≡ run (bounds (length names)) (length bytes) (Going None done f) (left_tokens names bytes left)
 
--- at the beginning
+-- the first state, with all bytes left, decides the answer
 pub decides_first : (names : List Name) (bytes : List ℕ) → Decides names bytes bytes beginning
 decides_first names bytes = record {
   within = omega arith;
@@ -191,7 +191,7 @@ decides_first names bytes = record {
   same = ap (λ (at : ℕ). run (bounds (length names)) (length bytes) (Going None [] beginning) (tokens_from (each_piece (lexeme_at names)) at 0 bytes)) (let e : 0 ≡ length bytes - length bytes = omega arith in e);
 }
 
--- the token that the text continues
+-- laws for the next token of a text
 module _ (names : List Name) (bytes left others behind : List ℕ) (b : ℕ) (l : Lexeme Piece) (first : left ≡ b ∷ others) (found_at : l ≡ lexeme_at names b others) (some : 0 < l.len) (fits : l.len ≤ length left) (rests : behind ≡ drop l.len left) (within : length left ≤ length bytes)
   where
     abbrev token : Token Piece
@@ -201,21 +201,21 @@ module _ (names : List Name) (bytes left others behind : List ℕ) (b : ℕ) (l 
     fewer : length behind ≡ length left - l.len
     fewer = ap length rests ∙ length-drop l.len left
 
-    -- the tokens that are left are that one, and those after it
+    -- the tokens of the bytes that are left are that token and those of the bytes after it
     next_token : left_tokens names bytes left ≡ token ∷ left_tokens names bytes behind
     next_token =
         tokens-first (each_piece (lexeme_at names)) (length bytes - length left) left others behind b (record { piece = Some l.piece; len = l.len }) first
         (ap (λ (m : Lexeme Piece). record { piece = Some m.piece; len = m.len }) found_at) some rests
         ∙ ap (λ (at : ℕ). token ∷ tokens_from (each_piece (lexeme_at names)) at 0 behind) (let e : length bytes - length left + l.len ≡ length bytes - length behind = omega (arith, fewer, fits, within) in e)
 
-    -- the tokens after it are in order of position
+    -- the tokens after it are in order of their positions
     order : AreInOrder token.upto (left_tokens names bytes behind) (length bytes)
     order =
         subst (λ (p : ℕ). AreInOrder p (left_tokens names bytes behind) (length bytes)) (let e : length bytes - length behind + 0 ≡ length bytes - length left + l.len = omega (arith, fewer, fits, within) in e)
         (subst (AreInOrder (length bytes - length behind + 0) (left_tokens names bytes behind)) (let e : length bytes - length behind + length behind ≡ length bytes = omega (arith, fewer, within) in e)
         (in_order (each_piece (lexeme_at names)) (lexes_within names) behind 0 (length bytes - length behind) (omega arith)))
 
-    -- the result of taking its piece
+    -- the result of taking the token's piece is the first of its faults or the next state
     piece_is : (f : Front) (d : Decides names bytes left f) → IsJudged (length names) f l.piece (pieces (left_tokens names bytes behind)) (piece_result (length names) (caret_next (pieces (left_tokens names bytes behind))) f l.piece)
     piece_is f d =
         piece_judged (length names) f l.piece (pieces (left_tokens names bytes behind)) (is_front (length names) (pieces d.done) f d.led) d.shallow
@@ -223,14 +223,14 @@ module _ (names : List Name) (bytes left others behind : List ℕ) (b : ℕ) (l 
 
     module _ (m : ℕ) (f : Front) (r : Reader) (piece : Piece) (caret : Bool) (result : Result (Unit {0}) Fault) (listed : m ≡ length names) (piece_same : piece ≡ l.piece) (caret_same : caret ≡ begins_with 94 behind)
         (obeys : Obeys (piece_result m caret f piece) r result) where
-      -- the code takes the piece as it is found
+      -- the code's result of taking the piece is that of the definition
       checked_same : piece_result m caret f piece ≡ piece_result (length names) (caret_next (pieces (left_tokens names bytes behind))) f l.piece
       checked_same =
           ap (λ (k : ℕ). piece_result k caret f piece) listed
           ∙ ap (λ (v : Bool). piece_result (length names) v f piece) (caret_same ∙ sym (caret-tokens names (length bytes - length behind) behind))
           ∙ ap (piece_result (length names) (caret_next (pieces (left_tokens names bytes behind))) f) piece_same
 
-      -- a piece that is taken
+      -- if the piece is taken, the next state decides the answer
       pub decides_on : (u : Unit {0}) → Decides names bytes left f → result ≡ Ok u → Decides names bytes behind (front_of r)
       decides_on u d ok =
           let worked : piece_result (length names) (caret_next (pieces (left_tokens names bytes behind))) f l.piece ≡ Reached (front_of r) =
@@ -250,7 +250,7 @@ module _ (names : List Name) (bytes left others behind : List ℕ) (b : ℕ) (l 
                 ∙ run_taken (length names) (length bytes) d.done (left_tokens names bytes behind) f (front_of r) token taken;
           }
 
-      -- a piece that is refused
+      -- if the piece is refused, its fault is the answer
       pub decides_not : (fault : Fault) (at : ℕ) → Decides names bytes left f → at ≡ length bytes - length left → result ≡ Err fault
           → Says (answer (bounds (length names)) (length bytes) (tokens names bytes)) (Err (error_at fault at))
       decides_not fault at d here err = go (piece_result m caret f piece) refl (subst (λ (x : Result (Unit {0}) Fault). Obeys (piece_result m caret f piece) r x) err obeys)

@@ -1,4 +1,4 @@
--- The state of the reader has the pieces read so far.
+-- Soundness of the steps: the state after a piece describes the pieces read so far and that piece.
 use Rattle.std.proofs.Common.{◌≡◌, ℕ, zero, suc, ◌+◌, ◌≤◌, nat_lt, Bool, true, false, not, cond, ◌&&◌, List, ◌∷◌, ◌++◌}
 use Rattle.std.proofs.Common.{Some, refl, ap, sym, subst, ◌∙◌, arith}
 use Rattle.std.proofs.lemmas.Bool.Decides.{nat_tests}
@@ -22,59 +22,59 @@ use Rattle.bound_text.proofs.JoiningLaws.{as_one-with_part}
 use Rattle.bound_text.proofs.WritingLaws.{ends_in, joined-with_part, each-with_part, factors-other, factors-run}
 use Rattle.bound_text.proofs.WritingLaws.{term_text, bound_text}
 
--- after the piece the reader has read what it had, and the piece
+-- the next state is well-formed and describes the pieces of the state before and the piece
 pub record Extends (f : Front) (piece : Piece) (g : Front) : Type 0 where
   pub is_front : IsFront g
   pub text : (rest : List Piece) → front_then g rest ≡ front_then f (piece ∷ rest)
 
--- where a test leads
+-- a value that is given only if a test holds: the test holds, and the value is that one
 pub when-some : {X : Type 0} (v : Bool) (f g : X) → when v f ≡ Some g → (v ≡ true) × (f ≡ g)
 when-some true f g h = (refl, cc)
 when-some false f g h = cc
 
--- a property of each part is kept with one more
+-- if each part and one more have a property, so do the parts with that one
 each-more : (P : Bound → Type 0) (bs : Parts) (b : Bound) → EachPart P bs → P b → EachPart P (with_part bs b)
 each-more P NoParts b all here = (here, tt)
 each-more P (Part c cs) b all here = (all.0, each-more P cs b all.1 here)
 
--- one more part as texts spell it
+-- if parts and one more have the shape of a text, so do the parts with that one
 shaped-more : (bs : Parts) (b : Bound) → AreShaped bs → IsShaped b → AreShaped (with_part bs b)
 shaped-more NoParts b all here = (here, tt)
 shaped-more (Part c cs) b all here = (all.0, shaped-more cs b all.1 here)
 
--- without the last
+-- if the parts with one more have a property, so do the parts and that one
 each-less : (P : Bound → Type 0) (bs : Parts) (b : Bound) → EachPart P (with_part bs b) → EachPart P bs
 each-less P NoParts b all = tt
 each-less P (Part c cs) b all = (all.0, each-less P cs b all.1)
 
--- without the last, as texts spell them
+-- if the parts with one more have the shape of a text, so do the parts and that one
 shaped-less : (bs : Parts) (b : Bound) → AreShaped (with_part bs b) → AreShaped bs
 shaped-less NoParts b all = tt
 shaped-less (Part c cs) b all = (all.0, shaped-less cs b all.1)
 
--- one more factor
+-- factors with one more that is no product are factors
 factors-more : (fs : Parts) (b : Bound) → AreFactors fs → IsShaped b → IsNoProduct b → AreFactors (with_part fs b)
 factors-more fs b all shaped none = record { no_products = each-more IsNoProduct fs b all.no_products none; shaped = shaped-more fs b all.shaped shaped }
 
--- copies more
+-- factors with copies of a variable after them are factors
 copies-more : (n i : ℕ) (fs : Parts) → AreFactors fs → AreFactors (with_copies n i fs)
 copies-more zero i fs all = all
 copies-more (suc n) i fs all = factors-more (with_copies n i fs) (Input i) (copies-more n i fs all) tt tt
 
--- the number of parts with one more
+-- parts with one more are one more
 count-more : (bs : Parts) (b : Bound) → part_count (with_part bs b) ≡ part_count bs + 1
 count-more NoParts b = omega arith
 count-more (Part c cs) b = omega (arith, count-more cs b)
 
--- no terms
+-- no parts are terms
 no_parts : AreTerms NoParts
 no_parts = record { no_sums = tt; shaped = tt }
 
--- no factors
+-- no parts are factors
 no_factors : AreFactors NoParts
 no_factors = record { no_products = tt; shaped = tt }
 
--- one more factor
+-- after one more factor the state is well-formed
 more_factor : (outer : Outer) (ts fs : Parts) (position : Position) (b : Bound) (piece : Piece) → IsFront (front_at outer ts fs position) → IsShaped b → IsNoProduct b
     → ((rest : List Piece) → factors_then Nothing (with_part fs b) rest ≡ factors_then Nothing fs (position_then position fs (piece ∷ rest))) → Extends (front_at outer ts fs position) piece (behind_factor outer ts fs b)
 more_factor outer ts fs position b piece is shaped none texts = record {
@@ -82,12 +82,12 @@ more_factor outer ts fs position b piece is shaped none texts = record {
   text = λ rest. ap (λ (ps : List Piece). outer_then outer (each_then plus_between ts ps)) (texts rest);
 }
 
--- without a part before, the last factor decides
+-- if nothing comes before the factors, whether they end in variable i is whether the last one is that variable
 ends_first : (fs : Parts) (i : ℕ) → is_input i (last fs) ≡ false → ends_in Nothing fs i ≡ false
 ends_first NoParts i h = refl
 ends_first (Part b bs) i h = h
 
--- where an item begins
+-- a piece is sound where an item begins
 begin_sound : (outer : Outer) (ts fs : Parts) (piece : Piece) (g : Front) → IsFront (front_at outer ts fs Begins) → begin_item outer ts fs piece ≡ Some g → Extends (front_at outer ts fs Begins) piece g
 begin_sound outer ts fs (Variable i) g is h =
     let t = when-some (not (is_input i (last fs))) (behind_factor outer ts fs (Input i)) g h in
@@ -111,7 +111,7 @@ begin_sound outer ts fs Open g is h =
     })
 begin_sound outer ts fs piece g is h = cc
 
--- after the `^` of a run
+-- the number of a run is sound
 run_sound : (outer : Outer) (ts fs : Parts) (i : ℕ) (piece : Piece) (g : Front) → IsFront (front_at outer ts fs (RunCaret i)) → end_run outer ts fs i piece ≡ Some g → Extends (front_at outer ts fs (RunCaret i)) piece g
 run_sound outer ts fs i (Number zero) g is h = cc
 run_sound outer ts fs i (Number (suc zero)) g is h = cc
@@ -127,7 +127,7 @@ run_sound outer ts fs i (Number (suc (suc n))) g is h =
     })
 run_sound outer ts fs i piece g is h = cc
 
--- after the `^` of a power
+-- a piece is sound after the `^` of a power
 exponent_sound : (outer : Outer) (ts fs : Parts) (c : ℕ) (piece : Piece) (g : Front) → IsFront (front_at outer ts fs (PowerCaret c)) → begin_exponent outer ts fs c piece ≡ Some g
     → Extends (front_at outer ts fs (PowerCaret c)) piece g
 exponent_sound outer ts fs c (Number n) g is h =
@@ -146,7 +146,7 @@ exponent_sound outer ts fs c Open g is h =
     })
 exponent_sound outer ts fs c piece g is h = cc
 
--- factors that end are a term that is no sum
+-- factors after which a term can end are a term with the shape of a text, and no sum
 term_shaped : (fs : Parts) → AreFactors fs → can_end fs ≡ true → IsShaped (term_of fs) × IsNoSum (term_of fs)
 term_shaped NoParts all h = cc
 term_shaped (Part (Constant c) NoParts) all h = (tt, tt)
@@ -157,7 +157,7 @@ term_shaped (Part (MaximumOf bs) NoParts) all h = (all.shaped.0, tt)
 term_shaped (Part (PowerOf c e) NoParts) all h = (all.shaped.0, tt)
 term_shaped (Part b (Part c bs)) all h = ((omega arith, all.no_products, all.shaped), tt)
 
--- terms and factors make a bound as texts spell it
+-- terms and factors after which a term can end make a bound with the shape of a text
 bound_shaped : (ts fs : Parts) → AreTerms ts → AreFactors fs → can_end fs ≡ true → IsShaped (bound_of_parts ts fs)
 bound_shaped NoParts fs terms factors h = (term_shaped fs factors h).0
 bound_shaped (Part c cs) fs terms factors h =
@@ -165,7 +165,7 @@ bound_shaped (Part c cs) fs terms factors h =
     subst IsShaped (sym (as_one-with_part c cs (term_of fs)))
     (omega (arith, count-more (Part c cs) (term_of fs)), each-more IsNoSum (Part c cs) (term_of fs) terms.no_sums t.1, shaped-more (Part c cs) (term_of fs) terms.shaped t.0)
 
--- a bound that fails the test of a maximum is none
+-- a bound that fails the test `is_maximum` is no maximum
 no_maximum : (b : Bound) → is_maximum b ≡ false → IsNoMaximum b
 no_maximum (Constant c) h = tt
 no_maximum (Input i) h = tt
@@ -174,12 +174,12 @@ no_maximum (ProductOf bs) h = tt
 no_maximum (MaximumOf bs) h = cc
 no_maximum (PowerOf c e) h = tt
 
--- parts that aren't none are one at least
+-- parts that are not empty are at least one
 some_parts : (bs : Parts) → is_empty bs ≡ false → 1 ≤ part_count bs
 some_parts NoParts h = cc
 some_parts (Part b bs) h = omega arith
 
--- the item of a bracket is one as texts spell it, and no variable
+-- the item of a bracket has the shape of a text, and is no variable
 is_item : (bracket : Bracket) (b : Bound) → IsBracket bracket → IsShaped b → can_close bracket b ≡ true → IsShaped (item_of bracket b) × IsNoProduct (item_of bracket b) × (is_variable (item_of bracket b) ≡ false)
 is_item (Arguments bs) b is shaped h =
     let t = and_parts (not (is_empty bs)) (not (is_maximum b)) h in
@@ -192,14 +192,14 @@ is_item Factor (ProductOf bs) is shaped h = cc
 is_item Factor (MaximumOf bs) is shaped h = cc
 is_item Factor (PowerOf c e) is shaped h = cc
 
--- the item of a bracket is written as the bracket with its bound
+-- the text of the item of a bracket is the bracket, its bound and the closing bracket
 closed_text : (bracket : Bracket) (b : Bound) (rest : List Piece) → can_close bracket b ≡ true
     → bracketed_then (is_sum (item_of bracket b)) (text_then (item_of bracket b)) rest ≡ bracket_then bracket (text_then b (Close ∷ rest))
 closed_text (Arguments bs) b rest h = ap (λ (ps : List Piece). Maximum ∷ ps) (joined-with_part comma_between bs b (Close ∷ rest))
 closed_text (Exponent c) b rest h = ap (λ (v : Bool). Number c ∷ Caret ∷ bracketed_then v (text_then b) rest) h
 closed_text Factor b rest h = ap (λ (v : Bool). bracketed_then v (text_then b) rest) h
 
--- at a closing bracket
+-- a closing bracket is sound
 close_sound : (outer : Outer) (ts fs : Parts) (g : Front) → IsFront (front_at outer ts fs ItemRead) → close_bracket outer ts fs ≡ Some g → Extends (front_at outer ts fs ItemRead) Close g
 close_sound Whole ts fs g is h = cc
 close_sound (Inside bracket ts' fs' outer) ts fs g is h =
@@ -215,13 +215,13 @@ close_sound (Inside bracket ts' fs' outer) ts fs g is h =
           (closed_text bracket (bound_of_parts ts fs) rest c.1 ∙ ap (bracket_then bracket) (bound_text ts fs (Close ∷ rest) c.0)));
     })
 
--- factors that are some are some with one more
+-- factors that are not empty are other factors with one more
 pub unsnoc : (fs : Parts) → is_empty fs ≡ false → (gs : Parts) × (b : Bound) × (fs ≡ with_part gs b)
 unsnoc NoParts h = cc
 unsnoc (Part b NoParts) h = (NoParts, b, refl)
 unsnoc (Part b (Part c cs)) h = let t = unsnoc (Part c cs) refl in (Part b t.0, t.1, ap (Part b) t.2)
 
--- at the `^` after a factor
+-- the `^` after a factor is sound
 caret_sound : (outer : Outer) (ts gs : Parts) (b : Bound) (g : Front) → IsFront (front_at outer ts (with_part gs b) ItemRead) → caret_behind outer ts gs (Some b) ≡ Some g
     → Extends (front_at outer ts (with_part gs b) ItemRead) Caret g
 caret_sound outer ts gs (Constant c) g is h =
@@ -239,12 +239,12 @@ caret_sound outer ts gs (Input i) g is h =
     })
 caret_sound outer ts gs b g is h = cc
 
--- `*` after some factors
+-- after factors that are not empty, `*` is written
 star_some : (fs : Parts) (rest : List Piece) → is_empty fs ≡ false → star_then fs rest ≡ Times ∷ rest
 star_some NoParts rest h = cc
 star_some (Part b bs) rest h = refl
 
--- after an item
+-- a piece is sound after an item
 follow_sound : (outer : Outer) (ts fs : Parts) (piece : Piece) (g : Front) → IsFront (front_at outer ts fs ItemRead) → follow_item outer ts fs piece ≡ Some g → Extends (front_at outer ts fs ItemRead) piece g
 follow_sound outer ts fs Times g is h =
     let e : front_at outer ts fs Begins ≡ g = cc in
@@ -270,7 +270,7 @@ follow_sound outer ts fs Comma g is h =
 follow_sound outer ts fs Close g is h = close_sound outer ts fs g is h
 follow_sound outer ts fs piece g is h = cc
 
--- a term ends
+-- the end of a term is sound
 term_sound : (outer : Outer) (ts fs : Parts) (g : Front) → IsFront (front_at outer ts fs PlusRead) → front_at outer (with_part ts (term_of fs)) NoParts Begins ≡ g → Extends (front_at outer ts fs PlusRead) Blank g
 term_sound outer ts fs g is h =
     let t = term_shaped fs is.factors is.position in
@@ -279,7 +279,7 @@ term_sound outer ts fs g is h =
       text = λ rest. ap (outer_then outer) (each-with_part plus_between ts (term_of fs) rest ∙ ap (each_then plus_between ts) (term_text fs (plus_between ++ rest) is.position));
     })
 
--- an argument ends
+-- the end of an argument is sound
 argument_sound : (outer : Outer) (ts fs : Parts) (g : Front) → IsFront (front_at outer ts fs CommaRead) → end_argument outer ts fs ≡ Some g → Extends (front_at outer ts fs CommaRead) Blank g
 argument_sound Whole ts fs g is h = cc
 argument_sound (Inside (Exponent c) ts' fs' outer) ts fs g is h = cc
@@ -299,7 +299,7 @@ argument_sound (Inside (Arguments bs) ts' fs' outer) ts fs g is h =
           (each-with_part comma_between bs (bound_of_parts ts fs) rest ∙ ap (each_then comma_between bs) (bound_text ts fs (comma_between ++ rest) c.0));
     })
 
--- a piece that leads somewhere is read
+-- every accepted piece is sound
 pub step_sound : (f g : Front) (piece : Piece) → IsFront f → step f piece ≡ Some g → Extends f piece g
 step_sound f g piece is h = go f.position piece (record { outer = is.outer; terms = is.terms; factors = is.factors; position = is.position }) h
   where
@@ -315,11 +315,11 @@ step_sound f g piece is h = go f.position piece (record { outer = is.outer; term
     go CommaRead Blank is h = argument_sound f.outer f.terms f.factors g is h
     go position piece is h = cc
 
--- nothing has been read at first
+-- the first state is well-formed
 pub beginning_front : IsFront beginning
 beginning_front = record { outer = tt; terms = no_parts; factors = no_factors; position = tt }
 
--- a text that ends at a bound is its text
+-- if a text can end here, its bound has the shape of a text, and the pieces read are its text
 pub finish_sound : (f : Front) (b : Bound) → IsFront f → finish f ≡ Some b → IsShaped b × ((rest : List Piece) → text_then b rest ≡ front_then f rest)
 finish_sound f b is h = go f.position f.outer is.outer is.position h
   where

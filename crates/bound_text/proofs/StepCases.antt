@@ -1,4 +1,4 @@
--- Where a piece leads, case by case.
+-- The state after a piece, case by case.
 use Rattle.std.proofs.Common.{◌≡◌, ℕ, zero, suc, nat_lt, true, false, not, ◌&&◌, Some, ap, sym, subst, ◌∙◌}
 use Rattle.text_core.specs.model.Bounds.{Bound, Constant, Input, PowerOf, Parts, NoParts}
 use Rattle.bound_text.specs.Shapes.{is_maximum, is_empty, with_part}
@@ -13,7 +13,7 @@ use Rattle.bound_text.proofs.PartLaws.{last-with_part, init-with_part}
 use Rattle.std.proofs.lemmas.Bool.{and_parts}
 use Rattle.bound_text.proofs.SoundnessLaws.{when-some, unsnoc}
 
--- the state leads to another with a piece
+-- a piece leads from one state to another
 pub data Leads : Front → Piece → Front → Type 0 where
   of_variable : (o : Outer) (ts fs : Parts) (i : ℕ) → Leads (front_at o ts fs Begins) (Variable i) (behind_factor o ts fs (Input i))
   of_number : (o : Outer) (ts fs : Parts) (c : ℕ) → Leads (front_at o ts fs Begins) (Number c) (behind_factor o ts fs (Constant c))
@@ -35,7 +35,7 @@ pub data Leads : Front → Piece → Front → Type 0 where
   of_argument : (o : Outer) (bs ts' fs' ts fs : Parts) → can_end fs ≡ true
       → Leads (front_at (Inside (Arguments bs) ts' fs' o) ts fs CommaRead) Blank (inside (Arguments (with_part bs (bound_of_parts ts fs))) o ts' fs')
 
--- where an item begins
+-- a piece that is accepted where an item begins is one of the cases
 begin_leads : (o : Outer) (ts fs : Parts) (piece : Piece) (g : Front) → begin_item o ts fs piece ≡ Some g → Leads (front_at o ts fs Begins) piece g
 begin_leads o ts fs (Variable i) g h = subst (Leads (front_at o ts fs Begins) (Variable i)) (when-some (not (is_input i (last fs))) (behind_factor o ts fs (Input i)) g h).1 (of_variable o ts fs i)
 begin_leads o ts fs (Number c) g h = let e : behind_factor o ts fs (Constant c) ≡ g = cc in subst (Leads (front_at o ts fs Begins) (Number c)) e (of_number o ts fs c)
@@ -43,7 +43,7 @@ begin_leads o ts fs Maximum g h = let e : inside (Arguments NoParts) o ts fs ≡
 begin_leads o ts fs Open g h = let e : inside Factor o ts fs ≡ g = cc in subst (Leads (front_at o ts fs Begins) Open) e (of_sum o ts fs)
 begin_leads o ts fs piece g h = cc
 
--- after the `^` of a run
+-- a piece that is accepted after the `^` of a run is one of the cases
 run_leads : (o : Outer) (ts fs : Parts) (i : ℕ) (piece : Piece) (g : Front) → end_run o ts fs i piece ≡ Some g → Leads (front_at o ts fs (RunCaret i)) piece g
 run_leads o ts fs i (Number zero) g h = cc
 run_leads o ts fs i (Number (suc zero)) g h = cc
@@ -51,27 +51,27 @@ run_leads o ts fs i (Number (suc (suc n))) g h =
     subst (Leads (front_at o ts fs (RunCaret i)) (Number (suc (suc n)))) (when-some (nat_lt 1 (suc (suc n))) (front_at o ts (with_copies (suc (suc n)) i fs) ItemRead) g h).1 (of_run o ts fs i n)
 run_leads o ts fs i piece g h = cc
 
--- after the `^` of a power
+-- a piece that is accepted after the `^` of a power is one of the cases
 power_leads : (o : Outer) (ts fs : Parts) (c : ℕ) (piece : Piece) (g : Front) → begin_exponent o ts fs c piece ≡ Some g → Leads (front_at o ts fs (PowerCaret c)) piece g
 power_leads o ts fs c (Number n) g h = let e : behind_factor o ts fs (PowerOf c (Constant n)) ≡ g = cc in subst (Leads (front_at o ts fs (PowerCaret c)) (Number n)) e (of_power o ts fs c n)
 power_leads o ts fs c (Variable i) g h = let e : behind_factor o ts fs (PowerOf c (Input i)) ≡ g = cc in subst (Leads (front_at o ts fs (PowerCaret c)) (Variable i)) e (of_power_of o ts fs c i)
 power_leads o ts fs c Open g h = let e : inside (Exponent c) o ts fs ≡ g = cc in subst (Leads (front_at o ts fs (PowerCaret c)) Open) e (of_exponent o ts fs c)
 power_leads o ts fs c piece g h = cc
 
--- at the `^` after a factor
+-- an accepted `^` after a factor is one of the cases
 caret_leads : (o : Outer) (ts gs : Parts) (b : Bound) (g : Front) → caret_behind o ts gs (Some b) ≡ Some g → Leads (front_at o ts (with_part gs b) ItemRead) Caret g
 caret_leads o ts gs (Constant c) g h = subst (Leads (front_at o ts (with_part gs (Constant c)) ItemRead) Caret) (when-some (nat_lt 1 c) (front_at o ts gs (PowerCaret c)) g h).1 (of_base o ts gs c)
 caret_leads o ts gs (Input i) g h = subst (Leads (front_at o ts (with_part gs (Input i)) ItemRead) Caret) (when-some (not (is_input i (last gs))) (front_at o ts gs (RunCaret i)) g h).1 (of_caret o ts gs i)
 caret_leads o ts gs b g h = cc
 
--- terms and factors that can be an argument can end
+-- if terms and factors can be an argument, a term can end there
 argument_ends : (o : Outer) (ts fs : Parts) → can_be_argument o ts fs ≡ true → can_end fs ≡ true
 argument_ends (Inside (Arguments bs) ts' fs' o) ts fs h = (and_parts (can_end fs) (not (is_maximum (bound_of_parts ts fs))) h).0
 argument_ends (Inside (Exponent c) ts' fs' o) ts fs h = cc
 argument_ends (Inside Factor ts' fs' o) ts fs h = cc
 argument_ends Whole ts fs h = cc
 
--- at a closing bracket
+-- an accepted closing bracket is one of the cases
 close_leads : (o : Outer) (ts fs : Parts) (g : Front) → close_bracket o ts fs ≡ Some g → Leads (front_at o ts fs ItemRead) Close g
 close_leads Whole ts fs g h = cc
 close_leads (Inside bracket ts' fs' o) ts fs g h =
@@ -79,7 +79,7 @@ close_leads (Inside bracket ts' fs' o) ts fs g h =
     let c = and_parts (can_end fs) (can_close bracket (bound_of_parts ts fs)) t.0 in
     subst (Leads (front_at (Inside bracket ts' fs' o) ts fs ItemRead) Close) t.1 (of_close bracket o ts' fs' ts fs c.0 c.1)
 
--- after an item
+-- a piece that is accepted after an item is one of the cases
 follow_leads : (o : Outer) (ts fs : Parts) (piece : Piece) (g : Front) → is_empty fs ≡ false → follow_item o ts fs piece ≡ Some g → Leads (front_at o ts fs ItemRead) piece g
 follow_leads o ts fs Times g is h = let e : front_at o ts fs Begins ≡ g = cc in subst (Leads (front_at o ts fs ItemRead) Times) e (of_times o ts fs is)
 follow_leads o ts fs Caret g is h = go (unsnoc fs is)
@@ -98,7 +98,7 @@ follow_leads o ts fs Comma g is h =
 follow_leads o ts fs Close g is h = close_leads o ts fs g h
 follow_leads o ts fs piece g is h = cc
 
--- after an argument
+-- an accepted end of an argument is one of the cases
 argument_leads : (o : Outer) (ts fs : Parts) (g : Front) → can_end fs ≡ true → end_argument o ts fs ≡ Some g → Leads (front_at o ts fs CommaRead) Blank g
 argument_leads Whole ts fs g is h = cc
 argument_leads (Inside (Exponent c) ts' fs' o) ts fs g is h = cc
@@ -107,7 +107,7 @@ argument_leads (Inside (Arguments bs) ts' fs' o) ts fs g is h =
     let e : inside (Arguments (with_part bs (bound_of_parts ts fs))) o ts' fs' ≡ g = cc in
     subst (Leads (front_at (Inside (Arguments bs) ts' fs' o) ts fs CommaRead) Blank) e (of_argument o bs ts' fs' ts fs is)
 
--- where a step leads, case by case
+-- every accepted piece is one of the cases
 pub step_leads : (f g : Front) (piece : Piece) → IsFront f → step f piece ≡ Some g → Leads f piece g
 step_leads f g piece is h = go f.position piece (record { outer = is.outer; terms = is.terms; factors = is.factors; position = is.position }) h
   where

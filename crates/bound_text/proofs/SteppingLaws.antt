@@ -1,4 +1,4 @@
--- The state of the code after one more factor.
+-- Laws of stepping: the code's state after one more factor.
 use Rattle.std.proofs.Common.{◌≡◌, ℕ, ◌^◌, ◌<◌, nat_le, arith, subst, true, false, not, Some, refl, ap, sym, ◌∙◌}
 use Rattle.std.specs.Prelude.{IsTrue, Result, Ok, Err, Option}
 use Rattle.text_core.specs.model.Bounds.{Bound, Constant, Parts}
@@ -24,7 +24,7 @@ settled_factor outer ts fs behind b e none = (
   ap not (ap (λ (gs : Parts). takes_caret (init gs) (last gs)) e ∙ ap (λ (gs : Parts). takes_caret gs (last (with_part fs b))) (init-with_part fs b) ∙ ap (takes_caret fs) (last-with_part fs b) ∙ none),
 )
 
--- after a number that isn't too large for one there is a base that isn't
+-- a number that passes the check of bases is below 2^64
 pub small_base : (position : Position) (outer : Outer) (ts fs : Parts) (n : ℕ) (piece : Piece) → position ≡ at.Number n → has_large_base (front_with position outer ts fs) piece ≡ false
     → IsTrue (is_caret piece) → n < 2 ^ 64
 small_base position outer ts fs n piece e large caret = go piece caret (subst (λ (p : Position). has_large_base (front_with p outer ts fs) piece ≡ false) e large)
@@ -35,7 +35,7 @@ small_base position outer ts fs n piece e large caret = go piece caret (subst (�
         grind (arith, nat_tests)
     go piece caret large = cc
 
--- a settled reader can be searched for a part that is too deep
+-- in a settled state one can look for a part that is too deep
 pub settled_fresh : (position : Position) (fs : Parts) → is_settled_at position fs ≡ true → is_fresh_at position fs ≡ true
 settled_fresh at.Begins fs h = refl
 settled_fresh (at.Number c) fs h = refl
@@ -47,10 +47,10 @@ settled_fresh at.BlankRead fs h = refl
 settled_fresh at.PlusRead fs h = refl
 settled_fresh at.CommaRead fs h = refl
 
--- after a piece that is accepted the reader is settled
+-- after an accepted piece the reader is settled
 pub follows_settled : (reached : Option Front) (r : Reader) (result : Result (Unit {0}) Fault) (u : Unit {0}) → result ≡ Ok u → Follows reached r result → IsTrue (is_settled r)
 follows_settled reached r result u e h = (subst (Follows reached r) e h).1
 
--- after a rejected piece the state can still be searched
+-- after a rejected piece one can still look in the state for a part that is too deep
 pub keeps_fresh : (f : Front) (r : Reader) (result : Result (Unit {0}) Fault) → result ≡ Err faults.Syntax → Keeps f r result → IsTrue (is_fresh r)
 keeps_fresh f r result e h = (subst (Keeps f r) e h).1

@@ -1,4 +1,4 @@
--- The result of reading is the answer to a text.
+-- The result of reading a text is the answer that the definitions give.
 use Rattle.std.proofs.Common.{◌≡◌, ℕ, ◌≤◌, ◌<◌, ◌^◌, true, List, [], ◌∷◌, length, Option, Some, None, refl, ap, sym}
 use Rattle.std.proofs.Common.{subst, ◌∙◌, arith}
 use Rattle.std.specs.Prelude.{Result, Ok, Err}
@@ -38,11 +38,11 @@ use Rattle.bound_text.proofs.KeptBefore.{bound_kept, keeps_back}
 use Rattle.bound_text.proofs.Limits.{IsKeptWithin, IsKept, IsSmall, keeps_limits, shows_no_limit}
 use Rattle.bound_text.proofs.TextLexing.{text_spelled, pieces_lexed}
 
--- one state, two names
+-- `Some` is injective on states
 some_same : (a b : Front) → Some a ≡ Some b → a ≡ b
 some_same a b e = cc
 
--- the pieces that lead to a kept end are kept
+-- if the state after pieces meets the conditions, so do the pieces
 kept_pieces : (n : ℕ) (ps : List Piece) (f last_one : Front) → IsFront f → walk (Some f) ps ≡ Some last_one → KeptFront n last_one → nodes_of last_one < 2 ^ 127 → KeptFront n f × (nodes_of f < 2 ^ 127) × AllPiecesKept n ps
 kept_pieces n [] f last_one is on kept small =
     let same = some_same f last_one on in
@@ -58,7 +58,7 @@ kept_pieces n (p ∷ ps) f last_one is on kept small = go (step f p) refl on (λ
         let b = keeps_back n f g p leads r.1 r.0 in
         (b.0, (let e = (grows f g p leads).nodes in omega (arith, e, r.1)), (b.1, r.2))
 
--- the pieces of a bound lead to its end, which is kept
+-- the pieces of a bound lead to a state that ends with it, and meets the conditions
 record Led (names : List Name) (b : plain.Bound) : Type 0 where
   pub shaped : IsShaped b
   pub last_one : Front
@@ -67,7 +67,7 @@ record Led (names : List Name) (b : plain.Bound) : Type 0 where
   pub levels : levels_of last_one ≤ depth_of b
   pub nodes : nodes_of last_one ≤ node_count b
 
--- the pieces of a bound with the shape of a text that meets the conditions lead to it
+-- the pieces of a bound with the shape of a text that meets the conditions lead to a state that ends with it
 shaped_led : (names : List Name) (b : plain.Bound) → IsShaped b → Kept (length names) b → Led names b
 shaped_led names b shaped is_kept = record {
   shaped = shaped;
@@ -84,11 +84,11 @@ shaped_led names b shaped is_kept = record {
     last_one : Front
     last_one = front_at Whole (terms_in b) (factors_in b) ItemRead
 
--- the pieces of a tidy bound over listed variables lead to it
+-- the pieces of a tidy bound over listed variables lead to a state that ends with it
 led : (names : List Name) (bytes : List ℕ) (b : plain.Bound) → IsText names bytes b → HasShortBases b → Led names b
 led names bytes b t bases = let k = tidy_kept (length names) b t.tidy t.listed bases in shaped_led names b k.0 k.1
 
--- the pieces of a text are those of the bound that it denotes
+-- the pieces that are cut from a text are those of its bound
 pieces_found : (names : List Name) (bytes : List ℕ) (b : plain.Bound) → AreNames names → IsText names bytes b → FitsTypes b → pieces (tokens names bytes) ≡ pieces_of b
 pieces_found names bytes b are t fits =
     let l = led names bytes b t fits.bases in
@@ -97,7 +97,7 @@ pieces_found names bytes b are t fits =
     ap (λ (xs : List ℕ). pieces (tokens names xs)) (sym t.text)
     ∙ pieces_lexed names (pieces_of b) beginning l.last_one are beginning_front l.walked (kept_pieces (length names) (pieces_of b) beginning l.last_one beginning_front l.walked l.kept small).2
 
--- a text of a tidy bound within the limits is written as it, which is kept and within them
+-- the text of a tidy bound within the limits is written as that bound, which meets the conditions
 text_written : (names : List Name) (bytes : List ℕ) (b : plain.Bound) → AreNames names → IsTextWithin names bytes b → (IsShaped b × (pieces_of b ≡ pieces (tokens names bytes))) × IsKeptWithin (length names) b
 text_written names bytes b are t =
     let w = t.within in
@@ -106,7 +106,7 @@ text_written names bytes b are t =
       record { kept = k.1; levels = w.levels; nodes = w.nodes },
     )
 
--- the bytes of a bound's pieces are its text
+-- the bytes of a bound's pieces are the bound's text
 written_text : (names : List Name) (bytes : List ℕ) (b : plain.Bound) → IsShaped b × (pieces_of b ≡ pieces (tokens names bytes)) → IsKeptWithin (length names) b → IsTextWithin names bytes b
 written_text names bytes b w k =
     let t = kept_tidy (length names) b w.0 k.kept in
@@ -119,7 +119,7 @@ written_text names bytes b w k =
       within = record { levels = k.levels; nodes = k.nodes; bases = t.2 };
     }
 
--- an answer of the code that agrees with the answer of reading is right
+-- a result of the code that agrees with the answer of reading is an answer to the text
 pub says_answers : (names : List Name) (bytes : List ℕ) (result : Result Bound BoundTextError) → Says (answer (bounds (length names)) (length bytes) (tokens names bytes)) result → Answers names bytes result
 says_answers names bytes result says = go (answer (bounds (length names)) (length bytes) (tokens names bytes)) refl result says
   where
@@ -147,13 +147,13 @@ says_answers names bytes result says = go (answer (bounds (length names)) (lengt
     go (Refused x) e (Ok a) says = absurd says
     go (Refused x) e (Err error) says = refused x x.kind refl e error says
 
--- the text of a bound within the limits has that bound as its answer
+-- the answer to the text of a bound within the limits is that bound
 text_stands : (names : List Name) (bytes : List ℕ) (b : plain.Bound) → AreNames names → IsTextWithin names bytes b → answer (bounds (length names)) (length bytes) (tokens names bytes) ≡ Stands b
 text_stands names bytes b are t =
     let w = text_written names bytes b are t in
     within_answered (bounds (length names)) (bound_laws (length names)) (IsKeptWithin (length names)) (IsSmall (length names)) (shows_no_limit (length names)) (length bytes) (tokens names bytes) b w.0 w.1
 
--- an answer of the code gives the bound of a text back
+-- a result of the code that agrees with the answer of reading gives back the bound of a text
 pub says_gives_back : (names : List Name) (bytes : List ℕ) (result : Result Bound BoundTextError) (b : plain.Bound) → AreNames names → Says (answer (bounds (length names)) (length bytes) (tokens names bytes)) result
     → IsTextWithin names bytes b → GivesBack b result
 says_gives_back names bytes result b are says t = go result (subst (λ (v : Answer plain.Bound Kind). Says v result) (text_stands names bytes b are t) says)
@@ -163,7 +163,7 @@ says_gives_back names bytes result b are says t = go result (subst (λ (v : Answ
     go (Err errors.Memory) h = tt
     go (Err error) h = absurd h
 
--- a text denotes one bound at most
+-- a text denotes at most one bound
 pub one_bound : OneBound
 one_bound = record {
   each = λ names are bytes a b ta fa tb fb.

@@ -1,4 +1,4 @@
--- The bytes of a text's pieces are the text, and the pieces of those bytes are the pieces.
+-- The bytes of a text's pieces are the text, and the pieces cut from the bytes of pieces are those pieces.
 use Rattle.std.proofs.Common.{◌≡◌, ℕ, zero, suc, ◌+◌, ◌-◌, ◌^◌, ◌<◌, ◌≤◌, nat_eq, Bool, true, false, cond, List, []}
 use Rattle.std.proofs.Common.{◌∷◌, ◌++◌, length, length-append, min, drop, slice_index_or, Option, Some, None, refl}
 use Rattle.std.proofs.Common.{sym, ap, subst, ◌∙◌, arith}
@@ -33,7 +33,7 @@ use Rattle.text_core.proofs.PositionLaws.{at_position, listed_name, position_at}
 use Rattle.bound_text.proofs.Numerals.{numeral_of, digits_pass, decimal_proper}
 use Rattle.bound_text.proofs.KeptBounds.{KeptPiece, AllPiecesKept}
 
--- each piece has some bytes
+-- each lexeme has at least one byte
 lexeme_some : (names : List Name) (b : ℕ) (bytes : List ℕ) → 0 < (lexeme_at names b bytes).len
 lexeme_some names b bytes = go (begins_name b) (is_ascii_digit b)
   where
@@ -47,7 +47,7 @@ lexeme_some names b bytes = go (begins_name b) (is_ascii_digit b)
     go false true = omega arith
     go false false = omega arith
 
--- a lexeme has no more bytes than there are
+-- a lexeme has no more bytes than the text
 lexeme_few : (names : List Name) (b : ℕ) (bytes : List ℕ) → (lexeme_at names b bytes).len ≤ length (b ∷ bytes)
 lexeme_few names b bytes = go (begins_name b) (is_ascii_digit b)
   where
@@ -74,18 +74,18 @@ lexeme_few names b bytes = go (begins_name b) (is_ascii_digit b)
 pub lexes_within : (names : List Name) → LexesWithin (each_piece (lexeme_at names))
 lexes_within names = record { each = λ b bytes. (lexeme_some names b bytes, lexeme_few names b bytes) }
 
--- the bytes begin with those of the piece
+-- the text begins with the bytes of the lexeme's piece
 pub record Spelled (names : List Name) (text : List ℕ) (l : Lexeme Piece) : Type 0 where
   pub rest : List ℕ
   pub split : text ≡ spelled names l.piece ++ rest
   pub len : length (spelled names l.piece) ≡ l.len
 
--- bytes that begin with one
+-- bytes that begin with c are c and other bytes
 begins_split : (c : ℕ) (bytes : List ℕ) → begins_with c bytes ≡ true → (rest : List ℕ) × (bytes ≡ c ∷ rest)
 begins_split c [] h = cc
 begins_split c (b ∷ bytes) h = (bytes, (let e : b ≡ c = grind (arith, nat_tests) in ap (λ (x : ℕ). x ∷ bytes) e))
 
--- the bytes of an accepted name
+-- a name that meets the conditions is spelled by its bytes
 word_spelled : (names : List Name) (w rest : List ℕ) → KeptPiece (length names) (word_at names w rest).piece → Spelled names (w ++ rest) (word_at names w rest)
 word_spelled names w rest kept = go (begins_with 40 rest) (is_same w (codes "max")) refl refl kept
   where
@@ -99,7 +99,7 @@ word_spelled names w rest kept = go (begins_with 40 rest) (is_same w (codes "max
     go true false e f kept = absurd kept
     go false u e f kept = let p = at_position names w kept in record { rest = rest; split = ap (λ (xs : List ℕ). xs ++ rest) (sym p); len = ap length p }
 
--- the bytes of an accepted number
+-- a number that meets the conditions is spelled by its bytes
 number_spelled : (names : List Name) (c : ℕ) (ds rest : List ℕ) → is_ascii_digit c ≡ true → list_all is_ascii_digit ds ≡ true → KeptPiece (length names) (number_at (c ∷ ds)).piece → Spelled names ((c ∷ ds) ++ rest) (number_at (c ∷ ds))
 number_spelled names c ds rest d all kept = go (has_leading_zero (c ∷ ds)) refl kept
   where
@@ -112,7 +112,7 @@ number_spelled names c ds rest d all kept = go (has_leading_zero (c ∷ ds)) ref
         let n : decimal (value_up_to (2 ^ 127) (c ∷ ds)) ≡ c ∷ ds = ap decimal same ∙ numeral_of c ds d all e (omega (arith, small)) in
         record { rest = rest; split = ap (λ (xs : List ℕ). xs ++ rest) (sym n); len = ap length n }
 
--- the bytes of any other accepted piece
+-- any other piece that meets the conditions is spelled by its bytes
 mark_spelled : (names : List Name) (b : ℕ) (rest : List ℕ) → KeptPiece (length names) (mark_at b) → Spelled names (b ∷ rest) (record { piece = mark_at b; len = 1 })
 mark_spelled names b rest kept = go (nat_eq b 40) (nat_eq b 41) (nat_eq b 42) (nat_eq b 94) (nat_eq b 43) (nat_eq b 32) (nat_eq b 44) refl refl refl refl refl refl refl kept
   where
@@ -131,7 +131,7 @@ mark_spelled names b rest kept = go (nat_eq b 40) (nat_eq b 41) (nat_eq b 42) (n
     go false false false false false false true p q r s t u v kept = record { rest = rest; split = same 44 v; len = refl }
     go false false false false false false false p q r s t u v kept = absurd kept
 
--- a kept piece is written as the bytes that it was found in
+-- a lexeme whose piece meets the conditions is spelled by the bytes that it was cut from
 lexeme_spelled : (names : List Name) (b : ℕ) (bytes : List ℕ) → KeptPiece (length names) (lexeme_at names b bytes).piece → Spelled names (b ∷ bytes) (lexeme_at names b bytes)
 lexeme_spelled names b bytes kept = go (begins_name b) (is_ascii_digit b) refl kept
   where
@@ -146,14 +146,14 @@ lexeme_spelled names b bytes kept = go (begins_name b) (is_ascii_digit b) refl k
         (number_spelled names b (prefix is_ascii_digit bytes) (the_rest is_ascii_digit bytes) f (all_prefix is_ascii_digit bytes) kept)
     go false false f kept = mark_spelled names b bytes kept
 
--- the bytes after those of a piece
+-- the bytes after those of the first lexeme
 behind_first : (b : ℕ) (bytes xs rest : List ℕ) (n : ℕ) → b ∷ bytes ≡ xs ++ rest → length xs ≡ n → 0 < n → drop (n - 1) bytes ≡ rest
 behind_first b bytes xs rest zero e h some = absurd (omega arith)
 behind_first b bytes xs rest (suc n) e h some =
     let k : suc n - 1 ≡ n = omega arith in
     ap (λ (j : ℕ). drop j bytes) k ∙ ap (drop (suc n)) e ∙ ap (λ (j : ℕ). drop j (xs ++ rest)) (sym h) ∙ drop-append_seam xs rest
 
--- the bytes of kept pieces are the text
+-- the bytes of the pieces of a text are the text, if the pieces meet the conditions
 pub text_spelled : (names : List Name) (at k : ℕ) (bytes : List ℕ) → AllPiecesKept (length names) (pieces (tokens_from (each_piece (lexeme_at names)) at k bytes))
     → drop k bytes ≡ bytes_of names (pieces (tokens_from (each_piece (lexeme_at names)) at k bytes))
 text_spelled names at zero [] all = refl
@@ -166,34 +166,35 @@ text_spelled names at zero (b ∷ bytes) all =
     ∙ text_spelled names (at + 1) ((lexeme_at names b bytes).len - 1) bytes all.1)
 text_spelled names at (suc k) (b ∷ bytes) all = text_spelled names (at + 1) k bytes all
 
--- the first byte doesn't continue a name or a number, and is no opening bracket
+-- bytes that end a name or a number before them, and make no call of it: the first byte continues neither a name nor a
+-- number, and is no opening bracket
 abbrev pub Closes : List ℕ → Type 0
 Closes [] = ⊤
 Closes (b ∷ bytes) = (continues_name b ≡ false) × (is_ascii_digit b ≡ false) × (nat_eq b 40 ≡ false)
 
--- a name ends there
+-- bytes that close a piece end a name
 closes_name : (bytes : List ℕ) → Closes bytes → Stops continues_name bytes
 closes_name [] h = tt
 closes_name (b ∷ bytes) h = h.0
 
--- a number ends there
+-- bytes that close a piece end a number
 closes_number : (bytes : List ℕ) → Closes bytes → Stops is_ascii_digit bytes
 closes_number [] h = tt
 closes_number (b ∷ bytes) h = h.1
 
--- no bracket comes first
+-- bytes that close a piece don't begin with an opening bracket
 closes_call : (bytes : List ℕ) → Closes bytes → begins_with 40 bytes ≡ false
 closes_call [] h = refl
 closes_call (b ∷ bytes) h = h.2
 
--- the piece that bytes begin with
+-- the lexeme at the beginning of a piece's bytes followed by others is that piece with these bytes
 pub record Found (names : List Name) (piece : Piece) (rest : List ℕ) : Type 0 where
   pub first : ℕ
   pub others : List ℕ
   pub split : spelled names piece ≡ first ∷ others
   pub lexeme : lexeme_at names first (others ++ rest) ≡ record { piece = piece; len = length (first ∷ others) }
 
--- a name is found again
+-- a name is cut from its bytes again, if what follows closes it
 word_found : (names : List Name) (i : ℕ) (rest : List ℕ) → AreNames names → i < length names → Closes rest → Found names (Variable i) rest
 word_found names i rest are h closed = go (slice_index_or names i []) (listed_name names i are h) refl
   where
@@ -215,7 +216,7 @@ word_found names i rest are h closed = go (slice_index_or names i []) (listed_na
 digit_no_name : (c : ℕ) → is_ascii_digit c ≡ true → begins_name c ≡ false
 digit_no_name c h = grind (arith, nat_tests)
 
--- a number is found again
+-- a number is cut from its bytes again, if what follows closes it
 number_found : (names : List Name) (n : ℕ) (rest : List ℕ) → n < 2 ^ 127 → Closes rest → Found names (Number n) rest
 number_found names n rest small closed = go (decimal n) d.0.0 (digits_pass (decimal n) d.0.1) refl
   where
@@ -240,7 +241,7 @@ number_found names n rest small closed = go (decimal n) d.0.0 (digits_pass (deci
               ∙ ap (λ (k : ℕ). record { piece = Number k; len = length (c ∷ cs) }) (ap (λ (k : ℕ). min k (2 ^ 127)) value ∙ (let k : min n (2 ^ 127) ≡ n = omega (arith, small) in k));
         }
 
--- a piece that is a name or a number
+-- a piece that is a variable or a number
 abbrev pub IsLong : Piece → Type 0
 IsLong (Variable i) = ⊤
 IsLong (Number n) = ⊤
@@ -254,7 +255,7 @@ IsLong Blank = ⊥
 IsLong Comma = ⊥
 IsLong Wrong = ⊥
 
--- a kept piece is found again
+-- every piece that meets the conditions is cut from its bytes again
 piece_found : (names : List Name) (piece : Piece) (rest : List ℕ) → AreNames names → KeptPiece (length names) piece → (IsLong piece → Closes rest) → Found names piece rest
 piece_found names (Variable i) rest are kept closed = word_found names i rest are kept (closed tt)
 piece_found names (Number n) rest are kept closed = number_found names n rest kept (closed tt)
@@ -268,7 +269,7 @@ piece_found names Blank rest are kept closed = record { first = 32; others = [];
 piece_found names Comma rest are kept closed = record { first = 44; others = []; split = refl; lexeme = refl }
 piece_found names Wrong rest are kept closed = absurd kept
 
--- a name or a number leads after an item, and what can follow closes it
+-- after an accepted name or number the position is one whose next piece closes it
 behind_long : (f g : Front) (piece : Piece) → Leads f piece g → IsLong piece → g.position ≡ ItemRead
 behind_long f g piece (of_variable o ts fs i) long = refl
 behind_long f g piece (of_number o ts fs c) long = refl
@@ -288,7 +289,7 @@ behind_long f g piece (of_plus o ts fs) long = absurd long
 behind_long f g piece (of_term o ts fs e) long = absurd long
 behind_long f g piece (of_argument o bs ts' fs' ts fs e) long = absurd long
 
--- a piece that can follow an item closes it
+-- the bytes of a piece that is accepted there close a name or number before it
 mark_closes : (names : List Name) (f h : Front) (piece : Piece) (rest : List ℕ) → f.position ≡ ItemRead → step f piece ≡ Some h → Closes (spelled names piece ++ rest)
 mark_closes names f h piece rest e on = go piece (ap (λ (p : Position). step_at p f.outer f.terms f.factors piece) (sym e) ∙ on)
   where
@@ -305,7 +306,7 @@ mark_closes names f h piece rest e on = go piece (ap (λ (p : Position). step_at
     go Plus on = cc
     go Wrong on = cc
 
--- pieces that are accepted after an item close it
+-- the bytes of pieces that are accepted there close a name or number before them
 pieces_close : (names : List Name) (g last_one : Front) (ps : List Piece) → g.position ≡ ItemRead → walk (Some g) ps ≡ Some last_one → Closes (bytes_of names ps)
 pieces_close names g last_one [] e on = tt
 pieces_close names g last_one (p ∷ ps) e on = go (step g p) refl on
@@ -314,7 +315,7 @@ pieces_close names g last_one (p ∷ ps) e on = go (step g p) refl on
     go None s on = let n = walk-none step ps in cc
     go (Some h) s on = mark_closes names g h p (bytes_of names ps) e s
 
--- pieces that lead on are found again in their bytes
+-- accepted pieces are cut from their bytes again
 pub pieces_lexed : (names : List Name) (ps : List Piece) (f last_one : Front) → AreNames names → IsFront f → walk (Some f) ps ≡ Some last_one → AllPiecesKept (length names) ps → pieces (tokens names (bytes_of names ps)) ≡ ps
 pieces_lexed names [] f last_one are is on kept = refl
 pieces_lexed names (p ∷ ps) f last_one are is on kept = go (step f p) refl on (λ g is on. pieces_lexed names ps g last_one are is on kept.1)

@@ -16,30 +16,30 @@ use Rattle.bound_text.proofs.StepCases.{Leads, of_variable, of_number, of_maximu
 use Rattle.bound_text.proofs.StepCases.{of_power_of, of_exponent, of_times, of_base, of_caret, of_blank, of_comma}
 use Rattle.bound_text.proofs.StepCases.{of_close, of_plus, of_term, of_argument}
 
--- from one state to the next the tree so far doesn't shrink, and the surroundings of the second were there or are
--- counted in it
+-- from one state to the next the tree so far doesn't shrink, and the surroundings of the second state were there before
+-- or are counted in it
 pub record Grows (f g : Front) : Type 0 where
   pub nodes : nodes_of f ≤ nodes_of g
   pub levels : levels_of f ≤ levels_of g
   pub round : levels_round g.outer ≤ max (levels_of f) (inner_levels g)
 
--- there are parts, with one more
+-- parts with one more count as some
 any-more : (bs : Parts) (b : Bound) → node_of_any (with_part bs b) ≡ 1
 any-more NoParts b = refl
 any-more (Part c cs) b = refl
 
--- the node of any parts is at most one
+-- whether there are parts counts as one at most
 any-small : (bs : Parts) → node_of_any bs ≤ 1
 any-small NoParts = omega arith
 any-small (Part b bs) = omega arith
 
--- a product counts with a sum in brackets as one more factor
+-- factors with a sum in brackets as one more count as a product
 product_node-sum : (bs : Parts) (b : Bound) → is_sum b ≡ true → product_node (with_part bs b) ≡ 1
 product_node-sum NoParts b h = rw h refl
 product_node-sum (Part c NoParts) b h = refl
 product_node-sum (Part c (Part d ds)) b h = refl
 
--- factors are a product or a single one
+-- factors that are not empty count as a product at most once
 product_some : (fs : Parts) → is_empty fs ≡ false → product_node fs ≤ node_of_any fs
 product_some NoParts h = cc
 product_some (Part b NoParts) h = go (is_sum b)
@@ -49,7 +49,7 @@ product_some (Part b NoParts) h = go (is_sum b)
     go false = omega arith
 product_some (Part b (Part c cs)) h = omega arith
 
--- the nodes and the levels of a term, and of a bound
+-- the nodes of a term are those of its factors, and one if it is a product
 term_nodes : (fs : Parts) → can_end fs ≡ true → node_count (term_of fs) ≡ product_node fs + node_count_of_all fs
 term_nodes NoParts h = cc
 term_nodes (Part (Constant c) NoParts) h = refl
@@ -60,7 +60,7 @@ term_nodes (Part (MaximumOf bs) NoParts) h = omega arith
 term_nodes (Part (PowerOf c e) NoParts) h = omega arith
 term_nodes (Part b (Part c cs)) h = refl
 
--- the levels of a term
+-- the levels of a term are those of its factors, and one if it is a product
 term_depth : (fs : Parts) → can_end fs ≡ true → depth_of (term_of fs) ≡ product_node fs + maximum_depth fs
 term_depth NoParts h = cc
 term_depth (Part (Constant c) NoParts) h = refl
@@ -71,21 +71,21 @@ term_depth (Part (MaximumOf bs) NoParts) h = omega arith
 term_depth (Part (PowerOf c e) NoParts) h = omega arith
 term_depth (Part b (Part c cs)) h = refl
 
--- the nodes of a bound
+-- the nodes of a bound are those of its terms and factors, and one for each of sum and product
 pub bound_nodes : (ts fs : Parts) → can_end fs ≡ true → node_count (bound_of_parts ts fs) ≡ node_of_any ts + node_count_of_all ts + product_node fs + node_count_of_all fs
 bound_nodes NoParts fs h = omega (arith, term_nodes fs h)
 bound_nodes (Part c cs) fs h =
     ap node_count (as_one-with_part c cs (term_of fs))
     ∙ omega (arith, node_count-with_part (Part c cs) (term_of fs), term_nodes fs h)
 
--- the levels of a bound
+-- the levels of a bound are those of its terms and factors, and one for each of sum and product
 pub bound_depth : (ts fs : Parts) → can_end fs ≡ true → depth_of (bound_of_parts ts fs) ≡ node_of_any ts + max (maximum_depth ts) (product_node fs + maximum_depth fs)
 bound_depth NoParts fs h = omega (arith, term_depth fs h)
 bound_depth (Part c cs) fs h =
     ap depth_of (as_one-with_part c cs (term_of fs))
     ∙ omega (arith, depth-with_part (Part c cs) (term_of fs), term_depth fs h)
 
--- a sum has terms before the last
+-- a bound that is a sum has terms before its last term
 sum_terms : (ts fs : Parts) → can_end fs ≡ true → is_sum (bound_of_parts ts fs) ≡ true → node_of_any ts ≡ 1
 sum_terms (Part c cs) fs h s = refl
 sum_terms NoParts NoParts h s = cc
@@ -97,11 +97,11 @@ sum_terms NoParts (Part (MaximumOf bs) NoParts) h s = cc
 sum_terms NoParts (Part (PowerOf c e) NoParts) h s = cc
 sum_terms NoParts (Part b (Part c cs)) h s = cc
 
--- a term more makes a sum
+-- terms with one more count as a sum, unless its bracket counts it
 sum_more : (o : Outer) (ts : Parts) (t : Bound) → sum_node o (with_part ts t) ≡ cond (in_factor o) 0 1
 sum_more o ts t = ap (λ (n : ℕ). cond (in_factor o) 0 n) (any-more ts t)
 
--- a sum is one node at most
+-- a sum counts as one node at most
 sum_small : (o : Outer) (ts : Parts) → sum_node o ts ≤ cond (in_factor o) 0 1
 sum_small o ts = go (in_factor o)
   where
@@ -109,15 +109,15 @@ sum_small o ts = go (in_factor o)
     go true = omega arith
     go false = any-small ts
 
--- the maximum of two numbers that are at most a third
+-- the maximum of two numbers is at most any upper bound of both
 max_le : (a b c : ℕ) → a ≤ c → b ≤ c → max a b ≤ c
 max_le a b c h k = omega arith
 
--- a number that is at most the first is at most the maximum
+-- a number that is at most the first of two is at most their maximum
 le_left : (a b c : ℕ) → a ≤ b → a ≤ max b c
 le_left a b c h = omega arith
 
--- a number that is at most the second is at most the maximum
+-- a number that is at most the second of two is at most their maximum
 le_right : (a b c : ℕ) → a ≤ c → a ≤ max b c
 le_right a b c h = omega arith
 
@@ -142,7 +142,7 @@ close_levels LR A S P PB TA FA FB B K T N F I p f i =
     deeper : (x : ℕ) → x ≤ I → A + S + P + 1 + K + N + max F 0 ≤ A + S + PB + max FB 0
     deeper x h = omega (arith, p, f, i)
 
--- the levels of an argument are those of the maximum's arguments
+-- the levels of a finished argument are counted in those of the maximum's arguments
 argument_levels : (LR A S P TA FA B BB K T N F : ℕ) → BB ≡ max B (K + max T (N + F))
     → max (max LR (max (A + S + TA) (max (A + S + P + FA) (A + S + P + 1 + B)))) (max (A + S + P + 1 + K + T) (A + S + P + 1 + K + N + max F 0))
     ≤ max (max LR (max (A + S + TA) (max (A + S + P + FA) (A + S + P + 1 + BB)))) (max (A + S + P + 1 + 0 + 0) (A + S + P + 1 + 0 + 0 + max 0 0))
@@ -153,11 +153,11 @@ argument_levels LR A S P TA FA B BB K T N F b =
     (max_le (A + S + P + FA) (A + S + P + 1 + B) _ (le_right _ LR _ (le_right _ (A + S + TA) _ (le_left (A + S + P + FA) (A + S + P + FA) _ (omega arith)))) (le_right _ LR _ (le_right _ (A + S + TA) _ (le_right _ (A + S + P + FA) _ (omega (arith, b))))))))
     (max_le (A + S + P + 1 + K + T) (A + S + P + 1 + K + N + max F 0) _ (le_right _ LR _ (le_right _ (A + S + TA) _ (le_right _ (A + S + P + FA) _ (omega (arith, b))))) (le_right _ LR _ (le_right _ (A + S + TA) _ (le_right _ (A + S + P + FA) _ (omega (arith, b)))))))
 
--- of two numbers one is over what the greater of two others adds
+-- if x + B is at most u, and x + d at most v, then x plus the maximum of B and d is at most the maximum of u and v
 either : (x B BB u v d : ℕ) → BB ≡ max B d → x + B ≤ u → x + d ≤ v → x + BB ≤ max u v
 either x B BB u v d e h k = omega arith
 
--- the part around the next argument was there before
+-- the surroundings of the next argument were there before, or are counted in the tree
 argument_round : (LR A S P TA FA B BB K T N F G : ℕ) → BB ≡ max B (K + max T (N + F))
     → max LR (max (A + S + TA) (max (A + S + P + FA) (A + S + P + 1 + BB)))
     ≤ max (max (max LR (max (A + S + TA) (max (A + S + P + FA) (A + S + P + 1 + B)))) (max (A + S + P + 1 + K + T) (A + S + P + 1 + K + N + max F 0))) G
@@ -181,7 +181,7 @@ argument_round LR A S P TA FA B BB K T N F G b = le_left _ (max U V) G
     both : A + S + P + 1 + BB ≤ max U V
     both = either (A + S + P + 1) B BB U V (K + max T (N + F)) b old inner
 
--- each piece makes the tree so far grow
+-- with each accepted piece the tree so far doesn't shrink
 pub grows : (f g : Front) (piece : Piece) → Leads f piece g → Grows f g
 grows f g piece (of_variable o ts fs i) =
     let n = node_count-with_part fs (Input i) in let d = depth-with_part fs (Input i) in let p = product_node-with_part fs (Input i) refl in

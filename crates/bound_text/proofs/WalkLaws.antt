@@ -1,4 +1,5 @@
--- A text begins with pieces exactly if they lead somewhere, and they are all of a text exactly if it can end there.
+-- A text of some bound begins with pieces exactly if they lead to a state, and they are the whole text exactly if it
+-- can end there.
 use Rattle.std.proofs.Common.{◌≡◌, List, [], ◌∷◌, ◌++◌, Option, Some, None, refl, ap, sym, subst, ◌∙◌, append-nil}
 use Rattle.text_core.specs.model.Bounds.{Bound}
 use Rattle.bound_text.specs.Shapes.{IsShaped}
@@ -13,17 +14,17 @@ use Rattle.bound_text.proofs.SoundnessLaws.{step_sound, beginning_front, finish_
 use Rattle.bound_text.proofs.FrontReading.{front_read}
 use Rattle.bound_text.proofs.Completions.{finished, Completes, completes}
 
--- the part that has been read, where the pieces are all of it
+-- the pieces are all those that the state describes
 pub record Reads (pieces : List Piece) (f : Front) : Type 0 where
   pub is : IsFront f
   pub text : front_then f [] ≡ pieces
 
--- pieces lead to what has been read with them
+-- the second state is well-formed and describes the pieces of the first and then these
 pub record Read (f g : Front) (pieces : List Piece) : Type 0 where
   pub is_front : IsFront g
   pub text : (rest : List Piece) → front_then g rest ≡ front_then f (pieces ++ rest)
 
--- a walk has read its pieces
+-- the state that pieces lead to describes them
 walk_sound : (pieces : List Piece) (f g : Front) → IsFront f → walk (Some f) pieces ≡ Some g → Read f g pieces
 walk_sound [] f g is h = let e : f ≡ g = cc in subst (λ (k : Front). Read f k []) e (record { is_front = is; text = λ rest. refl })
 walk_sound (piece ∷ pieces) f g is h = go (step f piece) refl h (λ k is on. walk_sound pieces k g is on)
@@ -35,26 +36,26 @@ walk_sound (piece ∷ pieces) f g is h = go (step f piece) refl h (λ k is on. w
         let r = ih k x.is_front on in
         record { is_front = r.is_front; text = λ rest. r.text rest ∙ x.text (pieces ++ rest) }
 
--- the pieces of a walk from the beginning were read
+-- the state that pieces lead to from the beginning describes them
 pub walk_read : (pieces : List Piece) (f : Front) → walk (Some beginning) pieces ≡ Some f → Read beginning f pieces
 walk_read pieces f h = walk_sound pieces beginning f beginning_front h
 
--- pieces that were read are a walk
+-- the pieces that a state describes lead to it
 pub read_walk : (pieces : List Piece) (f : Front) → Reads pieces f → walk (Some beginning) pieces ≡ Some f
 read_walk pieces f r = ap (walk (Some beginning)) (sym r.text) ∙ front_read f r.is []
 
--- the state that a walk leads to has read its pieces
+-- the state that pieces lead to from the beginning describes exactly these
 pub walk_reads : (pieces : List Piece) (f : Front) → walk (Some beginning) pieces ≡ Some f → Reads pieces f
 walk_reads pieces f h = let r = walk_read pieces f h in record { is = r.is_front; text = r.text [] ∙ append-nil pieces }
 
--- where the pieces are the whole text of a bound
+-- if a text can end in the state that pieces lead to, they are the text of its bound
 pub walk_whole : (pieces : List Piece) (f : Front) (b : Bound) → walk (Some beginning) pieces ≡ Some f → finish f ≡ Some b → IsShaped b × (pieces_of b ≡ pieces)
 walk_whole pieces f b h e =
     let r = walk_read pieces f h in
     let s = finish_sound f b r.is_front e in
     (s.0, s.1 [] ∙ r.text [] ∙ append-nil pieces)
 
--- a whole text's pieces are a walk to a state that can end
+-- the pieces of a whole text lead to a state in which it can end
 pub whole_walk : (pieces : List Piece) (b : Bound) → IsShaped b → pieces_of b ≡ pieces → (walk (Some beginning) pieces ≡ stands Whole (terms_in b) (factors_in b)) × (finish (front_at Whole (terms_in b) (factors_in b) ItemRead) ≡ Some b)
 whole_walk pieces b shaped e = (ap (walk (Some beginning)) (sym e) ∙ walk-bound b shaped [], finish-bound b shaped)
 

@@ -15,7 +15,7 @@ tower_short : (n : ℕ) → HasShortBases (tower n)
 tower_short zero = tt
 tower_short (suc n) = (omega arith, tower_short n)
 
--- how large they are
+-- the nodes of sums of copies at the limit and one over it
 copies_nodes : (node_count (SumOf (copies 4095)) ≡ 4096) × (node_count (SumOf (copies 4096)) ≡ 4097)
 copies_nodes = (refl, refl)
 

@@ -1,4 +1,4 @@
--- Texts of parts with one more at the end.
+-- The texts of parts with one more at the end.
 use Rattle.std.proofs.Common.{◌≡◌, ℕ, zero, suc, ◌+◌, nat_eq, Bool, true, false, cond, List, ◌∷◌, ◌++◌, refl, ap, sym}
 use Rattle.std.proofs.Common.{◌∙◌, arith}
 use Rattle.std.proofs.lemmas.Bool.Decides.{nat_tests}
@@ -13,22 +13,22 @@ use Rattle.bound_text.specs.Steps.{with_copies}
 use Rattle.bound_text.proofs.RunLaws.{is_same_input}
 use Rattle.bound_text.proofs.JoiningLaws.{as_one-with_part}
 
--- parts with the separator before each, and one more
+-- parts with the separator before each, and one more at the end: its separator and text come last
 more-with_part : (s : List Piece) (bs : Parts) (b : Bound) (rest : List Piece) → more_then s (with_part bs b) rest ≡ s ++ each_then s bs (text_then b rest)
 more-with_part s NoParts b rest = refl
 more-with_part s (Part c cs) b rest = ap (λ (ps : List Piece). s ++ text_then c ps) (more-with_part s cs b rest)
 
--- joined parts and one more
+-- joined parts with one more at the end: the separator and the text of that one come last
 pub joined-with_part : (s : List Piece) (bs : Parts) (b : Bound) (rest : List Piece) → joined_then s (with_part bs b) rest ≡ each_then s bs (text_then b rest)
 joined-with_part s NoParts b rest = refl
 joined-with_part s (Part c cs) b rest = ap (text_then c) (more-with_part s cs b rest)
 
--- parts with the separator after each, and one more
+-- parts with the separator after each, and one more at the end: its text and separator come last
 pub each-with_part : (s : List Piece) (bs : Parts) (b : Bound) (rest : List Piece) → each_then s (with_part bs b) rest ≡ each_then s bs (text_then b (s ++ rest))
 each-with_part s NoParts b rest = refl
 each-with_part s (Part c cs) b rest = ap (λ (ps : List Piece). text_then c (s ++ ps)) (each-with_part s cs b rest)
 
--- `*` where something comes before, or among the factors
+-- `*` if a factor or a run comes before, and then the rest
 abbrev pub lead_then : Before → Parts → List Piece → List Piece
 lead_then Nothing fs rest = star_then fs rest
 lead_then (Run i n) fs rest = Times ∷ rest
@@ -44,19 +44,19 @@ other_factor w (ProductOf cs) bs rest h = refl
 other_factor w (MaximumOf cs) bs rest h = refl
 other_factor w (PowerOf c e) bs rest h = refl
 
--- without factors, the lead is the part before
+-- without factors, `*` is written as after the part before
 lead_none : (w : Before) (rest : List Piece) → lead_then w NoParts rest ≡ times_then w rest
 lead_none Nothing rest = refl
 lead_none (Run i n) rest = refl
 lead_none Other rest = refl
 
--- after a factor `*` leads
+-- after a factor `*` is written
 lead_some : (w : Before) (c : Bound) (cs : Parts) (rest : List Piece) → lead_then w (Part c cs) rest ≡ Times ∷ rest
 lead_some Nothing c cs rest = refl
 lead_some (Run i n) c cs rest = refl
 lead_some Other c cs rest = refl
 
--- a run that continues is a run
+-- a run that continues leads to the same text as a run
 lead_run : (w : Before) (j : ℕ) (cs : Parts) (rest : List Piece) → lead_then (run_with w j) cs rest ≡ Times ∷ rest
 lead_run Nothing j cs rest = refl
 lead_run (Run i n) j cs rest = go (nat_eq i j)
@@ -66,12 +66,12 @@ lead_run (Run i n) j cs rest = go (nat_eq i j)
     go false = refl
 lead_run Other j cs rest = refl
 
--- a variable is written as the test says
+-- a variable continues a run or begins one, as the test says
 input_factor : (w : Before) (j : ℕ) (bs : Parts) (rest : List Piece) (v : Bool) → goes_on w j ≡ v
     → factors_then w (Part (Input j) bs) rest ≡ cond v (factors_then (run_with w j) bs rest) (ended_then w (times_then w (factors_then (Run j 1) bs rest)))
 input_factor w j bs rest v e = ap (λ (u : Bool). cond u (factors_then (run_with w j) bs rest) (ended_then w (times_then w (factors_then (Run j 1) bs rest)))) e
 
--- one more factor that is no variable
+-- factors with one more that is no variable: `*` if there is a factor before, and its text
 pub factors-other : (w : Before) (fs : Parts) (b : Bound) (rest : List Piece) → is_variable b ≡ false
     → factors_then w (with_part fs b) rest ≡ factors_then w fs (lead_then w fs (bracketed_then (is_sum b) (text_then b) rest))
 factors-other w NoParts b rest h = other_factor w b NoParts rest h ∙ ap (ended_then w) (sym (lead_none w (bracketed_then (is_sum b) (text_then b) rest)))
@@ -96,17 +96,17 @@ factors-other w (Part c cs) b rest h =
     (factors-other Other cs b rest h ∙ ap (factors_then Other cs) (sym (lead_some w c cs (bracketed_then (is_sum b) (text_then b) rest))))
     ∙ sym (other_factor w c cs (lead_then w (Part c cs) (bracketed_then (is_sum b) (text_then b) rest)) refl)
 
--- copies after a factor, and copies alone
+-- copies put after a factor and others are copies put after the others
 pub copies-part : (n i : ℕ) (c : Bound) (cs : Parts) → with_copies n i (Part c cs) ≡ Part c (with_copies n i cs)
 copies-part zero i c cs = refl
 copies-part (suc n) i c cs = ap (λ (gs : Parts). with_part gs (Input i)) (copies-part n i c cs)
 
--- copies alone
+-- one or more copies alone are a factor and the other copies
 pub copies-alone : (n i : ℕ) → with_copies (suc n) i NoParts ≡ Part (Input i) (with_copies n i NoParts)
 copies-alone zero i = refl
 copies-alone (suc n) i = ap (λ (gs : Parts). with_part gs (Input i)) (copies-alone n i)
 
--- copies continue a run
+-- copies added after a run of the same variable continue it
 run_on : (n i m : ℕ) (rest : List Piece) → factors_then (Run i m) (with_copies n i NoParts) rest ≡ run_then i (m + n) rest
 run_on zero i m rest = ap (λ (k : ℕ). run_then i k rest) (let e : m ≡ m + zero = omega arith in e)
 run_on (suc n) i m rest =
@@ -116,17 +116,17 @@ run_on (suc n) i m rest =
     ∙ run_on n i (suc m) rest
     ∙ ap (λ (k : ℕ). run_then i k rest) (let e : suc m + n ≡ m + suc n = omega arith in e)
 
--- whether what comes before, or the last factor, is variable i
+-- whether the factors, or the part before them if they are none, end with variable i
 abbrev pub ends_in : Before → Parts → ℕ → Bool
 ends_in w NoParts i = goes_on w i
 ends_in w (Part b bs) i = is_input i (last (Part b bs))
 
--- after variable j, it is where j is i
+-- if factors that begin with variable j don't end with variable i, neither do the others after a run of j
 pub ends_run : (w : Before) (j i : ℕ) (cs : Parts) → ends_in w (Part (Input j) cs) i ≡ false → ends_in (Run j 1) cs i ≡ false
 ends_run w j i NoParts h = h
 ends_run w j i (Part c cs) h = h
 
--- after the same variable the run continues
+-- if factors whose first one continues the run before don't end with i, neither do the others after the longer run
 pub ends_same : (w : Before) (j i : ℕ) (cs : Parts) → goes_on w j ≡ true → ends_in w (Part (Input j) cs) i ≡ false → ends_in (run_with w j) cs i ≡ false
 ends_same Nothing j i cs e h = cc
 ends_same (Run k n) j i NoParts e h =
@@ -134,12 +134,12 @@ ends_same (Run k n) j i NoParts e h =
 ends_same (Run k n) j i (Part c cs) e h = h
 ends_same Other j i cs e h = cc
 
--- after a factor that is no variable, it isn't
+-- if the factors don't end with i, neither do those without the first, after another factor
 pub ends_other : (w : Before) (c : Bound) (cs : Parts) (i : ℕ) → ends_in w (Part c cs) i ≡ false → ends_in Other cs i ≡ false
 ends_other w c NoParts i h = refl
 ends_other w c (Part d ds) i h = h
 
--- a run after the factors
+-- factors with a run after them: the text of the factors, `*`, and the text of the run
 pub factors-run : (w : Before) (fs : Parts) (n i : ℕ) (rest : List Piece) → ends_in w fs i ≡ false
     → factors_then w (with_copies (suc n) i fs) rest ≡ factors_then w fs (lead_then w fs (run_then i (suc n) rest))
 factors-run w NoParts n i rest h =

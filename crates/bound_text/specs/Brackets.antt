@@ -1,4 +1,4 @@
--- Open brackets of the code as plain data, and the counts around a bound in them.
+-- The code's open brackets as plain data, and the counts around a bound in them.
 use Rattle.std.specs.Prelude.{◌≡◌, ◌^◌, ◌-◌, min, List, [], ◌∷◌, ⊤}
 use Rattle.std.proofs.Props.{props}
 use Rattle.text_core.specs.model.Bounds.{Parts}
@@ -36,24 +36,24 @@ pub record IsRound (outer : Outer) (round : Round) : Type 0 where
   pub levels : round.levels ≡ min (fronts.levels_above outer) (2 ^ 64 - 1)
   pub in_factor : round.in_factor ≡ fronts.in_factor outer
 
--- each open bracket, inside the surroundings of them all, keeps the counts around a bound in it
+-- each open bracket stores the counts around a bound in it, where all of the brackets are inside these surroundings
 abbrev pub AreRoundsFrom : Outer → List Opened → Type 0
 AreRoundsFrom outer [] = ⊤
 AreRoundsFrom outer (x ∷ xs) =
     IsRound (Inside (bracket_of x.bracket) (parts_in x.terms) (parts_in x.factors) outer) x.within
     × AreRoundsFrom (Inside (bracket_of x.bracket) (parts_in x.terms) (parts_in x.factors) outer) xs
 
--- all proofs of this are equal
+-- the property has at most one proof
 AreRoundsFrom-prop : (outer : Outer) (xs : List Opened) → IsProp (AreRoundsFrom outer xs)
 AreRoundsFrom-prop outer [] = hlevel props
 AreRoundsFrom-prop outer (x ∷ xs) =
     let rest = AreRoundsFrom-prop (Inside (bracket_of x.bracket) (parts_in x.terms) (parts_in x.factors) outer) xs in
     hlevel (props, rest)
 
--- the rounds of the brackets of a whole text
+-- each open bracket of a whole text stores the counts around a bound in it
 abbrev pub AreRounds : List Opened → Type 0
 AreRounds xs = AreRoundsFrom Whole xs
 
--- all proofs of this are equal
+-- the property has at most one proof
 pub AreRounds-prop : (xs : List Opened) → IsProp (AreRounds xs)
 AreRounds-prop xs = AreRoundsFrom-prop Whole xs

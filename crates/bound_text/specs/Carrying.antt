@@ -18,12 +18,12 @@ use Rattle.bound_expr.specs.Limits.{too_large_base, node_limit}
 abbrev pub copies_within_limit : ℕ → ℕ → ℕ
 copies_within_limit nodes n = min n (if nat_lt node_limit nodes then 2 else node_limit + 1)
 
--- the piece that is carried, after this many nodes
+-- the piece that is carried in place of this piece, after this many nodes
 abbrev pub kept_at : Position → ℕ → Piece → Piece
 kept_at (RunCaret i) nodes (Number n) = Number (copies_within_limit nodes n)
 kept_at position nodes piece = piece
 
--- the state after a piece, but that a base over 2^64-1 is carried as 2^64-1, and of a run only this many copies
+-- the state after a piece, except that a base over 2^64-1 is carried as 2^64-1, and of a run only this many copies
 abbrev pub limited_step : Front → Piece → Option Front
 limited_step f piece =
     if has_large_base f piece then Some (front_at f.outer f.terms (init f.factors) (PowerCaret (too_large_base - 1)))
@@ -34,36 +34,36 @@ abbrev pub first_of : (Kind → Bool) → List Kind → Option Kind
 first_of against [] = None
 first_of against (kind ∷ kinds) = if against kind then Some kind else first_of against kinds
 
--- the kinds that are known before a piece is taken
+-- the kinds of faults that are found before a piece is taken
 abbrev pub early_kinds : List Kind
 early_kinds = Syntax ∷ NumberTooLarge ∷ UnknownName ∷ []
 
--- `A^` at the beginning, and `B^` after this many times `A`
+-- the state after `A^`, and the state after k copies of `A` and then `B^`
 abbrev pub begun_run : Front
 begun_run = front_at Whole NoParts NoParts (RunCaret 0)
 
 abbrev pub behind_run : ℕ → Front
 behind_run k = front_at Whole NoParts (with_copies k 0 NoParts) (RunCaret 1)
 
--- a run of n is carried as one of `kept`, and whether there are too many nodes then is the same for both
+-- a run of n copies is carried as one of `kept` copies, and `many` says for both whether there are too many nodes then
 pub record IsCarried (f : Front) (n kept : ℕ) (many : Bool) : Type 0 where
   pub copies : limited_step f (Number n) ≡ step f (Number kept)
   pub written : has_many (step f (Number n)) ≡ many
   pub worked : has_many (limited_step f (Number n)) ≡ many
 
--- how runs are carried, as worked out by hand
+-- worked values of how runs are carried
 pub record RunsAreWorkedOut : Type 0 where
-  -- with its product `A^4095` has as many nodes as a bound may have, and `A^4096` one more
+  -- `A^4095` with its product has as many nodes as a bound may have, and `A^4096` one more
   pub largest : IsCarried begun_run 4095 4095 false
   pub one_more : IsCarried begun_run 4096 4096 true
-  -- the longest that is carried whole, and one that isn't
+  -- a run of 4,097 copies is the longest that is carried whole
   pub longest : IsCarried begun_run 4097 4097 true
   pub longer : IsCarried begun_run 5000 4097 true
-  -- after `A^4093` a `B^2` is within the limit; after `A^4094` the `B^` is, and no run after it
+  -- after `A^4093` a `B^2` is within the limit; after `A^4094` the `B^` is, but no run after it
   pub within : IsCarried (behind_run 4093) 2 2 false
   pub over : IsCarried (behind_run 4094) 2 2 true
   pub longer_over : IsCarried (behind_run 4094) 5000 4097 true
-  -- after `A^4095` the `B^` is too large already, and after what is carried of `A^5000`
+  -- after `A^4095` the `B^` is too large already, and so it is after the copies that are carried of `A^5000`
   pub behind_large : IsCarried (behind_run 4095) 5000 2 true
   pub behind_carried : IsCarried (behind_run 4097) 5000 2 true
 

@@ -13,7 +13,7 @@ pub data PieceResult : Type 0 where
   Refused : Kind → PieceResult
   Reached : Front → PieceResult
 
--- whether what has been read is within the limits
+-- what has been read is taken if it is within the limits, else refused
 abbrev pub sized : Front → PieceResult
 sized f =
     if nat_lt depth_limit (inner_levels f) then Refused TooDeep

@@ -13,8 +13,8 @@ use Rattle.bound_text.specs.Inside.{outer_marks, level_behind, deep_among}
 use Rattle.bound_text.specs.declared.state.Position.{Position}
 use Rattle.bound_text.specs.declared.state.Position.TheVariants as at
 
--- the number of the piece with which the first part begins that is deeper than this many levels: every text that begins
--- with what has been read is refused at that piece as too deep, and none is where there is no such part
+-- the index of the first piece with which a part begins that is deeper than this many levels: every text that begins
+-- with the pieces read so far is refused at that piece as too deep; if there is none, no text is
 abbrev pub FindsDeep : ℕ → Front → Option ℕ → Type 0
 FindsDeep most f None = (ts : List (Token Piece)) → deep_among most (front_marks f) ts ≡ []
 FindsDeep most f (Some i) =
@@ -27,21 +27,22 @@ flags most [] = []
 flags most (None ∷ marks) = false ∷ flags most marks
 flags most (Some level ∷ marks) = nat_lt most level ∷ flags most marks
 
--- after the old flags those of a text at a level were put, whatever comes then, where `room` is how many levels parts
--- at that level may still have
+-- the flags of a text at a level were appended to the old flags, whatever comes after it, where `room` is how many
+-- levels parts at that level may still have
 pub record Flags (room : ℕ) (old new : List Bool) (text left : ℕ → Marks → Marks) : Type 0 where
   pub each : (most level : ℕ) (rest : Marks) → room ≡ suc most - level
       → new ++ flags most (left level rest) ≡ old ++ flags most (text level rest)
 
--- the flags of all marks, where no marks are left
+-- the flags of a whole text were appended, with no further marks after it
 abbrev pub FlagsAll : ℕ → List Bool → List Bool → (ℕ → Marks → Marks) → Type 0
 FlagsAll room old new text = Flags room old new text (λ level rest. rest)
 
--- pieces with which no part begins, or whose parts each have their own level
+-- the flags of pieces were appended that don't depend on the level: no part begins with them, or each part has its own
+-- level
 pub record Passes (old new : List Bool) (text : Marks → Marks) : Type 0 where
   pub each : (most : ℕ) (rest : Marks) → new ++ flags most rest ≡ old ++ flags most (text rest)
 
--- after the old flags those of a factor were put, except for the run that it ends with
+-- the flags of a factor were appended, except for those of the run that it ends with
 pub record FlagsFactor (room : ℕ) (old new : List Bool) (before behind : Before) (b : Bound) : Type 0 where
   pub each : (bs : Parts) → Flags room old new (λ level. factors_marks level before (Part b bs))
       (λ level. factors_marks level behind bs)
@@ -53,8 +54,8 @@ parts_marks above sum product ts fs rest =
     each_marks plus_between (level_behind above sum 0) ts
     (factors_marks (level_behind above sum product) Nothing fs rest)
 
--- after the old flags those of terms and factors were put, where `room` is how many levels a part beside them may
--- have, and `inner` how many a factor may have
+-- the flags of terms and factors were appended, where `room` is how many levels a part beside them may have, and
+-- `inner` how many a factor may have
 pub record FlagsParts (room sum product inner : ℕ) (old new : List Bool) (ts fs : Parts) : Type 0 where
   pub each : (most above : ℕ) (rest : Marks) → room ≡ most - above
       → new ++ flags most rest ≡ old ++ flags most (parts_marks above sum product ts fs rest)
@@ -67,8 +68,8 @@ opened_marks outer bracket ts fs rest =
     (star_marks fs (bracket_marks (level_behind (levels_above outer) (sum_node outer ts)
     (product_node_round bracket fs)) bracket rest))
 
--- after the old flags those of an open bracket were put with the terms and the factors before it, where `room` is how
--- many levels the bound may have that they are in, and `within` how many a bound in the bracket may have
+-- the flags of an open bracket were appended, with those of the terms and the factors before it, where `room` is how
+-- many levels the bound around it may have, and `within` how many a bound in the bracket may have
 pub record FlagsOpened (room : ℕ) (factor : Bool) (within : ℕ) (old new : List Bool) (bracket : Bracket)
     (ts fs : Parts) : Type 0 where
   pub each : (most : ℕ) (outer : Outer) (rest : Marks) → room ≡ most - levels_above outer → factor ≡ in_factor outer
@@ -76,8 +77,7 @@ pub record FlagsOpened (room : ℕ) (factor : Bool) (within : ℕ) (old new : Li
   pub levels : (most : ℕ) (outer : Outer) → room ≡ most - levels_above outer → factor ≡ in_factor outer
       → within ≡ most - levels_above (Inside bracket ts fs outer)
 
--- the flags of the innermost bound's surroundings were appended to the old ones, and the bound may have this many
--- levels
+-- the flags of all pieces around the innermost bound were appended, and the bound may have `room` levels
 pub record FlagsOuter (most room : ℕ) (old new : List Bool) (outer : Outer) : Type 0 where
   pub each : (rest : Marks) → new ++ flags most rest ≡ old ++ flags most (outer_marks outer rest)
   pub levels : room ≡ most - levels_above outer

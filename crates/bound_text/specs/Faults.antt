@@ -26,8 +26,8 @@ pub record TextsHaveNoFault : Type 0 where
   pub each : (names : List Name) → AreNames names → (bytes : List ℕ) (b : plain.Bound) (x : Fault Kind)
       → IsTextWithin names bytes b → IsFirst names bytes x → ⊥
 
--- a state is written as what has been read: pieces lead to it exactly if they are its text, which a text of a bound
--- can begin with; and an item begins there exactly if a base with its `^` can follow
+-- a state describes exactly the pieces read so far: pieces lead to it exactly if they are its text, with which a text
+-- of a bound can begin; and an item begins there exactly if a base with its `^` can follow
 pub record FrontsAreRead : Type 0 where
   pub read : (n : ℕ) (done : List Piece) (f : Front) → reached (bounds n) done ≡ Some f → IsFront f
       × (front_then f [] ≡ onto done [])

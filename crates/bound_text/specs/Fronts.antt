@@ -15,7 +15,7 @@ pub data Bracket : Type 0 where
   Exponent : ℕ → Bracket
   Factor : Bracket
 
--- the part around the innermost bound: nothing, or a bracket after these terms of a sum and these factors of the
+-- the surroundings of the innermost bound: nothing, or a bracket after these terms of a sum and these factors of the
 -- product that is the next term
 pub data Outer : Type 0 where
   Whole : Outer
@@ -56,13 +56,13 @@ bracket_then (Arguments bs) rest = Maximum ∷ each_then comma_between bs rest
 bracket_then (Exponent c) rest = Number c ∷ Caret ∷ Open ∷ rest
 bracket_then Factor rest = Open ∷ rest
 
--- the pieces around a bound, and then the rest
+-- the pieces before the innermost bound, and then the rest
 abbrev pub outer_then : Outer → List Piece → List Piece
 outer_then Whole rest = rest
 outer_then (Inside bracket ts fs outer) rest =
     outer_then outer (each_then plus_between ts (factors_then Nothing fs (star_then fs (bracket_then bracket rest))))
 
--- the part that was read last, and then the rest
+-- the piece or item that was read last, and then the rest
 abbrev pub position_then : Position → Parts → List Piece → List Piece
 position_then Begins fs rest = star_then fs rest
 position_then (RunCaret i) fs rest = star_then fs (Variable i ∷ Caret ∷ rest)
@@ -72,7 +72,7 @@ position_then BlankRead fs rest = Blank ∷ rest
 position_then PlusRead fs rest = Blank ∷ Plus ∷ rest
 position_then CommaRead fs rest = Comma ∷ rest
 
--- the part that has been read, and then the rest
+-- all pieces read so far, and then the rest
 abbrev pub front_then : Front → List Piece → List Piece
 front_then f rest =
     outer_then f.outer (each_then plus_between f.terms
@@ -85,34 +85,36 @@ in_factor (Inside (Arguments bs) ts fs outer) = false
 in_factor (Inside (Exponent c) ts fs outer) = false
 in_factor (Inside Factor ts fs outer) = true
 
--- one node where there are parts
+-- 1 if there are parts, else 0
 abbrev pub node_of_any : Parts → ℕ
 node_of_any NoParts = 0
 node_of_any (Part b bs) = 1
 
--- a sum counts as a node from its first ` + ` on, or from the bracket before it on, which counts itself
+-- 1 if the innermost bound counts as a sum: from its first ` + ` on, unless it is a sum in brackets, whose bracket
+-- counts it
 abbrev pub sum_node : Outer → Parts → ℕ
 sum_node outer ts = if in_factor outer then 0 else node_of_any ts
 
--- a product counts as a node once a `*` or the number of a run was read, or the bracket that begins it
+-- 1 if factors count as a product: once a `*` or the number of a run was read, or the bracket of a sum, which is always
+-- a factor
 abbrev pub product_node : Parts → ℕ
 product_node NoParts = 0
 product_node (Part b NoParts) = if is_sum b then 1 else 0
 product_node (Part b (Part c bs)) = 1
 
--- the product round a bracket; a sum in brackets is always the factor of one
+-- 1 if the bracket is in a product; a sum in brackets always is
 abbrev pub product_node_round : Bracket → Parts → ℕ
 product_node_round (Arguments bs) fs = node_of_any fs
 product_node_round (Exponent c) fs = node_of_any fs
 product_node_round Factor fs = 1
 
--- the nodes of the node that a bracket belongs to
+-- the number of nodes of the node that a bracket belongs to
 abbrev pub bracket_nodes : Bracket → ℕ
 bracket_nodes (Arguments bs) = 1 + node_count_of_all bs
 bracket_nodes (Exponent c) = 1
 bracket_nodes Factor = 1
 
--- the levels of the arguments before
+-- the levels of a maximum's arguments before the open one
 abbrev pub bracket_depth : Bracket → ℕ
 bracket_depth (Arguments bs) = maximum_depth bs
 bracket_depth (Exponent c) = 0
@@ -138,7 +140,7 @@ levels_round (Inside bracket ts fs outer) =
     (max (levels_above outer + sum_node outer ts + product_node_round bracket fs + maximum_depth fs)
     (levels_above outer + sum_node outer ts + product_node_round bracket fs + 1 + bracket_depth bracket)))
 
--- the sum's node, the product's, and the one of an item that has begun, by the position
+-- the nodes of the sum, of the product, and of an item that has begun but is no factor yet, by the position
 abbrev pub sum_at : Position → Outer → Parts → ℕ
 sum_at BlankRead outer ts = if in_factor outer then 0 else 1
 sum_at PlusRead outer ts = if in_factor outer then 0 else 1
@@ -190,7 +192,7 @@ abbrev pub is_input : ℕ → Option Bound → Bool
 is_input i (Some (Input j)) = j == i
 is_input i _ = false
 
--- a single part by itself, and others as one
+-- a single part by itself, or the node of all the parts
 abbrev pub as_one : (Parts → Bound) → Parts → Bound
 as_one whole NoParts = whole NoParts
 as_one whole (Part b NoParts) = b
@@ -204,13 +206,13 @@ term_of fs = as_one ProductOf fs
 abbrev pub bound_of_parts : Parts → Parts → Bound
 bound_of_parts ts fs = as_one SumOf (with_part ts (term_of fs))
 
--- the factor, if there is only one
+-- the only part, if there is one alone
 abbrev pub lone : Parts → Option Bound
 lone NoParts = None
 lone (Part b NoParts) = Some b
 lone (Part b (Part c bs)) = None
 
--- whether there is one that passes a test
+-- whether there is a bound, and it passes a test
 abbrev pub passes : (Bound → Bool) → Option Bound → Bool
 passes test None = false
 passes test (Some b) = test b
@@ -219,7 +221,7 @@ passes test (Some b) = test b
 abbrev pub can_end : Parts → Bool
 can_end fs = not (is_empty fs) && not (passes is_sum (lone fs))
 
--- terms of a sum, factors of a product, arguments of a maximum
+-- conditions on the terms of a sum, the factors of a product, and the arguments of a maximum that have been read
 pub record AreTerms (ts : Parts) : Type 0 where
   pub no_sums : EachPart IsNoSum ts
   pub shaped : AreShaped ts
@@ -263,7 +265,7 @@ IsPosition BlankRead outer ts fs = IsTrue (can_end fs)
 IsPosition PlusRead outer ts fs = IsTrue (can_end fs)
 IsPosition CommaRead outer ts fs = IsTrue (can_be_argument outer ts fs)
 
--- a text as bounds are spelled can begin with the part that has been read
+-- the pieces read so far are the beginning of the text of some bound
 pub record IsFront (f : Front) : Type 0 where
   pub outer : IsOuter f.outer
   pub terms : AreTerms f.terms

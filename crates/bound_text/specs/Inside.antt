@@ -26,19 +26,19 @@ abbrev pub unmarked : List Piece → Marks → Marks
 unmarked [] rest = rest
 unmarked (piece ∷ separator) rest = None ∷ unmarked separator rest
 
--- a run of equal variables: the first one is marked, and not what says how many there are
+-- a run of equal variables: the variable is marked, and not the `^` and the number of copies
 abbrev pub ended_marks : ℕ → Before → Marks → Marks
 ended_marks level Nothing rest = rest
 ended_marks level (Run i n) rest = Some level ∷ (if nat_lt 1 n then None ∷ None ∷ rest else rest)
 ended_marks level Other rest = rest
 
--- the `*` after factors
+-- the marks of the `*` after factors, if there are any
 abbrev pub times_marks : Before → Marks → Marks
 times_marks Nothing rest = rest
 times_marks (Run i n) rest = None ∷ rest
 times_marks Other rest = None ∷ rest
 
--- brackets round a factor that is a sum, and round an exponent that is no leaf
+-- the marks of brackets round a factor that is a sum, and round an exponent that is no leaf
 abbrev pub factor_marks : Bool → ℕ → (Marks → Marks) → Marks → Marks
 factor_marks true level marks rest = Some level ∷ marks (None ∷ rest)
 factor_marks false level marks rest = marks rest
@@ -84,23 +84,22 @@ each_marks separator level NoParts rest = rest
 each_marks separator level (Part b bs) rest =
     bound_marks level b (unmarked separator (each_marks separator level bs rest))
 
--- the `*` after factors that aren't done
+-- the mark of the `*` after factors after which no item has begun
 abbrev pub star_marks : Parts → Marks → Marks
 star_marks NoParts rest = rest
 star_marks (Part b bs) rest = None ∷ rest
 
--- an open bracket, what it belongs to at a level
+-- the marks of an open bracket, where its node is at this level
 abbrev pub bracket_marks : ℕ → Bracket → Marks → Marks
 bracket_marks level (Arguments bs) rest = Some level ∷ each_marks comma_between (suc level) bs rest
 bracket_marks level (Exponent c) rest = Some level ∷ None ∷ None ∷ rest
 bracket_marks level Factor rest = Some level ∷ rest
 
--- the level of terms, and of the factors of the last one, after this many levels above with a sum's node and a
--- product's
+-- the level of the parts of the innermost bound: the levels above it, and one each for a sum's node and a product's
 abbrev pub level_behind : ℕ → ℕ → ℕ → ℕ
 level_behind above sum product = suc (above + sum + product)
 
--- the marks of the part around the innermost bound
+-- the marks of the pieces before the innermost bound
 abbrev pub outer_marks : Outer → Marks → Marks
 outer_marks Whole rest = rest
 outer_marks (Inside bracket ts fs outer) rest =
@@ -110,7 +109,7 @@ outer_marks (Inside bracket ts fs outer) rest =
     (star_marks fs (bracket_marks (level_behind (levels_above outer) (sum_node outer ts)
     (product_node_round bracket fs)) bracket rest))))
 
--- the marks of the part that was read last, with an item at a level if one has begun
+-- the marks of the piece or item that was read last, with the item at this level if one has begun
 abbrev pub position_marks : ℕ → Position → Parts → Marks
 position_marks level Begins fs = star_marks fs []
 position_marks level (RunCaret i) fs = star_marks fs (Some level ∷ None ∷ [])
@@ -120,7 +119,7 @@ position_marks level BlankRead fs = None ∷ []
 position_marks level PlusRead fs = None ∷ None ∷ []
 position_marks level CommaRead fs = None ∷ []
 
--- the marks of the pieces read so far, by the tree so far
+-- the marks of all pieces read so far
 abbrev pub front_marks : Front → Marks
 front_marks f =
     outer_marks f.outer
@@ -130,7 +129,7 @@ front_marks f =
     (position_marks (level_behind (levels_above f.outer) (sum_at f.position f.outer f.terms)
     (product_at f.position f.factors)) f.position f.factors)))
 
--- the first of the tokens with which a part begins that is deeper than this many levels is refused there
+-- the faults with `TooDeep` first, at the token with which the first part begins that is deeper than this many levels
 abbrev pub deep_at : ℕ → Option ℕ → ℕ → List (Fault Kind) → List (Fault Kind)
 deep_at most None at others = others
 deep_at most (Some level) at others = if nat_lt most level then record { kind = TooDeep; at = at } ∷ [] else others

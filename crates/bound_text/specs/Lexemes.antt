@@ -1,4 +1,4 @@
--- Pieces of the code as plain data.
+-- Lexemes of the code as plain data.
 use Rattle.text_core.specs.Tokens as plain
 use Rattle.bound_text.specs.Pieces as pieces
 use Rattle.bound_text.specs.Lexing.{lexeme_with}

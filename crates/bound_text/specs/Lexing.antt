@@ -14,8 +14,8 @@ use Rattle.bound_text.specs.Pieces.{Wrong}
 abbrev pub lexeme_with : Piece → ℕ → Lexeme Piece
 lexeme_with piece len = record { piece = piece; len = len }
 
--- the piece of a name with these bytes after it: before an opening bracket only `max` is one, and elsewhere it is the
--- variable of that name; a name that isn't listed counts as the variable after the last one
+-- the piece of a name with these bytes after it: before an opening bracket only `max` is a piece, and elsewhere the
+-- name is the variable of that name; a name that isn't listed counts as the variable after the last one
 abbrev pub word_at : List Name → Name → List ℕ → Lexeme Piece
 word_at names name behind =
     if begins_with 40 behind
@@ -27,7 +27,7 @@ abbrev pub number_at : List ℕ → Lexeme Piece
 number_at digits =
     lexeme_with (if has_leading_zero digits then Wrong else Number (value_up_to cap digits)) (length digits)
 
--- the piece of any other byte
+-- the piece of a byte that begins neither a name nor a number
 abbrev pub mark_at : ℕ → Piece
 mark_at b =
     if b == 40 then Open
@@ -39,13 +39,13 @@ mark_at b =
     else if b == 44 then Comma
     else Wrong
 
--- the piece that begins with the first byte; the longest name and the longest row of digits is taken
+-- the lexeme that begins with the byte b; it takes the longest name, or the longest row of digits
 abbrev pub lexeme_at : List Name → ℕ → List ℕ → Lexeme Piece
 lexeme_at names b bytes =
     if begins_name b then word_at names (b ∷ prefix continues_name bytes) (rest continues_name bytes)
     else if is_ascii_digit b then number_at (b ∷ prefix is_ascii_digit bytes)
     else lexeme_with (mark_at b) 1
 
--- the tokens of a text; each byte is one of some token's
+-- the tokens of a text; each byte belongs to one token
 abbrev pub tokens : List Name → List ℕ → List (Token Piece)
 tokens names bytes = tokens_of (each_piece (lexeme_at names)) bytes

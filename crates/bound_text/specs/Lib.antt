@@ -17,7 +17,7 @@ pub mod Carrying
 -- laws, and values that were worked out by hand
 pub mod WorkedInside
 pub mod WorkedLimits
--- the machinery of the functions inside and of the proofs
+-- further definitions, for internal contracts and proofs
 pub mod Writing
 pub mod Kinds
 pub mod Brackets

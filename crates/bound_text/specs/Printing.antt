@@ -1,4 +1,4 @@
--- The text that was appended to a text.
+-- What was appended to a text by the functions that print.
 use Rattle.std.specs.Prelude.{◌≡◌, ℕ, ◌<◌, List, ◌++◌, ⊤}
 use Rattle.text_core.specs.model.Programs.{Name}
 use Rattle.text_core.specs.model.Bounds.{Bound, Parts, Part}
@@ -48,17 +48,16 @@ abbrev pub IsListedRun : ℕ → Before → Type 0
 IsListedRun n (befores.Run i k) = i < n
 IsListedRun n _ = ⊤
 
--- from the old bytes to the new ones that was written which, with the pieces of `left` after it, are the pieces of
--- `text`
+-- bytes were appended to `old`, which made it `new`; with the pieces of `left` after them they are the pieces of `text`
 pub record Writes (names : List Name) (old new : List ℕ)
     (text left : List plain.Piece → List plain.Piece) : Type 0 where
   pub each : (rest : List plain.Piece) → new ++ bytes_of names (left rest) ≡ old ++ bytes_of names (text rest)
 
--- after the old bytes the text was written
+-- the whole text was appended to the old bytes
 abbrev pub WritesAll : List Name → List ℕ → List ℕ → (List plain.Piece → List plain.Piece) → Type 0
 WritesAll names old new text = Writes names old new text (λ rest. rest)
 
--- a factor was written after what comes before it, except for the run that it ends with
+-- a factor was appended after what comes before it, except for the run that it ends with
 pub record WritesFactor (names : List Name) (old new : List ℕ) (before behind : writing.Before)
     (b : Bound) : Type 0 where
   pub each : (bs : Parts) (rest : List plain.Piece)

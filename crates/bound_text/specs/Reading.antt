@@ -31,8 +31,8 @@ abbrev pub has_many : Option Front → Bool
 has_many None = false
 has_many (Some f) = nat_lt node_limit (nodes_of f)
 
--- the faults of the next piece, where n names are listed: a base under 2; a number over 2^127-1, or a base over 2^64-1;
--- a name that isn't listed; more than 200 levels with it; more than 4,096 nodes with it
+-- the faults of the next piece by kind, where n names are listed: a base under 2; a number over 2^127-1, or a base over
+-- 2^64-1; a name that isn't listed; more than 200 levels with it; more than 4,096 nodes with it
 abbrev pub stands : ℕ → Front → Piece → List Piece → Kind → Bool
 stands n f piece behind Syntax = is_base f behind && is_small_base piece
 stands n f piece behind NumberTooLarge = is_large piece || (is_base f behind && is_large_base piece)
@@ -40,7 +40,7 @@ stands n f piece behind UnknownName = is_unlisted n piece
 stands n f piece behind TooDeep = is_deep (step f piece)
 stands n f piece behind TooLarge = has_many (step f piece)
 
--- a state shows faults at the first byte of the next piece
+-- the faults that a state has at the first byte of the next piece
 abbrev pub shown : ℕ → Front → List (Token Piece) → List (Fault Kind)
 shown n f [] = []
 shown n f (t ∷ rest) = faults_at t.at (stands n f t.piece (pieces rest)) kinds

@@ -1,4 +1,4 @@
--- The shapes of bounds that have different texts.
+-- The shapes of bounds that texts spell.
 use Rattle.std.specs.Prelude.{◌≤◌, Bool, true, false, ⊤}
 use Rattle.text_core.specs.model.Bounds.{Bound, Constant, Input, SumOf, ProductOf, MaximumOf, PowerOf, Parts, NoParts}
 use Rattle.text_core.specs.model.Bounds.{Part}
@@ -17,7 +17,7 @@ abbrev pub is_empty : Parts → Bool
 is_empty NoParts = true
 is_empty (Part b bs) = false
 
--- a bound as texts spell them: tidy except for the constants, which may be any
+-- a bound that a text spells: tidy, except that its constants may be any
 abbrev mutual
   pub IsShaped : Bound → Type 0
   IsShaped (Constant c) = ⊤

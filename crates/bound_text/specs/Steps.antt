@@ -14,23 +14,23 @@ abbrev pub with_copies : ℕ → ℕ → Parts → Parts
 with_copies zero i fs = fs
 with_copies (suc n) i fs = with_part (with_copies n i fs) (Input i)
 
--- the state with these parts
+-- the state with these surroundings, terms, factors and position
 abbrev pub front_at : Outer → Parts → Parts → Position → Front
 front_at outer ts fs position = record { outer = outer; terms = ts; factors = fs; position = position }
 
--- nothing has been read
+-- the state in which nothing has been read
 abbrev pub beginning : Front
 beginning = front_at Whole NoParts NoParts Begins
 
--- inside a bracket that begins an item
+-- the state inside a bracket that begins an item
 abbrev pub inside : Bracket → Outer → Parts → Parts → Front
 inside bracket outer ts fs = front_at (Inside bracket ts fs outer) NoParts NoParts Begins
 
--- after one more factor
+-- the state after one more factor
 abbrev pub behind_factor : Outer → Parts → Parts → Bound → Front
 behind_factor outer ts fs b = front_at outer ts (with_part fs b) ItemRead
 
--- an item begins
+-- the state after a piece with which an item begins
 abbrev pub begin_item : Outer → Parts → Parts → Piece → Option Front
 begin_item outer ts fs (Variable i) = when (not (is_input i (last fs))) (behind_factor outer ts fs (Input i))
 begin_item outer ts fs (Number c) = Some (behind_factor outer ts fs (Constant c))
@@ -38,19 +38,19 @@ begin_item outer ts fs Maximum = Some (inside (Arguments NoParts) outer ts fs)
 begin_item outer ts fs Open = Some (inside Factor outer ts fs)
 begin_item outer ts fs piece = None
 
--- a run ends with its number
+-- the state after the number of a run
 abbrev pub end_run : Outer → Parts → Parts → ℕ → Piece → Option Front
 end_run outer ts fs i (Number n) = when (nat_lt 1 n) (front_at outer ts (with_copies n i fs) ItemRead)
 end_run outer ts fs i piece = None
 
--- an exponent begins
+-- the state after a piece with which an exponent begins
 abbrev pub begin_exponent : Outer → Parts → Parts → ℕ → Piece → Option Front
 begin_exponent outer ts fs c (Number n) = Some (behind_factor outer ts fs (PowerOf c (Constant n)))
 begin_exponent outer ts fs c (Variable i) = Some (behind_factor outer ts fs (PowerOf c (Input i)))
 begin_exponent outer ts fs c Open = Some (inside (Exponent c) outer ts fs)
 begin_exponent outer ts fs c piece = None
 
--- `^` after a factor, which is a base or the variable of a run
+-- the state after `^` that follows a factor, which is a base or the variable of a run
 abbrev pub caret_behind : Outer → Parts → Parts → Option Bound → Option Front
 caret_behind outer ts fs (Some (Constant c)) = when (nat_lt 1 c) (front_at outer ts fs (PowerCaret c))
 caret_behind outer ts fs (Some (Input i)) = when (not (is_input i (last fs))) (front_at outer ts fs (RunCaret i))
@@ -73,7 +73,7 @@ item_of (Arguments bs) b = MaximumOf (with_part bs b)
 item_of (Exponent c) b = PowerOf c b
 item_of Factor b = b
 
--- a bracket closes
+-- the state after a bracket closes
 abbrev pub close_bracket : Outer → Parts → Parts → Option Front
 close_bracket Whole ts fs = None
 close_bracket (Inside bracket ts' fs' outer) ts fs =
@@ -89,7 +89,7 @@ follow_item outer ts fs Comma = when (can_be_argument outer ts fs) (front_at out
 follow_item outer ts fs Close = close_bracket outer ts fs
 follow_item outer ts fs piece = None
 
--- an argument ends
+-- the state after a comma that ends an argument
 abbrev pub end_argument : Outer → Parts → Parts → Option Front
 end_argument (Inside (Arguments bs) ts' fs' outer) ts fs =
     Some (inside (Arguments (with_part bs (bound_of_parts ts fs))) outer ts' fs')
@@ -110,16 +110,16 @@ step_at position outer ts fs piece = None
 abbrev pub step : Front → Piece → Option Front
 step f piece = step_at f.position f.outer f.terms f.factors piece
 
--- where pieces lead
+-- the state that pieces lead to, one after the other
 abbrev pub walk : Option Front → List Piece → Option Front
 walk reached pieces = readers.walk step reached pieces
 
--- whether the bound has no surroundings
+-- whether nothing surrounds the bound
 abbrev pub is_whole : Outer → Bool
 is_whole Whole = true
 is_whole (Inside bracket ts fs outer) = false
 
--- the bound of a text that ends, by the position
+-- the bound of a text that ends in this state, by the position
 abbrev pub finish_at : Position → Outer → Parts → Parts → Option Bound
 finish_at ItemRead outer ts fs = when (is_whole outer && can_end fs) (bound_of_parts ts fs)
 finish_at position outer ts fs = None

@@ -1,4 +1,4 @@
--- The bound of a text.
+-- The text of a bound.
 use Rattle.std.specs.Prelude.{◌≡◌, ℕ, ◌^◌, ◌<◌, ◌≤◌, List, length, ⊤}
 use Rattle.text_core.specs.model.Programs.{Name}
 use Rattle.text_core.specs.model.Bounds.{Bound, Constant, Input, SumOf, ProductOf, MaximumOf, PowerOf, Parts, NoParts}
@@ -21,7 +21,7 @@ pub record IsText (names : List Name) (bytes : List ℕ) (b : Bound) : Type 0 wh
   pub tidy : IsTidy b
   pub listed : ReadsBelow (length names) b
 
--- the bases are below 2^64
+-- all bases of the bound are below 2^64
 abbrev mutual
   pub HasShortBases : Bound → Type 0
   HasShortBases (Constant c) = ⊤

@@ -1,4 +1,4 @@
--- Refusals of the code, with and without a position.
+-- The code's refusals, with and without a position.
 use Rattle.std.specs.Prelude.{ℕ}
 use Rattle.bound_text.specs.declared.fault.Fault.{Fault}
 use Rattle.bound_text.specs.declared.fault.Fault.TheVariants as faults

@@ -1,4 +1,4 @@
--- The code's state of parsing as plain data.
+-- The code's parser state as plain data.
 use Rattle.std.specs.Prelude.{◌≡◌, ℕ, if◌then◌else◌, Bool, true, false, not, Option, Some, None, Result, Ok, Err, ⊤}
 use Rattle.std.specs.Prelude.{IsTrue}
 use Rattle.text_core.specs.model.Bounds as bounds
@@ -21,7 +21,7 @@ use Rattle.bound_text.specs.declared.error.BoundTextError.TheVariants as errors
 use Rattle.bound_text.specs.declared.fault.Fault.{Fault}
 use Rattle.bound_text.specs.declared.fault.Fault.TheVariants as faults
 
--- the open brackets, as surroundings of the innermost bound
+-- the code's open brackets as surroundings of the innermost bound
 abbrev pub outer_in : Brackets → Outer
 outer_in b = outer_of b.opened.items
 
@@ -37,11 +37,12 @@ front_with at.BlankRead outer ts fs = front_at outer ts fs fronts.BlankRead
 front_with at.PlusRead outer ts fs = front_at outer ts fs fronts.PlusRead
 front_with at.CommaRead outer ts fs = front_at outer ts fs fronts.CommaRead
 
--- the part that has been read
+-- the plain state of a reader of the code
 abbrev pub front_of : Reader → Front
 front_of r = front_with r.position (outer_in r.outer) (parts_in r.terms) (parts_in r.factors)
 
--- no `^` can follow an item that is a factor already, and a variable that is none yet continues no run
+-- whether the position and the factors are settled: no `^` can follow an item that is a factor already, and a variable
+-- that is no factor yet continues no run
 abbrev pub is_settled_at : Position → Parts → Bool
 is_settled_at at.ItemRead fs = not (takes_caret (init fs) (last fs))
 is_settled_at (at.Name i) fs = not (fronts.is_input i (last fs))
@@ -78,7 +79,7 @@ IsKind plain.TooLarge faults.TooLarge = ⊤
 IsKind kind faults.Memory = ⊤
 IsKind kind fault = ⊥
 
--- a kind of refusal of the code
+-- the code's refusal of this kind
 abbrev pub fault_from : plain.Kind → Fault
 fault_from plain.Syntax = faults.Syntax
 fault_from plain.NumberTooLarge = faults.NumberTooLarge
@@ -86,7 +87,7 @@ fault_from plain.UnknownName = faults.UnknownName
 fault_from plain.TooDeep = faults.TooDeep
 fault_from plain.TooLarge = faults.TooLarge
 
--- the reader gets to the state to which the step leads; it answers `Syntax` exactly if the step is rejected, if
+-- the reader's new state is the one that the step leads to; it answers `Syntax` exactly if the step is rejected, if
 -- memory suffices
 abbrev pub Follows : Option Front → Reader → Result (Unit {0}) Fault → Type 0
 Follows reached r (Ok u) = (reached ≡ Some (front_of r)) × IsTrue (is_settled r)
@@ -94,13 +95,14 @@ Follows reached r (Err faults.Syntax) = reached ≡ None
 Follows reached r (Err faults.Memory) = ⊤
 Follows reached r (Err fault) = ⊥
 
--- after `Syntax` what has been read is as before
+-- after `Syntax` the reader's state is unchanged
 abbrev pub Keeps : Front → Reader → Result (Unit {0}) Fault → Type 0
 Keeps f r (Ok u) = ⊤
 Keeps f r (Err faults.Syntax) = (front_of r ≡ f) × IsTrue (is_fresh r)
 Keeps f r (Err fault) = ⊤
 
--- the reader gets to the result of taking a piece, or refuses it as that does, if memory suffices
+-- the reader's new state is the one of the result of taking a piece, or it refuses the piece as that result does, if
+-- memory suffices
 abbrev pub Obeys : PieceResult → Reader → Result (Unit {0}) Fault → Type 0
 Obeys (Reached f) r (Ok u) = (f ≡ front_of r) × IsTrue (is_settled r)
 Obeys (Refused kind) r (Ok u) = ⊥
@@ -115,7 +117,7 @@ FindsFault None (Err fault) = ⊥
 FindsFault (Some kind) (Ok u) = ⊥
 FindsFault (Some kind) (Err fault) = fault ≡ fault_from kind
 
--- the bound that a text that ends here denotes; `Syntax` is answered exactly if there is none, if memory suffices
+-- the result is the bound of the text that ends here; `Syntax` is answered exactly if there is none, if memory suffices
 abbrev pub Finishes : Option bounds.Bound → Result Bound Fault → Type 0
 Finishes bound (Ok b) = bound ≡ Some (bound_of b)
 Finishes bound (Err faults.Syntax) = bound ≡ None
@@ -140,7 +142,7 @@ Says (Stands b) (Err error) = ⊥
 Says (RefusedBy x) (Ok a) = ⊥
 Says (RefusedBy x) (Err error) = IsRefusal x.kind x.at error
 
--- the sum's node, the product's, and the one of an item that has begun, by the position of the code
+-- the nodes of the sum, of the product, and of an item that has begun but is no factor yet, by the position of the code
 abbrev pub sum_here : Position → Outer → Parts → ℕ
 sum_here at.BlankRead outer ts = if fronts.in_factor outer then 0 else 1
 sum_here at.PlusRead outer ts = if fronts.in_factor outer then 0 else 1

@@ -17,7 +17,7 @@ goes_on Nothing i = false
 goes_on (Run j n) i = j == i
 goes_on Other i = false
 
--- the run with variable i, a new one if the variable doesn't continue it
+-- the run continued by variable i, or a new run of it if it doesn't continue the run
 abbrev pub run_with : Before → ℕ → Before
 run_with Nothing i = Run i 1
 run_with (Run j n) i = if j == i then Run j (suc n) else Run i 1
@@ -39,7 +39,7 @@ ended_then Nothing rest = rest
 ended_then (Run i n) rest = run_then i n rest
 ended_then Other rest = rest
 
--- `*` where a factor comes before, and then the rest
+-- `*` if a factor comes before, and then the rest
 abbrev pub times_then : Before → List Piece → List Piece
 times_then Nothing rest = rest
 times_then (Run i n) rest = Times ∷ rest

@@ -8,8 +8,8 @@ use crate::state::{Bracket, Opened};
 use bound_expr::Memory;
 use std::alloc::Global;
 
-/// The open brackets, the outermost first. Each keeps the counts around a bound in it, so that those of the innermost
-/// one are known without going through the others.
+/// The open brackets, the outermost first. Each stores the counts around a bound in it, so that those of the innermost
+/// bracket are known without going through the others.
 #[derive(Drop)]
 pub struct Brackets {
     opened: Vec<Opened>,
@@ -24,7 +24,7 @@ impl Brackets {
     ghost use Rattle.bound_text.specs.Views.{parts_in, bracket_of, outer_in, IsRound};
     ghost use Rattle.bound_text.specs.Depths.{FlagsOuter};
 
-    /// No bracket is open.
+    /// No open brackets.
     pub(crate) fn new(alloc: Global) -> Brackets
         ensures { outer_in result ≡ Whole }
     {
@@ -75,7 +75,7 @@ impl Brackets {
         }
     }
 
-    /// A bracket opens, after these terms and factors.
+    /// Opens a bracket after these terms and factors.
     pub(crate) fn open(
         &mut self,
         bracket: Bracket,
@@ -97,7 +97,7 @@ impl Brackets {
         Ok(())
     }
 
-    /// The innermost bracket closes, if one is open.
+    /// Closes the innermost bracket and returns it, if one is open.
     pub(crate) fn close(&mut self) -> Option<Opened>
         ensures { MatchOption result (outer_in self.old ≡ Whole)
             (λ opened. outer_in self.old ≡ Inside (bracket_of opened.bracket) (parts_in opened.terms)
@@ -106,8 +106,8 @@ impl Brackets {
         self.opened.pop()
     }
 
-    /// All open brackets, with the terms and the factors before each, where a bound may have this many levels. The
-    /// answer is how many the innermost one may have.
+    /// Marks the pieces of all open brackets, with the terms and the factors before each, where the whole bound may
+    /// have `most` levels. Returns how many levels a bound in the innermost bracket may have.
     pub(crate) fn mark(&self, flags: &mut Vec<bool>, most: u64) -> Result<u64, Memory>
         ensures { IfOk result (λ within. FlagsOuter most within flags.old.items flags.new.items (outer_in self.now)) }
     {

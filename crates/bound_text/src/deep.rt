@@ -1,4 +1,4 @@
-//! Finds where what has been read is too deep.
+//! Finds where the text read so far is too deep.
 
 ghost use Rattle.std.specs.Prelude.{◌≡◌, ◌++◌, ◌∷◌, OnOk, IfOk, IsTrue, Bool, Some, None};
 ghost use Rattle.std.specs.List.{position};
@@ -38,7 +38,7 @@ fn mark_parts(
     Ok(factor)
 }
 
-// The `*` after factors that aren't done.
+// Marks the `*` that follows factors after which no item has begun.
 fn mark_star(flags: &mut Vec<bool>, factors: &Measured) -> Result<(), Memory>
     ensures { OnOk result (Passes flags.old.items flags.new.items (star_marks (parts_in factors.now))) }
 {
@@ -66,14 +66,14 @@ fn first_set(flags: &[bool]) -> Option<usize>
 }
 
 impl Bracket {
-    /// Whether it is that of a sum as a factor.
+    /// Whether the open bracket is that of a sum as a factor.
     pub(crate) fn is_of_factor(&self) -> bool
         ensures { (ts fs : Parts) (outer : Outer) → result ≡ in_factor_of (Inside (bracket_of self.now) ts fs outer) }
     {
         matches!(self, Bracket::Factor)
     }
 
-    // Marks the bracket, whose node may have this many levels.
+    // Marks the pieces of the bracket, whose node may have this many levels.
     fn mark(&self, flags: &mut Vec<bool>, room: u64) -> Result<(), Memory>
         ensures { OnOk result (FlagsAll room flags.old.items flags.new.items
             (λ level. bracket_marks level (bracket_of self.now))) }
@@ -98,7 +98,8 @@ impl Bracket {
 }
 
 impl Opened {
-    /// The terms and the factors before the bracket, and it. The answer is how many levels a bound in it may have.
+    /// Marks the terms and the factors before the bracket, and the bracket. Returns how many levels a bound in it may
+    /// have.
     pub(crate) fn mark(
         &self,
         flags: &mut Vec<bool>,
@@ -118,8 +119,8 @@ impl Opened {
 }
 
 impl Reader {
-    /// The first of the pieces read so far at which a part begins that has more than this many levels above and with
-    /// it, if there is one. It goes through all that has been read.
+    /// The position, among the pieces read so far, of the first one at which a part begins that has more than this many
+    /// levels, counted with those above it; none if there is no such part. It goes through all that has been read.
     ///
     /// # Errors
     ///
@@ -133,7 +134,7 @@ impl Reader {
         Ok(first_set(&flags))
     }
 
-    // All that has been read.
+    // Marks all pieces that have been read.
     fn mark(&self, flags: &mut Vec<bool>, most: u64) -> Result<(), Memory>
         requires { IsTrue (is_fresh self.now) }
         ensures { OnOk result (flags.new.items ≡ flags.old.items ++ flags_of most (front_marks (front_of self.now))) }
@@ -145,7 +146,7 @@ impl Reader {
         self.mark_position(flags, inner)
     }
 
-    // Marks what was read last after the factors.
+    // Marks the pieces read last, after the factors.
     fn mark_position(&self, flags: &mut Vec<bool>, room: u64) -> Result<(), Memory>
         ensures { OnOk result (FlagsAll room flags.old.items flags.new.items
             (λ level. marks_here level self.now.position (parts_in self.now.factors))) }

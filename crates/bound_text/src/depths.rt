@@ -14,7 +14,7 @@ use crate::kinds::{is_leaf, is_sum};
 use crate::printing::{Before, Join, longer};
 use bound_expr::{Bound, Memory};
 
-/// A part begins with the next piece, and may have this many levels.
+/// Appends the flag of a piece with which a part begins that may have this many levels: whether it may have none.
 pub(crate) fn push_part(flags: &mut Vec<bool>, room: u64) -> Result<(), Memory>
     ensures { OnOk result (FlagsAll room flags.old.items flags.new.items (λ level rest. Some level ∷ rest)) }
 {
@@ -22,7 +22,7 @@ pub(crate) fn push_part(flags: &mut Vec<bool>, room: u64) -> Result<(), Memory>
     Ok(())
 }
 
-/// No part begins with the next piece.
+/// Appends the flag of a piece with which no part begins.
 pub(crate) fn push_piece(flags: &mut Vec<bool>) -> Result<(), Memory>
     ensures { OnOk result (Passes flags.old.items flags.new.items (λ rest. None ∷ rest)) }
 {
@@ -30,7 +30,7 @@ pub(crate) fn push_piece(flags: &mut Vec<bool>) -> Result<(), Memory>
     Ok(())
 }
 
-// ` + ` or `, `.
+// Appends the flags of ` + ` or `, `.
 fn push_separator(flags: &mut Vec<bool>, join: Join) -> Result<(), Memory>
     ensures { OnOk result (Passes flags.old.items flags.new.items (unmarked (separator_of join))) }
 {
@@ -47,7 +47,7 @@ fn push_separator(flags: &mut Vec<bool>, join: Join) -> Result<(), Memory>
     }
 }
 
-/// The pieces of a bound, which may have this many levels.
+/// Appends the flags of the pieces of a bound that may have this many levels.
 #[cycle(mark)]
 pub(crate) fn mark_bound(flags: &mut Vec<bool>, room: u64, bound: &Bound) -> Result<(), Memory>
     ensures { OnOk result (FlagsAll room flags.old.items flags.new.items
@@ -70,7 +70,7 @@ pub(crate) fn mark_bound(flags: &mut Vec<bool>, room: u64, bound: &Bound) -> Res
     }
 }
 
-// An exponent, in brackets unless it is a leaf.
+// Appends the flags of an exponent, which is in brackets unless it is a leaf.
 #[cycle(mark)]
 fn mark_exponent(flags: &mut Vec<bool>, room: u64, exponent: &Bound) -> Result<(), Memory>
     ensures { OnOk result (FlagsAll room flags.old.items flags.new.items
@@ -85,7 +85,7 @@ fn mark_exponent(flags: &mut Vec<bool>, room: u64, exponent: &Bound) -> Result<(
     }
 }
 
-// Marks parts and their separators.
+// Appends the flags of parts and their separators.
 #[cycle(mark)]
 fn mark_joined(flags: &mut Vec<bool>, room: u64, join: Join, parts: &[Bound]) -> Result<(), Memory>
     ensures { OnOk result (FlagsAll room flags.old.items flags.new.items
@@ -102,7 +102,7 @@ fn mark_joined(flags: &mut Vec<bool>, room: u64, join: Join, parts: &[Bound]) ->
     Ok(())
 }
 
-/// The factors of a product.
+/// Appends the flags of the factors of a product.
 #[cycle(mark)]
 pub(crate) fn mark_factors(
     flags: &mut Vec<bool>,
@@ -119,7 +119,8 @@ pub(crate) fn mark_factors(
     mark_run(flags, room, before)
 }
 
-// One more factor: a variable that continues the run before is marked with it, and another begins a run.
+// Appends the flags of one more factor. A variable that continues the run before is marked with that run, and another
+// variable begins a run.
 #[cycle(mark)]
 fn mark_factor(
     flags: &mut Vec<bool>,
@@ -147,7 +148,7 @@ fn mark_factor(
     }
 }
 
-// A factor that is no variable.
+// Appends the flags of a factor that is no variable.
 #[cycle(mark)]
 fn mark_other(
     flags: &mut Vec<bool>,
@@ -163,7 +164,7 @@ fn mark_other(
     mark_operand(flags, room, factor)
 }
 
-// A factor, in brackets where it is a sum: it begins with its bracket.
+// Appends the flags of a factor. A sum is in brackets, and begins with its bracket.
 #[cycle(mark)]
 fn mark_operand(flags: &mut Vec<bool>, room: u64, factor: &Bound) -> Result<(), Memory>
     ensures { OnOk result (FlagsAll room flags.old.items flags.new.items
@@ -178,7 +179,7 @@ fn mark_operand(flags: &mut Vec<bool>, room: u64, factor: &Bound) -> Result<(), 
     }
 }
 
-// The run before, where there is one.
+// Appends the flags of the run before, if there is one.
 fn mark_run(flags: &mut Vec<bool>, room: u64, before: Before) -> Result<(), Memory>
     ensures { OnOk result (FlagsAll room flags.old.items flags.new.items
         (λ level. ended_marks level (before_of before))) }
@@ -193,7 +194,7 @@ fn mark_run(flags: &mut Vec<bool>, room: u64, before: Before) -> Result<(), Memo
     Ok(())
 }
 
-// Marks what comes before a factor: the run, and `*`.
+// Appends the flags of the pieces before a factor: the run, and `*`.
 fn mark_times(flags: &mut Vec<bool>, room: u64, before: Before) -> Result<(), Memory>
     ensures { OnOk result (FlagsAll room flags.old.items flags.new.items
         (λ level rest. ended_marks level (before_of before) (times_marks (before_of before) rest))) }
@@ -205,7 +206,7 @@ fn mark_times(flags: &mut Vec<bool>, room: u64, before: Before) -> Result<(), Me
     }
 }
 
-/// Marks parts, each with its separator.
+/// Appends the flags of parts, each with its separator.
 pub(crate) fn mark_each(
     flags: &mut Vec<bool>,
     room: u64,

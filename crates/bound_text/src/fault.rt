@@ -19,7 +19,7 @@ pub enum Fault {
 }
 
 impl Fault {
-    /// The refusal at a position.
+    /// The error of this refusal at a position.
     pub fn at(self, at: u64) -> BoundTextError
         ensures { result ≡ error_at self at }
     {

@@ -15,7 +15,7 @@ use crate::measured::{Counted, Measured};
 use bound_expr::{Bound, Memory};
 use std::alloc::Global;
 
-// A single part replaces its node; other nodes are unchanged.
+// The only part, if there is one part alone; else all the parts.
 #[tactic(auto, using(crate::proofs::JoiningLaws::as_one_more))]
 fn alone(parts: Measured) -> Result<Counted, Measured>
     ensures { (whole : Parts → plain.Bound) → MatchResult result
@@ -40,7 +40,7 @@ fn alone(parts: Measured) -> Result<Counted, Measured>
     }
 }
 
-/// A single factor by itself, and others as a product.
+/// The only factor itself, or the product of the factors if there are more.
 pub fn product_from(factors: Measured) -> Counted
     ensures { bound_of result.bound ≡ as_one ProductOf (parts_in factors) }
 {
@@ -54,7 +54,7 @@ pub fn product_from(factors: Measured) -> Counted
     }
 }
 
-/// A single term by itself, and others as a sum.
+/// The only term itself, or the sum of the terms if there are more.
 pub fn sum_from(terms: Measured) -> Counted
     ensures { bound_of result.bound ≡ as_one SumOf (parts_in terms) }
 {
@@ -116,7 +116,7 @@ pub fn power_from(alloc: Global, base: u64, exponent: Counted) -> Result<Counted
     })
 }
 
-/// Whether there are none.
+/// Whether there are no bounds.
 #[tactic(auto, using(crate::proofs::JoiningLaws::is_empty_parts))]
 pub fn is_empty(bounds: &Measured) -> bool
     ensures { result ≡ has_none (parts_in bounds.now) }
@@ -124,7 +124,7 @@ pub fn is_empty(bounds: &Measured) -> bool
     bounds.bounds.is_empty()
 }
 
-// The only part.
+// The only bound, if there is one alone.
 #[tactic(auto, using(crate::proofs::JoiningLaws::lone_many, crate::proofs::JoiningLaws::lone_got))]
 fn lone(bounds: &Measured) -> Option<&Bound>
     ensures { MatchOption result (lone_of (parts_in bounds.now) ≡ None)
@@ -137,7 +137,7 @@ fn lone(bounds: &Measured) -> Option<&Bound>
     }
 }
 
-/// Whether the factors can be all of a term.
+/// Whether a term can end after the factors: not if they are a lone sum in brackets.
 pub fn can_end(factors: &Measured) -> bool
     ensures { result ≡ terms_can_end (parts_in factors.now) }
 {
@@ -152,7 +152,7 @@ pub fn makes_sum(terms: &Measured, factors: &Measured) -> bool
     !is_empty(terms) || lone(factors).is_some_and(is_sum)
 }
 
-/// Whether it is a maximum.
+/// Whether the bound that terms and factors make is a maximum.
 #[tactic(auto, using(crate::proofs::JoiningLaws::kinds))]
 pub fn makes_maximum(terms: &Measured, factors: &Measured) -> bool
     ensures { result ≡ is_maximum_bound (bound_of_parts (parts_in terms.now) (parts_in factors.now)) }
@@ -160,7 +160,7 @@ pub fn makes_maximum(terms: &Measured, factors: &Measured) -> bool
     is_empty(terms) && lone(factors).is_some_and(is_maximum)
 }
 
-/// Whether it is a constant or a variable.
+/// Whether the bound that terms and factors make is a constant or a variable.
 #[tactic(auto, using(crate::proofs::JoiningLaws::kinds))]
 pub fn makes_leaf(terms: &Measured, factors: &Measured) -> bool
     ensures { result ≡ is_leaf_bound (bound_of_parts (parts_in terms.now) (parts_in factors.now)) }

@@ -8,28 +8,28 @@ ghost use Rattle.bound_text.specs.Fronts.{is_input};
 
 use bound_expr::Bound;
 
-/// Whether it is a constant or a variable.
+/// Whether the bound is a constant or a variable.
 pub fn is_leaf(bound: &Bound) -> bool
     ensures { result ≡ is_leaf_bound (bound_of bound.now) }
 {
     matches!(bound, Bound::Const(_) | Bound::Var(_))
 }
 
-/// Whether it is a sum.
+/// Whether the bound is a sum.
 pub fn is_sum(bound: &Bound) -> bool
     ensures { result ≡ is_sum_bound (bound_of bound.now) }
 {
     matches!(bound, Bound::Sum(_))
 }
 
-/// Whether it is a maximum.
+/// Whether the bound is a maximum.
 pub fn is_maximum(bound: &Bound) -> bool
     ensures { result ≡ is_maximum_bound (bound_of bound.now) }
 {
     matches!(bound, Bound::Max(_))
 }
 
-/// Whether it is this variable.
+/// Whether the bound is this variable.
 pub fn is_variable(bound: &Bound, variable: u32) -> bool
     ensures { result ≡ is_input variable (Some (bound_of bound.now)) }
 {

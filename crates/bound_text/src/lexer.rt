@@ -22,7 +22,7 @@ pub struct Lexeme {
     pub len: usize,
 }
 
-// The piece of a name with the bytes `behind` after it.
+// The lexeme of a name that is followed by the bytes `behind`.
 fn word(names: &NameIndex<'_>, name: &[u8], behind: &[u8]) -> Result<Lexeme, Memory>
     ensures piece { IfOk result (λ l. lexeme_of l ≡ word_at (names_in names.now) name.now behind.now) }
     ensures some { IfOk result (λ l. length name.now ≤ l.len) }
@@ -70,7 +70,7 @@ fn number(digits: &[u8]) -> Lexeme
     }
 }
 
-// The piece of any other byte.
+// The piece of a byte that begins neither a name nor a number.
 fn mark(byte: u8) -> Piece
     ensures { piece_of result ≡ mark_at byte }
 {
@@ -86,7 +86,7 @@ fn mark(byte: u8) -> Piece
     }
 }
 
-/// The piece that a text begins with, which has this first byte.
+/// The lexeme that a text begins with, where `first` is its first byte and `others` are those after it.
 ///
 /// # Errors
 ///

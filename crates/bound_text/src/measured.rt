@@ -1,4 +1,4 @@
-//! Bounds with their measure.
+//! Bounds with their numbers of nodes and levels.
 
 ghost use Rattle.std.specs.Prelude.{◌≡◌, ◌^◌, ◌-◌, min, OnOk};
 ghost use Rattle.text_core.specs.model.Bounds.{NoParts, Input};
@@ -9,7 +9,7 @@ ghost use Rattle.bound_text.specs.Shapes.{with_part};
 use bound_expr::{Bound, Memory};
 use std::alloc::Global;
 
-/// Bounds, with the number of their nodes and the maximum of their depths.
+/// Bounds, with the number of their nodes in all and the maximum of their depths.
 #[derive(Drop)]
 pub struct Measured {
     pub bounds: Vec<Bound>,
@@ -31,7 +31,7 @@ impl Measured {
         }
     }
 
-    /// One bound more, at the end.
+    /// Appends a bound.
     pub(crate) fn push(&mut self, bound: Bound) -> Result<(), Memory>
         ensures { OnOk result (parts_of (bounds_of self.new.bounds.items) ≡ with_part
             (parts_of (bounds_of self.old.bounds.items)) (bound_of bound)) }
@@ -39,7 +39,7 @@ impl Measured {
         self.push_counted(Counted::new(bound))
     }
 
-    /// One bound more, at the end, whose measure is known.
+    /// Appends a bound whose measure is known.
     #[tactic(auto, using(crate::proofs::PartLaws::pushes))]
     pub(crate) fn push_counted(&mut self, counted: Counted) -> Result<(), Memory>
         ensures { OnOk result (parts_of (bounds_of self.new.bounds.items) ≡ with_part
@@ -57,7 +57,7 @@ impl Measured {
     }
 }
 
-/// A bound with its measure.
+/// A bound with its numbers of nodes and levels.
 #[derive(Drop)]
 pub struct Counted {
     pub bound: Bound,
@@ -68,7 +68,7 @@ pub struct Counted {
 }
 
 impl Counted {
-    /// The bound is gone through once.
+    /// The bound with its measure. It goes through the bound once.
     pub(crate) fn new(bound: Bound) -> Counted
         ensures { bound_of result.bound ≡ bound_of bound }
     {

@@ -66,7 +66,7 @@ pub fn write(names: &[Name], text: &mut Vec<u8>, b: &Bound) -> Result<(), Memory
     write_bound(names, text, b)
 }
 
-// One piece.
+// Appends one piece.
 fn write_piece(names: &[Name], text: &mut Vec<u8>, piece: Piece) -> Result<(), Memory>
     requires { IsListed (length names.now) piece }
     ensures { OnOk result (text.new.items ≡ text.old.items ++ spelled (map name_of names.now) (piece_of piece)) }
@@ -86,7 +86,7 @@ fn write_piece(names: &[Name], text: &mut Vec<u8>, piece: Piece) -> Result<(), M
     }
 }
 
-// ` + ` or `, `.
+// Appends ` + ` or `, `.
 fn write_separator(names: &[Name], text: &mut Vec<u8>, join: Join) -> Result<(), Memory>
     ensures { OnOk result (WritesAll (map name_of names.now) text.old.items text.new.items
         (λ rest. separator_of join ++ rest)) }
@@ -104,7 +104,7 @@ fn write_separator(names: &[Name], text: &mut Vec<u8>, join: Join) -> Result<(),
     }
 }
 
-// A bound without brackets around it.
+// Appends a bound without brackets around it.
 #[cycle(write)]
 fn write_bound(names: &[Name], text: &mut Vec<u8>, bound: &Bound) -> Result<(), Memory>
     requires { ReadsBelow (length names.now) (bound_of bound.now) }
@@ -129,7 +129,7 @@ fn write_bound(names: &[Name], text: &mut Vec<u8>, bound: &Bound) -> Result<(), 
     }
 }
 
-// A bound, in brackets where that is wanted.
+// Appends a bound, in brackets where that is wanted.
 #[cycle(write)]
 fn write_bracketed(
     names: &[Name],
@@ -173,7 +173,7 @@ fn write_joined(
     Ok(())
 }
 
-// The factors of a product.
+// Writes the factors of a product.
 #[cycle(write)]
 fn write_factors(names: &[Name], text: &mut Vec<u8>, factors: &[Bound]) -> Result<(), Memory>
     requires { AllReadBelow (length names.now) (parts_of (bounds_of factors.now)) }
@@ -187,7 +187,8 @@ fn write_factors(names: &[Name], text: &mut Vec<u8>, factors: &[Bound]) -> Resul
     write_run(names, text, before)
 }
 
-// One more factor: a variable that continues the run before is written with it, and another begins a run.
+// Writes one more factor. A variable that continues the run before is counted into it, and another variable begins a
+// run.
 #[cycle(write)]
 fn write_factor(
     names: &[Name],
@@ -219,7 +220,7 @@ fn write_factor(
     }
 }
 
-/// The run with one more of this variable, where it is of this one.
+/// The run before, with one more of this variable, if it is a run of this variable.
 pub(crate) fn longer(before: Before, variable: u32) -> Option<Before>
     requires { count_of (before_of before) < 2 ^ 63 }
     ensures { MatchOption result (IsFalse (goes_on (before_of before) variable))
@@ -231,7 +232,7 @@ pub(crate) fn longer(before: Before, variable: u32) -> Option<Before>
     }
 }
 
-// The run before, where there is one.
+// Writes the run before, if there is one.
 fn write_run(names: &[Name], text: &mut Vec<u8>, before: Before) -> Result<(), Memory>
     requires { IsListedRun (length names.now) before }
     ensures { OnOk result (WritesAll (map name_of names.now) text.old.items text.new.items

@@ -31,8 +31,9 @@ use text_core::{Name, NameIndex, begins_with};
 /// first token that can't follow, at the number of a base under 2, or at the text's length if it ends too early. A name
 /// directly before a bracket is refused at its first byte, unless it is `max`. `NumberTooLarge` is at a number over
 /// 2^127-1, or a base over 2^64-1; `UnknownName` at a name that isn't listed; `TooDeep` and `TooLarge` at the token
-/// with which the tree so far has more than 200 levels, or more than 4,096 nodes. A sum and a product count from the
-/// token on that shows them. `Memory` comes where memory ran out, or where a listed name has a position over 2^32-1.
+/// with which the tree so far has more than 200 levels, or more than 4,096 nodes. A sum counts as a node from its first
+/// ` + ` on, and a product from its first `*` on. `Memory` comes where memory ran out, or where a listed name has a
+/// position over 2^32-1.
 pub fn read(alloc: Global, names: &[Name], bytes: &[u8]) -> Result<Bound, BoundTextError>
     requires { AreNames (map name_of names.now) }
     ensures answer { Answers (map name_of names.now) bytes.now result }
@@ -51,13 +52,13 @@ pub fn texts_have_no_fault()
     ensures { TextsHaveNoFault }
 {}
 
-/// A state of the reader is written as what has been read: pieces lead to it exactly if they are its text, and a
-/// base can follow exactly if an item begins.
+/// A state of the reader describes exactly the pieces read so far: pieces lead to it if and only if they are its text,
+/// and a base can follow if and only if an item begins.
 pub fn fronts_are_read()
     ensures { FrontsRead }
 {}
 
-// The answer to a text.
+// The answer of reading a text.
 fn judge(alloc: Global, names: &[Name], bytes: &[u8]) -> Result<Bound, BoundTextError>
     requires { AreNames (map name_of names.now) }
     ensures { Says (answer (bounds (length (map name_of names.now))) (length bytes.now)

@@ -26,7 +26,7 @@ pub struct Round {
     pub in_factor: bool,
 }
 
-// One node where there are parts.
+// 1 if there are parts, else 0: the node that holds them.
 fn node_of_any(parts: &Measured) -> u64
     ensures value { result ≡ any_node (parts_in parts.now) }
     ensures small { result ≤ 1 }
@@ -34,7 +34,8 @@ fn node_of_any(parts: &Measured) -> u64
     if is_empty(parts) { 0 } else { 1 }
 }
 
-/// The node of a sum with these terms, unless it is a factor, whose bracket counts it.
+/// 1 if a sum with these terms counts as a node here, else 0: the node of a sum in brackets is counted with its
+/// bracket.
 pub(crate) fn node_of_sum(in_factor: bool, terms: &Measured) -> u64
     ensures value { result ≡ (if in_factor then 0 else any_node (parts_in terms.now)) }
     ensures small { result ≤ 1 }
@@ -42,7 +43,7 @@ pub(crate) fn node_of_sum(in_factor: bool, terms: &Measured) -> u64
     if in_factor { 0 } else { node_of_any(terms) }
 }
 
-// One node where the factors are a product.
+// 1 if the factors are a product, else 0.
 fn product_node(factors: &Measured) -> u64
     ensures value { result ≡ node_of_product (parts_in factors.now) }
     ensures small { result ≤ 1 }
@@ -51,7 +52,7 @@ fn product_node(factors: &Measured) -> u64
 }
 
 impl Opened {
-    /// The counts around a bound in this bracket, where `round` has those around the bracket.
+    /// The counts around a bound in this bracket, where `round` has the counts around the bracket.
     pub(crate) fn count_in(&self, round: Round) -> Round
         ensures { (outer : Outer) → IsRound outer round → IsRound
             (Inside (bracket_of self.now.bracket) (parts_in self.now.terms) (parts_in self.now.factors) outer) result }
@@ -71,7 +72,7 @@ impl Opened {
         }
     }
 
-    /// The node of the product round the bracket.
+    /// 1 if the bracket is in a product: after other factors, or that of a sum, which is always a factor; else 0.
     pub(crate) fn product_node(&self) -> u64
         ensures value { result ≡ product_node_round (bracket_of self.now.bracket) (parts_in self.now.factors) }
         ensures small { result ≤ 1 }
@@ -84,7 +85,7 @@ impl Opened {
 }
 
 impl Bracket {
-    // The nodes of the bracket's own node.
+    // The nodes of the node that the bracket belongs to.
     fn nodes(&self) -> u64
         ensures { result ≡ min (bracket_nodes (bracket_of self.now)) (2 ^ 64 - 1) }
     {
@@ -97,7 +98,8 @@ impl Bracket {
 
 #[tactic(auto, using(crate::proofs::SizeLaws::here))]
 impl Reader {
-    /// The node of the innermost sum.
+    /// 1 if the innermost bound is a sum, as far as it has been read, and isn't in the brackets of a factor, which
+    /// count it; else 0.
     pub(crate) fn sum_node(&self, round: Round) -> u64
         ensures value { (outer : Outer) → IsRound outer round → result ≡ sum_here self.now.position outer
             (parts_in self.now.terms) }
@@ -112,7 +114,7 @@ impl Reader {
         }
     }
 
-    /// The node of the innermost product.
+    /// 1 if the innermost term is a product, as far as it has been read, else 0.
     pub(crate) fn product_node(&self) -> u64
         ensures value { result ≡ product_here self.now.position (parts_in self.now.factors) }
         ensures small { result ≤ 1 }
@@ -124,7 +126,7 @@ impl Reader {
         }
     }
 
-    // The node of an item that has begun.
+    // 1 if an item has begun that is not yet a factor, else 0.
     fn item_node(&self) -> u64
         ensures value { result ≡ item_here self.now.position }
         ensures small { result ≤ 1 }
@@ -138,7 +140,7 @@ impl Reader {
         }
     }
 
-    // The levels of the innermost bound with those above it, exact up to one over the limit.
+    // The levels of the innermost bound and of those above it, exact up to one over the limit.
     fn levels(&self, round: Round) -> u64
         requires { IsRound (outer_in self.now.outer) round }
         ensures { min result 201 ≡ min (inner_levels (front_of self.now)) 201 }

@@ -20,7 +20,7 @@ pub enum Bracket {
     Factor,
 }
 
-/// An open bracket, with the terms and the factors before it, and what is counted around a bound in it.
+/// An open bracket, with the terms and the factors before it, and the counts around a bound in it.
 #[derive(Drop)]
 pub struct Opened {
     pub bracket: Bracket,
@@ -63,7 +63,7 @@ pub struct Reader {
 }
 
 impl Reader {
-    /// Nothing has been read.
+    /// The state in which nothing has been read.
     pub fn new(alloc: Global) -> Reader
         ensures front { front_of result ≡ beginning }
         ensures settled { IsTrue (is_settled result) }

@@ -44,7 +44,7 @@ impl Reader {
         }
     }
 
-    // A bracket that begins an item.
+    // Opens a bracket, with which an item begins.
     fn open(&mut self, alloc: Global, bracket: Bracket) -> Result<(), Fault>
         ensures { Follows (Some (inside (bracket_of bracket) (outer_in self.old.outer) (parts_in self.old.terms)
             (parts_in self.old.factors))) self.new result }
@@ -56,7 +56,7 @@ impl Reader {
         Ok(())
     }
 
-    // An item begins.
+    // Takes a piece with which an item begins.
     pub(crate) fn begin_item(&mut self, alloc: Global, piece: Piece) -> Result<(), Fault>
         requires { IsTrue (is_fresh self.old) }
         ensures follows { Follows (item_begun (outer_in self.old.outer) (parts_in self.old.terms)
@@ -81,7 +81,7 @@ impl Reader {
         }
     }
 
-    // An exponent begins.
+    // Takes a piece with which an exponent begins.
     pub(crate) fn begin_exponent(
         &mut self,
         alloc: Global,
@@ -101,7 +101,7 @@ impl Reader {
         }
     }
 
-    // A power with its exponent.
+    // Appends the power with this exponent as an item.
     fn end_power(&mut self, alloc: Global, base: u64, exponent: Bound) -> Result<(), Fault>
         ensures { Follows (Some (behind_factor (outer_in self.old.outer) (parts_in self.old.terms)
             (parts_in self.old.factors) (PowerOf base (bound_of exponent)))) self.new result }
@@ -112,7 +112,7 @@ impl Reader {
         Ok(())
     }
 
-    // `^` after a number that begins an item.
+    // Takes `^` after a number that begins an item.
     fn begin_power(&mut self, number: u128) -> Result<(), Fault>
         requires small { number < 2 ^ 64 }
         requires fresh { IsTrue (is_fresh self.old) }
@@ -137,7 +137,7 @@ impl Reader {
             && !makes_maximum(&self.terms, &self.factors)
     }
 
-    // Leaves the innermost bracket and its contents, if one is open; what came before it is current again.
+    // Leaves the innermost bracket and its contents, if one is open; the terms and factors before it are current again.
     fn leave(&mut self) -> Option<Opened>
         ensures { MatchOption result (outer_in self.old.outer ≡ fronts.Whole)
             (λ left. (outer_in self.old.outer ≡ fronts.Inside (bracket_of left.bracket) (parts_in self.new.terms)
@@ -150,7 +150,7 @@ impl Reader {
         Some(opened)
     }
 
-    // A bracket closes.
+    // Closes the innermost bracket.
     fn close(&mut self, alloc: Global) -> Result<(), Fault>
         requires { IsTrue (is_fresh self.old) }
         ensures follows { Follows (bracket_closed (outer_in self.old.outer) (parts_in self.old.terms)
@@ -177,7 +177,7 @@ impl Reader {
         Ok(())
     }
 
-    // Reads what follows an item that is a factor.
+    // Takes a piece that follows an item that is a factor.
     pub(crate) fn follow_item(&mut self, alloc: Global, piece: Piece) -> Result<(), Fault>
         requires fresh { IsTrue (is_fresh self.old) }
         requires settled { IsFalse (is_caret (piece_of piece) && takes_caret (init (parts_in self.old.factors))
@@ -204,7 +204,7 @@ impl Reader {
         }
     }
 
-    // A term ends with ` + `.
+    // Ends a term, with the first blank of ` + `.
     pub(crate) fn end_term(&mut self, alloc: Global) -> Result<(), Fault>
         ensures { Follows (Some (front_at (outer_in self.old.outer)
             (with_part (parts_in self.old.terms) (term_of (parts_in self.old.factors))) NoParts fronts.Begins)) self.new
@@ -216,7 +216,7 @@ impl Reader {
         Ok(())
     }
 
-    // An argument ends with `, `.
+    // Ends an argument, with the comma of `, `.
     pub(crate) fn end_argument(&mut self, alloc: Global) -> Result<(), Fault>
         requires { IsTrue (is_fresh self.old) }
         ensures follows { Follows (argument_ended (outer_in self.old.outer) (parts_in self.old.terms)
@@ -246,7 +246,7 @@ impl Reader {
         }
     }
 
-    // After a number that begins an item.
+    // Takes a piece that follows a number that begins an item.
     pub(crate) fn follow_number(
         &mut self,
         alloc: Global,
@@ -269,7 +269,7 @@ impl Reader {
         }
     }
 
-    // After a variable that begins an item.
+    // Takes a piece that follows a variable that begins an item.
     pub(crate) fn follow_name(
         &mut self,
         alloc: Global,
@@ -297,7 +297,7 @@ impl Reader {
 }
 
 impl Bracket {
-    // Whether it is the bracket of a maximum.
+    // Whether the bracket is that of a maximum.
     pub(crate) fn is_of_maximum(&self) -> bool
         ensures { result ≡ is_arguments (bracket_of self.now) }
     {

@@ -89,7 +89,7 @@ impl Reader {
         self.follow(alloc, piece)
     }
 
-    // The number of a run.
+    // Takes the piece after the `^` of a run.
     fn follow_run(&mut self, variable: u32, piece: Piece) -> Result<(), Fault>
         requires { self.old.position ≡ at.RunCaret variable }
         ensures follows { Follows (run_ended (outer_in self.old.outer) (parts_in self.old.terms)
@@ -161,7 +161,7 @@ impl Reader {
         matches!(self.position, Position::Begins)
     }
 
-    // Where a piece leads, but after the `^` of a run.
+    // Takes a piece at any position but after the `^` of a run.
     fn follow(&mut self, alloc: Global, piece: Piece) -> Result<(), Fault>
         requires settled { IsTrue (is_settled self.old) }
         requires no_run { IsFalse (is_in_run self.old.position) }
@@ -194,7 +194,7 @@ impl Reader {
         }
     }
 
-    // A run ends with its number. More copies than a bound may have nodes are capped at a number that is refused too.
+    // Ends a run with its number. A number of copies over the limit is replaced by one that is refused, too.
     fn end_run(&mut self, variable: u32, piece: Piece) -> Result<(), Fault>
         ensures { Obeys (fault_or_front (fault_of_piece 0 false (piece_of piece))
             (run_ended (outer_in self.old.outer) (parts_in self.old.terms) (parts_in self.old.factors) variable
@@ -214,7 +214,7 @@ impl Reader {
         }
     }
 
-    /// The bound of a text that ends here.
+    /// The bound of the text that was read, if a text can end here.
     ///
     /// # Errors
     ///

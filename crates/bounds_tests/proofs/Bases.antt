@@ -1,4 +1,4 @@
--- Where the test says yes, every base is at least 1.
+-- If the test succeeds, every base is at least 1.
 use Rattle.std.proofs.Common.{◌≡◌, true, nat_le}
 use Rattle.std.proofs.lemmas.Bool.{and_parts, leb-true}
 use Rattle.text_core.specs.model.Bounds.{Bound, Constant, Input, SumOf, ProductOf, MaximumOf, PowerOf, Parts, NoParts}
@@ -6,7 +6,7 @@ use Rattle.text_core.specs.model.Bounds.{Part}
 use Rattle.text_core.specs.model.Bounds.{IsBased, AreBased}
 use Rattle.bounds_tests.specs.Based.{bases_are_some, all_bases_are_some}
 
--- of a bound, and of parts
+-- the test for a bound, and for parts
 mutual
   -- a bound whose bases pass the test is based
   pub is_based : (b : Bound) → bases_are_some b ≡ true → IsBased b

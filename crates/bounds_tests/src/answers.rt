@@ -1,4 +1,4 @@
-//! What each call makes of the bounds of a line.
+//! The results of calls on the bounds of a line.
 
 use crate::based::is_based;
 use crate::postfix::{bounds, number, written};
@@ -11,7 +11,7 @@ use bound_table::{
 use std::alloc::Global;
 use std::cmp::Ordering;
 
-/// The answer to a line: a call, and behind a blank what it is made on.
+/// The answer to a line: a call, and after a blank its argument.
 pub(crate) fn answer(alloc: Global, line: &str) -> Result<String, Memory> {
     let Some((call, rest)) = line.split_once(' ') else {
         return String::from_str(alloc, line);
@@ -85,7 +85,7 @@ fn by_case(alloc: Global, name: &str, bound: &Bound) -> Result<String, Memory> {
     written(alloc, &simplify(alloc, &Cases { list: [case] }, bound)?)
 }
 
-// The rewritten bound, where it has the same values.
+// The rewritten bound, if it has the same values.
 fn rewritten_text(alloc: Global, bound: &Bound) -> Result<String, Memory> {
     let outcome = rewrite(alloc, bound)?;
     for at in &POINTS {
@@ -119,7 +119,7 @@ fn is_below(first: &Bound, second: &Bound) -> Option<bool> {
     None
 }
 
-// Whether the first is below the second, and its values are where it is.
+// Whether the first bound is below the second, and its values are if it is.
 fn lower(first: &Bound, second: &Bound) -> &'static str {
     match is_below(first, second) {
         Some(true) => {
@@ -163,7 +163,7 @@ fn measures(alloc: Global, bound: &Bound) -> Result<String, Memory> {
     format!(in alloc; "{nodes} nodes, {levels} levels, {large}large")
 }
 
-// The square of the one input, where the input is this bound.
+// The square of the only input, if the input is this bound.
 #[tactic(auto, using(crate::proofs::Views::seen))]
 fn square_of(alloc: Global, size: &Bound) -> Result<String, Memory> {
     let square = Bound::Prod(vec![in alloc; Bound::Var(0), Bound::Var(0)]?);

@@ -1,4 +1,4 @@
-//! Whether all bases are at least 1, as the test of being below wants it.
+//! Whether all bases are at least 1, as the test whether a bound is below another requires.
 #![tactic(auto, using(crate::proofs::Views::seen))]
 
 ghost use Rattle.std.specs.Prelude.{◌≡◌, IsTrue};

@@ -7,8 +7,8 @@ use bound_expr::{Bound, Memory};
 use bound_text::{Fault, Piece, Reader};
 use std::alloc::Global;
 
-/// The result of reading a bound: it and the position of the bracket behind it, or why and at which position it is
-/// refused.
+/// The result of reading a bound: the bound and the position of the bracket after it, or why and at which position it
+/// is refused.
 #[derive(Drop)]
 pub(crate) enum Found {
     Stands(Bound, usize),
@@ -69,7 +69,7 @@ fn bound_at(alloc: Global, text: &[u8], begins: usize) -> Found {
     Found::Refused(Fault::Syntax, at)
 }
 
-// The position behind the bracket `[`.
+// The position after the bracket `[`.
 fn behind_bracket(text: &[u8]) -> usize {
     let mut at = 0usize;
     for byte in text {
@@ -98,7 +98,7 @@ pub(crate) fn taken_text(alloc: Global, text: &str) -> Result<String, Memory> {
     found_text(alloc, &bound_at(alloc, bytes, behind_bracket(bytes)))
 }
 
-/// The result where reading goes on behind a fault; the text follows the number of levels that it may have.
+/// The result if reading goes on after a fault; the text follows the number of levels that it may have.
 pub(crate) fn stepped_text(alloc: Global, line: &str) -> Result<String, Memory> {
     let Some((most, text)) = line.split_once(' ') else {
         return String::from_str(alloc, "no text");

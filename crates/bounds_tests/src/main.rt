@@ -1,5 +1,5 @@
-//! Answers each line of the standard input by one line: what a public call makes of the bounds or the text in it. A
-//! line without a call, as a remark that begins with `#`, is written as it is.
+//! Answers each line of the standard input by one line: the result of a public call on the bounds or the text in it. A
+//! line without a call, such as a remark that begins with `#`, is written unchanged.
 #![tactic(auto)]
 
 mod answers;

@@ -1,5 +1,5 @@
 //! Bounds in postfix: `v2` is a variable and `c7` a constant; `+2`, `*2` and `m2` are the sum, the product and the
-//! maximum of the last two parts on the stack, and `^2` is 2 to the power of the last one. Behind a word, `#9` repeats
+//! maximum of the last two parts on the stack, and `^2` is 2 to the power of the last one. After a word, `#9` repeats
 //! it nine times, and `..9` repeats it with each number from its own on to 9, up or down; words with commas between
 //! them are repeated together, for each number that one of them goes through.
 
@@ -61,7 +61,7 @@ fn ends(word: &[u8]) -> Option<(u128, u128)> {
     }
 }
 
-// The same of the first of some words that goes through numbers.
+// The first and the last number of the first of some words that goes through numbers.
 fn ends_among(words: &[u8]) -> Option<(u128, u128)> {
     for word in words.split(|byte| *byte == b',') {
         let found = ends(word);
@@ -137,7 +137,7 @@ pub(crate) fn written(alloc: Global, bound: &Bound) -> Result<String, Memory> {
     Ok(text)
 }
 
-// Writes the words of a bound behind others.
+// Writes the words of a bound after others.
 #[cycle(write)]
 fn write(alloc: Global, text: &mut String, bound: &Bound) -> Result<(), Memory> {
     match bound {
@@ -162,7 +162,7 @@ fn write_node(alloc: Global, text: &mut String, parts: &[Bound], mark: &str) -> 
     add(text, format!(in alloc; "{mark}{count}")?.as_str())
 }
 
-// Adds a word, behind a blank where it isn't the first.
+// Adds a word, after a blank if it isn't the first.
 fn add(text: &mut String, word: &str) -> Result<(), Memory> {
     if !text.is_empty() {
         text.push_str(" ")?;

@@ -1,5 +1,5 @@
-//! Bounds in the midst of another text, read on behind each fault: a part can turn out to be too deep that began before
-//! it.
+//! Bounds in the midst of another text, read on after each fault: a part that began before it can turn out to be too
+//! deep.
 
 ghost use Rattle.std.specs.Prelude.{IfOk, OnOk, IsTrue, if◌then◌else◌};
 ghost use Rattle.bound_text.specs.Views.{is_settled, is_fresh};
@@ -12,14 +12,14 @@ use std::alloc::{AllocError, Global};
 // A fault with its position.
 type Refusal = (Fault, usize);
 
-// Where reading stopped, and the first fault before except for parts that are too deep.
+// The position at which reading stopped, and the first fault before it, except for parts that are too deep.
 #[derive(Clone, Copy)]
 struct Stop {
     at: usize,
     first: Option<Refusal>,
 }
 
-// Takes a piece, and says whether it leads on.
+// Takes a piece; returns whether it was accepted.
 fn leads_on(alloc: Global, reader: &mut Reader, piece: Piece) -> Result<bool, Memory>
     requires { IsTrue (is_settled reader.old) }
     ensures { IfOk result (λ on. IsTrue (if on then is_settled reader.new else is_fresh reader.new)) }
@@ -31,7 +31,7 @@ fn leads_on(alloc: Global, reader: &mut Reader, piece: Piece) -> Result<bool, Me
     }
 }
 
-// The first of the faults so far and at a piece that was taken, where `early` is the fault that it has by itself.
+// The first of the faults so far and of those at an accepted piece, where `early` is the fault that it has by itself.
 fn first_of(
     first: Option<Refusal>,
     early: Option<Fault>,
@@ -46,7 +46,7 @@ fn first_of(
     }
 }
 
-// Takes each piece that leads on, and keeps where it begins.
+// Takes each piece that is accepted, and stores the position at which it begins.
 fn pass(
     alloc: Global,
     text: &[u8],

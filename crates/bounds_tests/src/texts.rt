@@ -40,7 +40,7 @@ fn five_names(alloc: Global) -> Result<Vec<Name>, Memory>
     Ok(names)
 }
 
-// A bound, or why a text is none.
+// A bound, or why a text isn't one.
 fn outcome_text(alloc: Global, outcome: Result<Bound, BoundTextError>) -> Result<String, Memory> {
     match outcome {
         Ok(bound) => written(alloc, &bound),
@@ -81,7 +81,7 @@ fn repeat(text: &mut String, piece: &str, count: u128) -> Result<(), Memory> {
     Ok(())
 }
 
-/// The same for a number and three pieces between bars: the first piece this many times, the second one once, and the
+/// The text of a number and three pieces between bars: the first piece this many times, the second one once, and the
 /// third this many times.
 pub(crate) fn repeated_text(alloc: Global, line: &str) -> Result<String, Memory> {
     let mut parts = line.split('|');
@@ -106,8 +106,8 @@ fn last_letters(text: &[u8]) -> usize {
     count
 }
 
-// `t` where the bytes are a text, `e` where they are refused at their end, and `u` where the letters that they end with
-// are no name that is listed.
+// `t` if the bytes are a text, `e` if they are refused at their end, and `u` if the letters that they end with aren't a
+// listed name.
 fn letter(alloc: Global, bytes: &[u8]) -> Result<&'static str, Memory> {
     let end = bytes.len();
     let name = end.saturating_sub(last_letters(bytes));

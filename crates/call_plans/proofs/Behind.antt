@@ -1,4 +1,4 @@
--- What is answered behind a file.
+-- The answers of the rest of a plan, after a file.
 use Rattle.std.proofs.Common.{◌≡◌, ◌≤◌, ◌<◌, ℕ, List, length, Option, Result, IfOk, refl, sym, ◌∙◌, ap, subst, arith}
 use Rattle.std.specs.Prelude.{⊤}
 use Rattle.std.proofs.lemmas.Result.{IfOk-weaker}
@@ -11,9 +11,9 @@ use Rattle.call_plans.specs.Calls.{Seen, seen_of}
 use Rattle.call_plans.specs.Kinds.{TextKind}
 use Rattle.call_plans.specs.Gives.{Gives}
 use Rattle.call_plans.specs.OnFiles.{IsNoText, Without, Of}
-use Rattle.call_plans.specs.Plans.{Cases, Plan, Answers, Reads, Tells, IsLast, OnPlan}
+use Rattle.call_plans.specs.Plans.{Cases, Plan, Answers, Reads, HasRow, IsLast, OnPlan}
 
--- what was seen of a shelf is the same where it had the same contents and the same count of faults before
+-- what was seen of a shelf is the same if it had the same contents and the same count of faults before
 seen_same : (held other : Option Files) (before middle after taken : ℕ) (fetches : Option ℕ) → held ≡ other
     → before ≡ middle
     → ◌≡◌ {A = Seen} (record { held = held; faults_before = before; faults_after = after; fetches_after = fetches; taken = taken })
@@ -22,7 +22,7 @@ seen_same held other before middle after taken fetches h e = cc
 
 module _ {F T : Type 0} (means : shelf.Ghosts F) (before middle after : F) (kind : TextKind T) (file : List ℕ)
     (next : T → Plan) (t : T) where
-  -- what is answered by the rest of a plan, behind a file that gave a thing, is answered by the plan
+  -- an answer of the rest of a plan, after a file that gave a thing, is one of the plan
   behind : (s : Status) (x : List ℕ) → means.held middle ≡ means.held before
       → means.faults before ≡ means.faults middle → means.fetches middle ≡ one_more (means.fetches before)
       → (IsLast (next t) → means.taken after ≡ means.taken middle)
@@ -59,9 +59,9 @@ module _ {F T : Type 0} (means : shelf.Ghosts F) (before middle after : F) (kind
       (λ a. behind a.status a.text.items held steady counted last gives) on
 
 -- if nothing is fetched, a plan answers by its table
-pub told_ok : {E : Type 0} (seen : Seen) (count : Option ℕ) (cases : Cases) (said : Result StatusText E)
-    → seen.fetches_after ≡ count → IfOk said (λ a. Tells cases a.status a.text.items)
+pub row_of_result : {E : Type 0} (seen : Seen) (count : Option ℕ) (cases : Cases) (said : Result StatusText E)
+    → seen.fetches_after ≡ count → IfOk said (λ a. HasRow cases a.status a.text.items)
     → IfOk said (λ a. OnPlan seen count (Answers cases) a.status a.text.items)
-told_ok seen count cases said counted told =
-    IfOk-weaker said (λ (a : StatusText). Tells cases a.status a.text.items)
+row_of_result seen count cases said counted told =
+    IfOk-weaker said (λ (a : StatusText). HasRow cases a.status a.text.items)
     (λ (a : StatusText). OnPlan seen count (Answers cases) a.status a.text.items) (λ a h. (counted, h)) told

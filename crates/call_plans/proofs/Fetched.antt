@@ -1,4 +1,4 @@
--- What a file whose bytes were fetched gives.
+-- The result of a file whose bytes were fetched.
 use Rattle.std.proofs.Common.{◌≡◌, ◌≤◌, ℕ, List, length, Result, IfOk, refl, sym, ◌∙◌, subst}
 use Rattle.std.proofs.lemmas.Result.{IfOk-weaker}
 use Rattle.outside_io.specs.Files.{IsHeld}
@@ -19,7 +19,7 @@ fetches_of seen word file asked limit items bytes name most same held taken with
   within = subst (λ (b : List ℕ). length b ≤ limit) (sym same) (subst (λ (n : ℕ). length items ≤ n) most within);
 }
 
--- what bytes give wherever they are fetched, they give where they were
+-- the result of reading bytes is that of the file with these bytes
 pub got_of : {P Thing E : Type 0} (kind : TextKind P) (plain : Thing → P) (seen : Seen) (word file : List ℕ) (asked : ℕ)
     (items bytes : List ℕ) (given : Result (Got Thing) E) → word ≡ file → asked ≡ kind.limit → bytes ≡ items
     → IsHeld seen.held word items → seen.taken ≡ length items → length items ≤ asked

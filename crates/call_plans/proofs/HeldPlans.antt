@@ -1,4 +1,4 @@
--- What is answered by a plan where the shelf discloses its contents, by these contents alone.
+-- The answers of a plan if the shelf discloses its contents, by these contents alone.
 use Rattle.std.proofs.Common.{◌≡◌, ◌≤◌, ◌<◌, ℕ, List, length, Option, Some, None, refl, sym, ◌∙◌, subst, inl, inr}
 use Rattle.std.specs.Prelude.{IsSomeAnd}
 use Rattle.std.specs.FinMap.{get}
@@ -9,16 +9,16 @@ use Rattle.call_plans.specs.declared.status.Status.TheVariants.{ReadFault}
 use Rattle.call_plans.specs.Calls.{Seen}
 use Rattle.call_plans.specs.Kinds.{TextKind}
 use Rattle.call_plans.specs.OnFiles.{read_fault_text, Unread, OverLimit, Bad, Without, Of}
-use Rattle.call_plans.specs.Plans.{Plan, Answers, Reads, Tells, OnPlan}
+use Rattle.call_plans.specs.Plans.{Plan, Answers, Reads, HasRow, OnPlan}
 use Rattle.call_plans.specs.Meanings.{MayMiss}
-use Rattle.call_plans.specs.Endings.{FileIs, Lacking, TooLong, Nothing, Stands, EndsOn, IsHonest}
+use Rattle.call_plans.specs.Endings.{FileIs, Lacking, TooLong, Nothing, Represented, EndsOn, IsHonest}
 use Rattle.call_plans.specs.Lawful.{IsDecided, IsLawful}
 use Rattle.call_plans.proofs.GivenFiles.{given, given_more, given_none}
-use Rattle.call_plans.proofs.Rows.{told_comes}
+use Rattle.call_plans.proofs.Rows.{row_has_case}
 
--- this status and this text are answered on these files
+-- the plan answers with this status and this text on these files
 abbrev pub HeldOn : Files → Plan → Status → List ℕ → Type 0
-HeldOn files (Answers cases) s x = Tells cases s x
+HeldOn files (Answers cases) s x = HasRow cases s x
 HeldOn files (Reads kind file next) s x =
     FileIs kind (get files file) ((s ≡ ReadFault) × (x ≡ read_fault_text)) ((s ≡ kind.refused) × (x ≡ kind.too_long))
     (λ bytes. (s ≡ kind.refused) × kind.IsRefusedAs bytes x) (λ t. HeldOn files (next t) s x)
@@ -30,7 +30,7 @@ module _ {T : Type 0} (kind : TextKind T) (Missing Long : Type 0) (Bad : List �
   long None more h = absurd more
   long (Some bytes) more h = TooLong bytes refl more h
 
--- what is answered from what was seen is answered on the files that the shelf discloses
+-- an answer from what was seen is one on the files that the shelf discloses
 pub held_of : (seen : Seen) (files : Files) (count : Option ℕ) (plan : Plan) (s : Status) (x : List ℕ)
     → seen.held ≡ Some files → IsHonest seen s → IsLawful plan → OnPlan seen count plan s x → HeldOn files plan s x
 held_of seen files count (Answers cases) s x held honest lawful on = on.1
@@ -44,21 +44,21 @@ held_of seen files count (Reads kind file next) s x held honest lawful (Without 
     Nothing h.bytes (given seen.held files file h.bytes held h.fetched.held) h.fetched.within
     (λ t stands. lawful.0.apart h.bytes t x stands h.refused) (h.ends, h.refused)
 held_of seen files count (Reads kind file next) s x held honest lawful (Of t gives on) =
-    Stands gives.bytes (given seen.held files file gives.bytes held gives.held) gives.within t gives.stands
+    Represented gives.bytes (given seen.held files file gives.bytes held gives.held) gives.within t gives.stands
     (held_of seen files (one_more count) (next t) s x held honest (lawful.1 gives.bytes t gives.stands) on)
 
--- a call that answers so ends so
+-- a call with this answer ends with its status
 pub ends_held : (files : Files) (plan : Plan) (s : Status) (x : List ℕ) → IsLawful plan → HeldOn files plan s x
     → EndsOn files plan s
-ends_held files (Answers cases) s x lawful held = told_comes cases s x lawful held
+ends_held files (Answers cases) s x lawful held = row_has_case cases s x lawful held
 ends_held files (Reads kind file next) s x lawful (Lacking there h) = Lacking there h.0
 ends_held files (Reads kind file next) s x lawful (TooLong bytes there more h) = TooLong bytes there more h.0
 ends_held files (Reads kind file next) s x lawful (Nothing bytes there within none h) =
     Nothing bytes there within none h.0
-ends_held files (Reads kind file next) s x lawful (Stands bytes there within t stands h) =
-    Stands bytes there within t stands (ends_held files (next t) s x (lawful.1 bytes t stands) h)
+ends_held files (Reads kind file next) s x lawful (Represented bytes there within t stands h) =
+    Represented bytes there within t stands (ends_held files (next t) s x (lawful.1 bytes t stands) h)
 
--- a file of a plan that may fail is lacking where no count of faults rises, and so the call ends with a fault of reading
+-- a file of a plan that may fail is lacking if no count of faults rises; and then the call ends with a fault of reading
 pub missed_ends : (seen : Seen) (files : Files) (plan : Plan) → seen.held ≡ Some files
     → ¬ (Rose seen.faults_before seen.faults_after) → MayMiss seen plan → EndsOn files plan ReadFault
 missed_ends seen files (Answers cases) held steady missed = absurd missed
@@ -66,5 +66,5 @@ missed_ends seen files (Reads kind file next) held steady (inl (inl rose)) = abs
 missed_ends seen files (Reads kind file next) held steady (inl (inr lacks)) =
     Lacking (given_none seen.held files file held lacks) refl
 missed_ends seen files (Reads kind file next) held steady (inr (t, (gives, missed))) =
-    Stands gives.bytes (given seen.held files file gives.bytes held gives.held) gives.within t gives.stands
+    Represented gives.bytes (given seen.held files file gives.bytes held gives.held) gives.within t gives.stands
     (missed_ends seen files (next t) held steady missed)

@@ -1,4 +1,4 @@
--- laws of plans: tables, files, how a call ends, what its status means, and what is answered behind a file; worked values
+-- laws of plans: tables, files, how a call ends, what its status means, and the answers after a file; worked values
 pub mod Rows
 pub mod GivenFiles
 pub mod HeldPlans

@@ -1,4 +1,4 @@
--- What an answer that was written says of its status.
+-- What a written answer says of its status.
 use Rattle.std.proofs.Common.{◌≡◌, ◌⊎◌, ℕ, List, Option, refl, sym, ◌∙◌, ap, subst, inl, inr}
 use Rattle.outside_io.specs.Counts.{one_more}
 use Rattle.call_plans.specs.declared.status.Status.{Status}
@@ -10,7 +10,7 @@ use Rattle.call_plans.specs.OnFiles.{IsNoText, Unread, OverLimit, Bad, Without, 
 use Rattle.call_plans.specs.Plans.{Plan, Answers, Reads, OnPlan}
 use Rattle.call_plans.specs.Meanings.{Appended, Wrote, WroteRefusal, MayMiss}
 use Rattle.call_plans.specs.Lawful.{HasSorts}
-use Rattle.call_plans.proofs.Rows.{told_answer}
+use Rattle.call_plans.proofs.Rows.{row_is_answer}
 
 -- no status is of two sorts
 answer_refusal : (r : Sort) → r ≡ Answer → r ≡ Refusal → ⊥
@@ -50,7 +50,7 @@ wrote_of seen put count (Reads kind file next) s x sorts is (Of t gives on) appe
 pub refused_of : (seen : Seen) (put : Put) (count : Option ℕ) (plan : Plan) (s : Status) (x : List ℕ) → HasSorts plan
     → sort_of s ≡ Refusal → OnPlan seen count plan s x → Appended put x → WroteRefusal seen put plan s
 refused_of seen put count (Answers cases) s x sorts is on appended =
-    absurd (answer_refusal (sort_of s) (told_answer cases s x sorts on.1) is)
+    absurd (answer_refusal (sort_of s) (row_is_answer cases s x sorts on.1) is)
 refused_of seen put count (Reads kind file next) s x sorts is (Without counted (Unread h)) appended =
     absurd (refusal_other (sort_of s) is (fault_other s h.ends))
 refused_of seen put count (Reads kind file next) s x sorts is (Without counted (OverLimit h)) appended =
@@ -64,7 +64,7 @@ refused_of seen put count (Reads kind file next) s x sorts is (Of t gives on) ap
 pub missed_of : (seen : Seen) (count : Option ℕ) (plan : Plan) (s : Status) (x : List ℕ) → HasSorts plan
     → s ≡ ReadFault → OnPlan seen count plan s x → MayMiss seen plan
 missed_of seen count (Answers cases) s x sorts is on =
-    absurd (answer_other (sort_of s) (told_answer cases s x sorts on.1) (fault_other s is))
+    absurd (answer_other (sort_of s) (row_is_answer cases s x sorts on.1) (fault_other s is))
 missed_of seen count (Reads kind file next) s x sorts is (Without counted (Unread h)) = inl h.fault
 missed_of seen count (Reads kind file next) s x sorts is (Without counted (OverLimit h)) =
     absurd (refusal_other (sort_of s) (refused_refusal kind sorts.0 s h.ends) (fault_other s is))
@@ -76,7 +76,7 @@ missed_of seen count (Reads kind file next) s x sorts is (Of t gives on) =
 -- a plan answers with the status of an answer, with that of a refusal, or with a fault of reading
 pub sort_in : (seen : Seen) (count : Option ℕ) (plan : Plan) (s : Status) (x : List ℕ) → HasSorts plan
     → OnPlan seen count plan s x → (sort_of s ≡ Answer) ⊎ ((sort_of s ≡ Refusal) ⊎ (s ≡ ReadFault))
-sort_in seen count (Answers cases) s x sorts on = inl (told_answer cases s x sorts on.1)
+sort_in seen count (Answers cases) s x sorts on = inl (row_is_answer cases s x sorts on.1)
 sort_in seen count (Reads kind file next) s x sorts (Without counted (Unread h)) = inr (inr h.ends)
 sort_in seen count (Reads kind file next) s x sorts (Without counted (OverLimit h)) =
     inr (inl (refused_refusal kind sorts.0 s h.ends))

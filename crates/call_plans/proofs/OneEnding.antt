@@ -7,13 +7,13 @@ use Rattle.call_plans.specs.declared.status.Status.TheVariants.{ReadFault}
 use Rattle.call_plans.specs.Calls.{Seen}
 use Rattle.call_plans.specs.Kinds.{TextKind}
 use Rattle.call_plans.specs.OnFiles.{read_fault_text}
-use Rattle.call_plans.specs.Plans.{Plan, Answers, Reads, Comes, IsLast, OnPlan}
-use Rattle.call_plans.specs.Endings.{FileIs, Lacking, TooLong, Nothing, Stands, EndsOn, IsHonest}
+use Rattle.call_plans.specs.Plans.{Plan, Answers, Reads, HasCase, IsLast, OnPlan}
+use Rattle.call_plans.specs.Endings.{FileIs, Lacking, TooLong, Nothing, Represented, EndsOn, IsHonest}
 use Rattle.call_plans.specs.Lawful.{IsDecided, IsLawful}
-use Rattle.call_plans.proofs.Rows.{told_comes, come_unique, told_unique}
+use Rattle.call_plans.proofs.Rows.{row_has_case, come_unique, row_unique}
 use Rattle.call_plans.proofs.HeldPlans.{HeldOn, held_of, ends_held}
 
--- a file that is there isn't lacking, and has one content
+-- a file that exists isn't lacking, and has one content
 not_there : (there : Option (List ℕ)) (bytes : List ℕ) → there ≡ None → there ≡ Some bytes → ⊥
 not_there there bytes none some = let e : ◌≡◌ {A = Option (List ℕ)} None (Some bytes) = sym none ∙ some in cc
 
@@ -34,22 +34,22 @@ module _ {T : Type 0} (kind : TextKind T) (decided : IsDecided kind) (there : Op
   file_unique m l b n (Lacking e h) (Lacking f k) = m h k
   file_unique m l b n (Lacking e h) (TooLong c f more k) = absurd (not_there there c e f)
   file_unique m l b n (Lacking e h) (Nothing c f within none k) = absurd (not_there there c e f)
-  file_unique m l b n (Lacking e h) (Stands c f within t stands k) = absurd (not_there there c e f)
+  file_unique m l b n (Lacking e h) (Represented c f within t stands k) = absurd (not_there there c e f)
   file_unique m l b n (TooLong a e more h) (Lacking f k) = absurd (not_there there a f e)
   file_unique m l b n (TooLong a e more h) (TooLong c f others k) = l h k
   file_unique m l b n (TooLong a e more h) (Nothing c f within none k) = absurd (too_long a c e f more within)
-  file_unique m l b n (TooLong a e more h) (Stands c f within t stands k) = absurd (too_long a c e f more within)
+  file_unique m l b n (TooLong a e more h) (Represented c f within t stands k) = absurd (too_long a c e f more within)
   file_unique m l b n (Nothing a e short nothing h) (Lacking f k) = absurd (not_there there a f e)
   file_unique m l b n (Nothing a e short nothing h) (TooLong c f more k) = absurd (too_long c a f e more short)
   file_unique m l b n (Nothing a e short nothing h) (Nothing c f within none k) =
       b a h (subst BadB (there_unique there c a f e) k)
-  file_unique m l b n (Nothing a e short nothing h) (Stands c f within t stands k) =
+  file_unique m l b n (Nothing a e short nothing h) (Represented c f within t stands k) =
       absurd (nothing t (subst (λ (bytes : List ℕ). kind.StandsFor bytes t) (there_unique there c a f e) stands))
-  file_unique m l b n (Stands a e short t stands h) (Lacking f k) = absurd (not_there there a f e)
-  file_unique m l b n (Stands a e short t stands h) (TooLong c f more k) = absurd (too_long c a f e more short)
-  file_unique m l b n (Stands a e short t stands h) (Nothing c f within none k) =
+  file_unique m l b n (Represented a e short t stands h) (Lacking f k) = absurd (not_there there a f e)
+  file_unique m l b n (Represented a e short t stands h) (TooLong c f more k) = absurd (too_long c a f e more short)
+  file_unique m l b n (Represented a e short t stands h) (Nothing c f within none k) =
       absurd (none t (subst (λ (bytes : List ℕ). kind.StandsFor bytes t) (there_unique there a c e f) stands))
-  file_unique m l b n (Stands a e short t stands h) (Stands c f within u others k) =
+  file_unique m l b n (Represented a e short t stands h) (Represented c f within u others k) =
       let same : u ≡ t = decided.one a u t
       (subst (λ (bytes : List ℕ). kind.StandsFor bytes u) (there_unique there c a f e) others) stands in
       n a t stands h (subst NextB same k)
@@ -57,7 +57,7 @@ module _ {T : Type 0} (kind : TextKind T) (decided : IsDecided kind) (there : Op
 -- on given files a plan answers with at most one status and one text
 pub held_unique : (files : Files) (plan : Plan) (s t : Status) (x y : List ℕ) → IsLawful plan → HeldOn files plan s x
     → HeldOn files plan t y → (s ≡ t) × (x ≡ y)
-held_unique files (Answers cases) s t x y lawful a b = told_unique cases s t x y lawful a b
+held_unique files (Answers cases) s t x y lawful a b = row_unique cases s t x y lawful a b
 held_unique files (Reads {T} kind file next) s t x y lawful a b =
     file_unique kind lawful.0 (get files file) ((s ≡ t) × (x ≡ y)) ((s ≡ ReadFault) × (x ≡ read_fault_text))
     ((t ≡ ReadFault) × (y ≡ read_fault_text)) ((s ≡ kind.refused) × (x ≡ kind.too_long))
@@ -96,13 +96,13 @@ module _ (seen : Seen) (files : Files) (count : Option ℕ) (plan : Plan) (held 
 -- if no file is read, the status and the text of an answer are unique, whatever the shelf discloses
 pub last_unique : (seen : Seen) (count : Option ℕ) (plan : Plan) (s t : Status) (x y : List ℕ) → IsLast plan
     → IsLawful plan → OnPlan seen count plan s x → OnPlan seen count plan t y → (s ≡ t) × (x ≡ y)
-last_unique seen count (Answers cases) s t x y last lawful a b = told_unique cases s t x y lawful a.1 b.1
+last_unique seen count (Answers cases) s t x y last lawful a b = row_unique cases s t x y lawful a.1 b.1
 last_unique seen count (Reads kind file next) s t x y last lawful a b = absurd last
 
 -- if no file is read, a call ends with a status exactly if it is that of the answer
 pub last_exactly : (seen : Seen) (files : Files) (count : Option ℕ) (plan : Plan) (s : Status) (x : List ℕ) → IsLast plan
     → IsLawful plan → OnPlan seen count plan s x → (t : Status) → (s ≡ t) ↔ EndsOn files plan t
 last_exactly seen files count (Answers cases) s x last lawful on t =
-    let comes = told_comes cases s x lawful on.1 in
-    (λ e. subst (λ (r : Status). Comes cases r) e comes, λ other. come_unique cases s t lawful comes other)
+    let comes = row_has_case cases s x lawful on.1 in
+    (λ e. subst (λ (r : Status). HasCase cases r) e comes, λ other. come_unique cases s t lawful comes other)
 last_exactly seen files count (Reads kind file next) s x last lawful on t = absurd last

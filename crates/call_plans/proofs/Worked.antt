@@ -1,4 +1,4 @@
--- The toy plan is lawful, and is answered as was worked out.
+-- The toy plan is lawful, and has the worked answers.
 use Rattle.std.proofs.Common.{◌≡◌, ◌≤◌, ◌<◌, ℕ, List, [], ◌∷◌, ◌++◌, length, Option, Some, None, refl, sym, ◌∙◌, ap, subst}
 use Rattle.std.proofs.Common.{arith, get_or, inl, inr, codes, min, ◌+◌, ◌-◌, ◌^◌, ◌⊎◌}
 use Rattle.std.proofs.Math.Nat.{min-eq_left}
@@ -13,9 +13,9 @@ use Rattle.call_plans.specs.declared.status.Status.{Status}
 use Rattle.call_plans.specs.declared.status.Status.TheVariants.{Done, Unknown, ReadFault, ProgramRefused, No}
 use Rattle.call_plans.specs.OnFiles.{Unread, OverLimit, Bad, Without, Of}
 use Rattle.call_plans.specs.OnFiles.{read_fault_text}
-use Rattle.call_plans.specs.Plans.{Cases, End, Case, Tells, Comes, OnPlan}
+use Rattle.call_plans.specs.Plans.{Cases, End, Case, HasRow, HasCase, OnPlan}
 use Rattle.call_plans.specs.Meanings.{Wrote, WroteRefusal, MayMiss}
-use Rattle.call_plans.specs.Endings.{Lacking, TooLong, Nothing, Stands, EndsOn, IsHonest}
+use Rattle.call_plans.specs.Endings.{Lacking, TooLong, Nothing, Represented, EndsOn, IsHonest}
 use Rattle.call_plans.specs.Lawful.{IsDecided, IsLawful}
 use Rattle.call_plans.specs.Worked.{counts, toy, with_bytes, with_another, shelf_with, Said, wrote}
 use Rattle.call_plans.specs.Worked.{PlansAreWorkedOut, StatusesHaveMeanings, PlansEnd}
@@ -42,7 +42,7 @@ never_more bytes few more =
     subst (λ (o : Option (List ℕ)). IsSomeAnd o (λ others. 3 < length others)) (has bytes) more in
     omega (arith, few, long)
 
--- nothing has risen
+-- no count of faults has risen
 pub steady : ¬ (Rose 2 2)
 steady (inl more) = omega (arith, more)
 steady (inr most) = omega (arith, most)
@@ -50,7 +50,7 @@ steady (inr most) = omega (arith, most)
 honest : (files : Files) (taken : ℕ) (s : Status) → IsHonest (shelf_with files taken) s
 honest files taken s = honest_without_rise (shelf_with files taken) steady s
 
--- the rest behind an `n` is one
+-- the rest after an `n` is unique
 rest_one : (rest others : List ℕ) → ◌≡◌ {A = List ℕ} (110 ∷ rest) (110 ∷ others) → rest ≡ others
 rest_one rest others e = cc
 
@@ -69,7 +69,7 @@ table_behind n = Case Unknown (0 < n) (λ text. (0 < n) × (text ≡ codes "some
 abbrev table : ℕ → Cases
 table n = Case Done (n ≡ 0) (λ text. (n ≡ 0) × (text ≡ codes "none")) (table_behind n)
 
-done_alone : (n : ℕ) (s : Status) → n ≡ 0 → ¬ (Comes (table_behind n) s)
+done_alone : (n : ℕ) (s : Status) → n ≡ 0 → ¬ (HasCase (table_behind n) s)
 done_alone n s zero_is (inl h) = let more : 0 < n = h.1 in omega (arith, zero_is, more)
 done_alone n s zero_is (inr never) = never
 
@@ -82,11 +82,11 @@ toy_lawful = (
   ),
 )
 
--- two disclosed counts that are the same
+-- equal disclosed counts are equal numbers
 pub some_one : (a b : ℕ) → ◌≡◌ {A = Option ℕ} (Some a) (Some b) → a ≡ b
 some_one a b e = cc
 
--- each file is answered
+-- each file has this answer
 lacking : Said with_another 0 ReadFault read_fault_text
 lacking = Without refl (Unread (record { fault = inr lacks; result_is = refl; ends = refl }))
 
@@ -181,16 +181,16 @@ worked = record {
   fetched_never = λ s x h. let e = fetched_one (with_bytes (codes "n")) 1 4 s x (omega arith) h in omega (arith, e);
 }
 
--- what a table answers with `Done`, and with the status of no row
-told_done : (n : ℕ) (x : List ℕ) → Tells (table n) Done x → (n ≡ 0) × (x ≡ codes "none")
-told_done n x (inl h) = h.1
-told_done n x (inr (inl h)) = let e : Done ≡ Unknown = h.0 in cc
-told_done n x (inr (inr never)) = absurd never
+-- the answers of a table with `Done`, and with the status of no row
+row_of_done : (n : ℕ) (x : List ℕ) → HasRow (table n) Done x → (n ≡ 0) × (x ≡ codes "none")
+row_of_done n x (inl h) = h.1
+row_of_done n x (inr (inl h)) = let e : Done ≡ Unknown = h.0 in cc
+row_of_done n x (inr (inr never)) = absurd never
 
-told_no : (n : ℕ) (x : List ℕ) → ¬ (Tells (table n) No x)
-told_no n x (inl h) = let e : No ≡ Done = h.0 in cc
-told_no n x (inr (inl h)) = let e : No ≡ Unknown = h.0 in cc
-told_no n x (inr (inr never)) = never
+no_row_of_no : (n : ℕ) (x : List ℕ) → ¬ (HasRow (table n) No x)
+no_row_of_no n x (inl h) = let e : No ≡ Done = h.0 in cc
+no_row_of_no n x (inr (inl h)) = let e : No ≡ Unknown = h.0 in cc
+no_row_of_no n x (inr (inr never)) = never
 
 -- a list of no length is empty
 no_length : (rest : List ℕ) → length rest ≡ 0 → rest ≡ []
@@ -201,7 +201,7 @@ no_length (b ∷ rest) e = absurd (omega (arith, e))
 wrote_done : (bytes written : List ℕ) (taken : ℕ) → Wrote (shelf_with (with_bytes bytes) taken) (wrote written) toy Done
     → (bytes ≡ 110 ∷ []) × (written ≡ codes "none")
 wrote_done bytes written taken (n, (gives, (x, (told, appended)))) =
-    let is = told_done n x told in
+    let is = row_of_done n x told in
     let rest = gives.stands.0 in
     let empty_rest : length rest ≡ 0 = sym gives.stands.1.1 ∙ is.0 in (
       has_one bytes gives.bytes gives.held ∙ (gives.stands.1.0 ∙ ap (λ (r : List ℕ). 110 ∷ r) (no_length rest empty_rest)),
@@ -236,7 +236,7 @@ meanings = record {
   in_part = λ h. let e = (wrote_done (codes "n") (codes "non") 1 h).1 in omega (arith, ap length e);
   nothing = λ h. let e = (wrote_done (codes "n") [] 1 h).1 in omega (arith, ap length e);
   other_file = λ h. let e = (wrote_done (codes "no") (codes "none") 2 h).0 in omega (arith, ap length e);
-  no_row = λ (n, (gives, (x, (told, appended)))). told_no n x told;
+  no_row = λ (n, (gives, (x, (told, appended)))). no_row_of_no n x told;
   refused = inl (
     codes "bad",
     (
@@ -262,10 +262,10 @@ ends_bad : EndsOn (with_bytes (codes "m")) toy ProgramRefused
 ends_bad = Nothing (codes "m") (has (codes "m")) (omega arith) (λ n h. not_n h.0 h.1.0) refl
 
 ends_none : EndsOn (with_bytes (codes "n")) toy Done
-ends_none = Stands (codes "n") (has (codes "n")) (omega arith) 0 ([], (refl, refl)) (inl (refl, refl))
+ends_none = Represented (codes "n") (has (codes "n")) (omega arith) 0 ([], (refl, refl)) (inl (refl, refl))
 
 ends_some : EndsOn (with_bytes (codes "nop")) toy Unknown
-ends_some = Stands (codes "nop") (has (codes "nop")) (omega arith) 2 (codes "op", (refl, refl)) (inr (inl (refl, omega arith)))
+ends_some = Represented (codes "nop") (has (codes "nop")) (omega arith) 2 (codes "op", (refl, refl)) (inr (inl (refl, omega arith)))
 
 pub endings : PlansEnd
 endings = record {

@@ -1,4 +1,4 @@
--- The plan that reads two files is answered as was worked out.
+-- The plan that reads two files has the worked answers.
 use Rattle.std.proofs.Common.{◌≡◌, ◌≤◌, ◌<◌, ℕ, List, [], ◌∷◌, ◌++◌, length, Option, Some, None, refl, sym, ◌∙◌, ap, subst}
 use Rattle.std.proofs.Common.{arith, get_or, inl, inr, codes, ◌+◌, ◌⊎◌}
 use Rattle.std.proofs.lemmas.List.{append_cancel_left}
@@ -13,9 +13,9 @@ use Rattle.call_plans.specs.declared.status.Status.TheVariants.{Done, Unknown, R
 use Rattle.call_plans.specs.Gives.{Gives}
 use Rattle.call_plans.specs.OnFiles.{IsNoText, Unread, OverLimit, Bad, Without, Of}
 use Rattle.call_plans.specs.OnFiles.{read_fault_text}
-use Rattle.call_plans.specs.Plans.{Cases, End, Case, Tells, Comes}
+use Rattle.call_plans.specs.Plans.{Cases, End, Case, HasRow, HasCase}
 use Rattle.call_plans.specs.Meanings.{Wrote, WroteRefusal, MayMiss}
-use Rattle.call_plans.specs.Endings.{Lacking, TooLong, Nothing, Stands, EndsOn}
+use Rattle.call_plans.specs.Endings.{Lacking, TooLong, Nothing, Represented, EndsOn}
 use Rattle.call_plans.specs.Lawful.{IsLawful}
 use Rattle.call_plans.specs.Worked.{counts, with_bytes, with_another, wrote}
 use Rattle.call_plans.specs.WorkedPairs.{pair, with_both, shelf_after, Said}
@@ -23,7 +23,7 @@ use Rattle.call_plans.specs.WorkedPairs.{PairsAreWorkedOut, PairStatusesHaveMean
 use Rattle.call_plans.proofs.OneEnding.{ends_unique}
 use Rattle.call_plans.proofs.Worked.{counts_decided, has, lacks, steady, not_n, some_one}
 
--- both files of these contents, and what isn't in the contents with one file
+-- both files of these contents, and the files that the contents with one file lack
 has_first : (f g : List ℕ) → get (with_both f g) (codes "f") ≡ Some f
 has_first f g = get-insert nat_list_cmp_total (insert empty (codes "g") g) (codes "f") f (codes "f")
 
@@ -36,13 +36,13 @@ lacks_second : (f : List ℕ) → get (with_bytes f) (codes "g") ≡ None
 lacks_second f =
     get-insert nat_list_cmp_total empty (codes "f") f (codes "g") ∙ get-empty (slice_cmp nat_cmp) (codes "g")
 
--- a file that is there, of at most three bytes
+-- a file that exists, of at most three bytes
 module _ (files : Files) (fetches taken : ℕ) (file bytes : List ℕ) (there : get files file ≡ Some bytes)
     (few : length bytes ≤ 3) where
   same_bytes : (others : List ℕ) → get files file ≡ Some others → bytes ≡ others
   same_bytes others e = let both : Some bytes ≡ Some others = sym there ∙ e in cc
 
-  -- it may not miss
+  -- the fetch of the file can't fail
   never_missed : ¬ (Rose 2 2 ⊎ (get files file ≡ None))
   never_missed (inl rose) = steady rose
   never_missed (inr none) = let e : ◌≡◌ {A = Option (List ℕ)} (Some bytes) None = sym there ∙ none in cc
@@ -53,7 +53,7 @@ module _ (files : Files) (fetches taken : ℕ) (file bytes : List ℕ) (there : 
       subst (λ (o : Option (List ℕ)). IsSomeAnd o (λ others. 3 < length others)) there more in
       omega (arith, few, long)
 
-  -- where it gives no text, it begins with no `n`, and is refused as bad
+  -- if the file has no text of the kind, it doesn't begin with `n`, and is refused as bad
   refused_as_bad : (s : Status) (x : List ℕ) → IsNoText counts (shelf_after files fetches taken) file s x
       → ((rest : List ℕ) → ¬ (bytes ≡ 110 ∷ rest)) × ((s ≡ ProgramRefused) × (x ≡ codes "bad"))
   refused_as_bad s x (Unread h) = absurd (never_missed h.fault)
@@ -61,7 +61,7 @@ module _ (files : Files) (fetches taken : ℕ) (file bytes : List ℕ) (there : 
   refused_as_bad s x (Bad h) =
       (λ rest e. h.refused.0 rest (sym (same_bytes h.bytes h.fetched.held) ∙ e), (h.ends, h.refused.1))
 
-  -- where it gives one, it stands for the number of the bytes behind an `n`
+  -- if the file has a text of the kind, it means the number of the bytes after an `n`
   gives_number : (Last : Type 0) (n : ℕ) → Gives counts (shelf_after files fetches taken) file Last n
       → (rest : List ℕ) × ((bytes ≡ 110 ∷ rest) × (n ≡ length rest))
   gives_number Last n gives =
@@ -72,7 +72,7 @@ module _ (files : Files) (fetches taken : ℕ) (file bytes : List ℕ) (there : 
       → taken ≡ length bytes
   takes_all Last n last gives = gives.taken last ∙ ap length (sym (same_bytes gives.bytes gives.held))
 
--- the number of `n` and others
+-- the number that `n` and other bytes mean
 number_is : (bytes : List ℕ) (k n : ℕ) → length bytes ≡ k + 1 → (rest : List ℕ) × ((bytes ≡ 110 ∷ rest) × (n ≡ length rest))
     → n ≡ k
 number_is bytes k n long (rest, (is, number)) =
@@ -92,7 +92,7 @@ table_behind m n = Case Unknown (m ≢ n) (λ text. (m ≢ n) × (text ≡ codes
 abbrev table : ℕ → ℕ → Cases
 table m n = Case Done (m ≡ n) (λ text. (m ≡ n) × (text ≡ codes "same")) (table_behind m n)
 
-done_alone : (m n : ℕ) (s : Status) → m ≡ n → ¬ (Comes (table_behind m n) s)
+done_alone : (m n : ℕ) (s : Status) → m ≡ n → ¬ (HasCase (table_behind m n) s)
 done_alone m n s same (inl h) = h.1 same
 done_alone m n s same (inr never) = never
 
@@ -108,18 +108,18 @@ pair_lawful = (
   ),
 )
 
--- what the table says of equal and of different numbers
-told_same : (m n : ℕ) (s : Status) (x : List ℕ) → m ≡ n → Tells (table m n) s x → (s ≡ Done) × (x ≡ codes "same")
-told_same m n s x same (inl h) = (h.0, h.1.1)
-told_same m n s x same (inr (inl h)) = absurd (h.1.0 same)
-told_same m n s x same (inr (inr never)) = absurd never
+-- the answers of the table for equal and for different numbers
+row_of_equal : (m n : ℕ) (s : Status) (x : List ℕ) → m ≡ n → HasRow (table m n) s x → (s ≡ Done) × (x ≡ codes "same")
+row_of_equal m n s x same (inl h) = (h.0, h.1.1)
+row_of_equal m n s x same (inr (inl h)) = absurd (h.1.0 same)
+row_of_equal m n s x same (inr (inr never)) = absurd never
 
-told_other : (m n : ℕ) (s : Status) (x : List ℕ) → m ≢ n → Tells (table m n) s x → (s ≡ Unknown) × (x ≡ codes "other")
-told_other m n s x other (inl h) = absurd (other h.1.0)
-told_other m n s x other (inr (inl h)) = (h.0, h.1.1)
-told_other m n s x other (inr (inr never)) = absurd never
+row_of_different : (m n : ℕ) (s : Status) (x : List ℕ) → m ≢ n → HasRow (table m n) s x → (s ≡ Unknown) × (x ≡ codes "other")
+row_of_different m n s x other (inl h) = absurd (other h.1.0)
+row_of_different m n s x other (inr (inl h)) = (h.0, h.1.1)
+row_of_different m n s x other (inr (inr never)) = absurd never
 
--- what a file stands for
+-- the meaning of a file
 number_of : (files : Files) (fetches taken : ℕ) (file rest : List ℕ) (Last : Type 0)
     → get files file ≡ Some (110 ∷ rest) → length rest ≤ 2 → (Last → taken ≡ length (110 ∷ rest))
     → Gives counts (shelf_after files fetches taken) file Last (length rest)
@@ -131,7 +131,7 @@ number_of files fetches taken file rest Last there few all = record {
   stands = (rest, (refl, refl));
 }
 
--- `m` stands for nothing
+-- the file `m` has no meaning
 no_number : (files : Files) (fetches : ℕ) (file : List ℕ) → get files file ≡ Some (codes "m")
     → IsNoText counts (shelf_after files fetches 1) file ProgramRefused (codes "bad")
 no_number files fetches file there = Bad (record {
@@ -141,7 +141,7 @@ no_number files fetches file there = Bad (record {
   ends = refl;
 })
 
--- each pair of files is answered
+-- each pair of files has this answer
 first_lacking : Said with_another 1 0 ReadFault read_fault_text
 first_lacking = Without refl (Unread (record { fault = inr lacks; result_is = refl; ends = refl }))
 
@@ -224,12 +224,12 @@ only_second fetches taken s x (Of m first (Without counted (Bad h))) =
 only_second fetches taken s x (Of m first (Of n second h)) =
     let e : ◌≡◌ {A = Option (List ℕ)} None (Some second.bytes) = sym (lacks_second (codes "no")) ∙ second.held in absurd cc
 
--- behind `no`, a second file of some bytes is compared with it
+-- after `no`, a second file of some bytes is compared with it
 module _ (rest : List ℕ) (few : length rest ≤ 2) (fetches taken : ℕ) (s : Status) (x : List ℕ) where
   abbrev both : Files
   both = with_both (codes "no") (110 ∷ rest)
 
-  compared : Said both fetches taken s x → (fetches ≡ 2) × ((taken ≡ length rest + 1) × Tells (table 1 (length rest)) s x)
+  compared : Said both fetches taken s x → (fetches ≡ 2) × ((taken ≡ length rest + 1) × HasRow (table 1 (length rest)) s x)
   compared (Without counted h) = absurd (first_number both fetches taken s x (has_first (codes "no") (110 ∷ rest)) h)
   compared (Of m first (Without counted h)) =
       absurd ((refused_as_bad both fetches taken (codes "g") (110 ∷ rest) (has_second (codes "no") (110 ∷ rest))
@@ -246,7 +246,7 @@ module _ (rest : List ℕ) (few : length rest ≤ 2) (fetches taken : ℕ) (s : 
         two_fetches fetches h.0,
         (
           omega (arith, all),
-          subst (λ (k : ℕ). Tells (table 1 k) s x) two (subst (λ (k : ℕ). Tells (table k n) s x) one h.1),
+          subst (λ (k : ℕ). HasRow (table 1 k) s x) two (subst (λ (k : ℕ). HasRow (table k n) s x) one h.1),
         ),
       )
 
@@ -264,10 +264,10 @@ worked_pairs = record {
   only_second = only_second;
   only_same = λ fetches taken s x h.
       let is = compared (codes "n") (omega arith) fetches taken s x h in
-      (is.0, (is.1.0, told_same 1 1 s x refl is.1.1));
+      (is.0, (is.1.0, row_of_equal 1 1 s x refl is.1.1));
   only_other = λ fetches taken s x h.
       let is = compared [] (omega arith) fetches taken s x h in
-      (is.0, (is.1.0, told_other 1 0 s x one_not_zero is.1.1));
+      (is.0, (is.1.0, row_of_different 1 0 s x one_not_zero is.1.1));
 }
 
 -- with `Done` both files stand for the same number
@@ -281,7 +281,7 @@ not_same (m, (first, (n, (second, (x, (told, appended)))))) =
     number_is (codes "n") 0 n refl
     (gives_number files 2 1 (codes "g") (codes "n") (has_second (codes "no") (codes "n")) (omega arith) ⊤ n second) in
     let differ : m ≢ n = λ same_number. omega (arith, one, two, same_number) in
-    let e : Done ≡ Unknown = (told_other m n Done x differ told).0 in
+    let e : Done ≡ Unknown = (row_of_different m n Done x differ told).0 in
     cc
 
 not_refused : ¬ (WroteRefusal (shelf_after (with_both (codes "no") (codes "n")) 2 1) (wrote (codes "bad")) pair ProgramRefused)
@@ -372,21 +372,21 @@ ends_hidden = Nothing (codes "m") (has (codes "m")) (omega arith) (λ n h. not_n
 
 ends_same : EndsOn (with_both (codes "no") (codes "nn")) pair Done
 ends_same =
-    Stands (codes "no") (has_first (codes "no") (codes "nn")) (omega arith) 1 (codes "o", (refl, refl))
-    (Stands (codes "nn") (has_second (codes "no") (codes "nn")) (omega arith) 1 (codes "n", (refl, refl)) (inl (refl, refl)))
+    Represented (codes "no") (has_first (codes "no") (codes "nn")) (omega arith) 1 (codes "o", (refl, refl))
+    (Represented (codes "nn") (has_second (codes "no") (codes "nn")) (omega arith) 1 (codes "n", (refl, refl)) (inl (refl, refl)))
 
 ends_other : EndsOn (with_both (codes "no") (codes "n")) pair Unknown
 ends_other =
-    Stands (codes "no") (has_first (codes "no") (codes "n")) (omega arith) 1 (codes "o", (refl, refl))
-    (Stands (codes "n") (has_second (codes "no") (codes "n")) (omega arith) 0 ([], (refl, refl))
+    Represented (codes "no") (has_first (codes "no") (codes "n")) (omega arith) 1 (codes "o", (refl, refl))
+    (Represented (codes "n") (has_second (codes "no") (codes "n")) (omega arith) 0 ([], (refl, refl))
     (inr (inl (refl, one_not_zero))))
 
 pub pair_endings : PairsEnd
 pair_endings = record {
   hidden = ends_hidden;
-  lacking = Stands (codes "no") (has (codes "no")) (omega arith) 1 (codes "o", (refl, refl))
+  lacking = Represented (codes "no") (has (codes "no")) (omega arith) 1 (codes "o", (refl, refl))
       (Lacking (lacks_second (codes "no")) refl);
-  bad = Stands (codes "no") (has_first (codes "no") (codes "m")) (omega arith) 1 (codes "o", (refl, refl))
+  bad = Represented (codes "no") (has_first (codes "no") (codes "m")) (omega arith) 1 (codes "o", (refl, refl))
       (Nothing (codes "m") (has_second (codes "no") (codes "m")) (omega arith) (λ n h. not_n h.0 h.1.0) refl);
   same = ends_same;
   other = ends_other;

@@ -13,7 +13,7 @@ pub record Seen : Type 0 where
   pub fetches_after : Option ℕ
   pub taken : ℕ
 
--- what was seen of a shelf that a call found so and left so, by what the shelf's type means
+-- what was seen of a shelf that had this state before a call and that one after it, by the meanings of the shelf's type
 abbrev pub seen_of : {F : Type 0} → shelf.Ghosts F → F → F → Seen
 seen_of means before after = record {
   held = means.held before;
@@ -32,7 +32,7 @@ pub record Put : Type 0 where
   pub written_before : Option (List ℕ)
   pub written_after : Option (List ℕ)
 
--- what was put into a sink that a call found so and left so, by what the sink's type means
+-- what was put into a sink that had this state before a call and that one after it, by the meanings of the sink's type
 abbrev pub put_of : {S : Type 0} → sink.Ghosts S → S → S → Put
 put_of means before after = record {
   faults_before = means.faults before;

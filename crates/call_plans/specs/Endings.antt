@@ -7,9 +7,9 @@ use Rattle.call_plans.specs.declared.status.Status.{Status}
 use Rattle.call_plans.specs.declared.status.Status.TheVariants.{ReadFault}
 use Rattle.call_plans.specs.Calls.{Seen}
 use Rattle.call_plans.specs.Kinds.{TextKind}
-use Rattle.call_plans.specs.Plans.{Plan, Answers, Reads, Comes}
+use Rattle.call_plans.specs.Plans.{Plan, Answers, Reads, HasCase}
 
--- a file is lacking, has too many bytes, its bytes stand for nothing, or they stand for a thing; and this holds then
+-- a file is lacking, has too many bytes, its bytes have no meaning, or they have one; and in each case this holds
 pub data FileIs {T : Type 0} (kind : TextKind T) (there : Option (List ℕ)) (Missing Long : Type 0)
     (Bad : List ℕ → Type 0) (Next : T → Type 0) : Type 0 where
   Lacking : there ≡ None → Missing → FileIs kind there Missing Long Bad Next
@@ -17,17 +17,17 @@ pub data FileIs {T : Type 0} (kind : TextKind T) (there : Option (List ℕ)) (Mi
       → FileIs kind there Missing Long Bad Next
   Nothing : (bytes : List ℕ) → there ≡ Some bytes → length bytes ≤ kind.limit
       → ((t : T) → ¬ (kind.StandsFor bytes t)) → Bad bytes → FileIs kind there Missing Long Bad Next
-  Stands : (bytes : List ℕ) → there ≡ Some bytes → length bytes ≤ kind.limit → (t : T) → kind.StandsFor bytes t
+  Represented : (bytes : List ℕ) → there ≡ Some bytes → length bytes ≤ kind.limit → (t : T) → kind.StandsFor bytes t
       → Next t → FileIs kind there Missing Long Bad Next
 
--- on these files a call with this plan ends with this status
+-- a call with this plan ends with this status on these files
 abbrev pub EndsOn : Files → Plan → Status → Type 0
-EndsOn files (Answers cases) s = Comes cases s
+EndsOn files (Answers cases) s = HasCase cases s
 EndsOn files (Reads kind file next) s =
     FileIs kind (get files file) (s ≡ ReadFault) (s ≡ kind.refused) (λ bytes. s ≡ kind.refused)
     (λ t. EndsOn files (next t) s)
 
--- a fault of reading comes only of a file that the shelf lacks, not of a rise of its count of faults
+-- a fault of reading comes only from a file that the shelf lacks, not from a rise of its count of faults
 abbrev pub IsHonest : Seen → Status → Type 0
 IsHonest seen s = s ≡ ReadFault → (name : List ℕ) → MayFail seen.held name seen.faults_before seen.faults_after
     → Lacks seen.held name

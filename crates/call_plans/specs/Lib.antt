@@ -1,4 +1,4 @@
--- what calls are: statuses, kinds of text, plans, and how a plan is answered
+-- what calls are: statuses, kinds of text, plans, and the answers of a plan
 pub mod Numbers
 pub mod Sorts
 pub mod Calls

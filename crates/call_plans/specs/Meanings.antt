@@ -6,7 +6,7 @@ use Rattle.call_plans.specs.declared.status.Status.{Status}
 use Rattle.call_plans.specs.Calls.{Seen, Put}
 use Rattle.call_plans.specs.Gives.{Gives}
 use Rattle.call_plans.specs.OnFiles.{IsOverLimit, IsBad}
-use Rattle.call_plans.specs.Plans.{Plan, Answers, Reads, Tells, IsLast}
+use Rattle.call_plans.specs.Plans.{Plan, Answers, Reads, HasRow, IsLast}
 
 -- this text was appended, whole
 abbrev pub Appended : Put → List ℕ → Type 0
@@ -14,12 +14,12 @@ Appended put x = Appends put.written_before put.written_after x
 
 -- all files of the plan gave what it reads, and a text was appended, whole, of a row with this status
 abbrev pub Wrote : Seen → Put → Plan → Status → Type 0
-Wrote seen put (Answers cases) s = (x : List ℕ) × (Tells cases s x × Appended put x)
+Wrote seen put (Answers cases) s = (x : List ℕ) × (HasRow cases s x × Appended put x)
 Wrote seen put (Reads {T} kind file next) s =
     (t : T) × (Gives kind seen file (IsLast (next t)) t × Wrote seen put (next t) s)
 
 -- the files before some file of the plan gave what it reads, and a text was appended, whole, that refuses this file: as
--- too long, or because its bytes stand for nothing
+-- too long, or because its bytes have no meaning
 abbrev pub WroteRefusal : Seen → Put → Plan → Status → Type 0
 WroteRefusal seen put (Answers cases) s = ⊥
 WroteRefusal seen put (Reads {T} kind file next) s =

@@ -1,4 +1,4 @@
--- What is answered because of a file: that it gives no text of a kind, or what its text stands for is answered.
+-- The answers because of a file: that it has no text of a kind, or that for the meaning of its text.
 use Rattle.std.specs.Prelude.{◌≡◌, ◌≤◌, ℕ, List, Option, length, codes}
 use Rattle.outside_io.specs.Files.{IsHeld}
 use Rattle.outside_io.specs.Fetching.{IsTooLong, MayFail}
@@ -8,7 +8,7 @@ use Rattle.call_plans.specs.Calls.{Seen}
 use Rattle.call_plans.specs.Kinds.{TextKind}
 use Rattle.call_plans.specs.Gives.{Gives}
 
--- the text where a file can't be read
+-- the text if a file can't be read
 abbrev pub read_fault_text : List ℕ
 read_fault_text = codes "read fault\n"
 
@@ -31,7 +31,7 @@ module _ {T : Type 0} (kind : TextKind T) (seen : Seen) (file : List ℕ) where
     pub result_is : text ≡ kind.too_long
     pub ends : status ≡ kind.refused
 
-  -- the bytes of the file stand for nothing, and the text says why
+  -- the bytes of the file have no meaning, and the text says why
   pub record IsBad (status : Status) (text : List ℕ) : Type 0 where
     pub bytes : List ℕ
     pub fetched : Fetches seen file kind.limit bytes
@@ -44,8 +44,8 @@ module _ {T : Type 0} (kind : TextKind T) (seen : Seen) (file : List ℕ) where
     OverLimit : IsOverLimit status text → IsNoText status text
     Bad : IsBad status text → IsNoText status text
 
-  -- the shelf's count of fetches being this behind the fetch of this file: the file gives no text of the kind, and
-  -- nothing is fetched behind it; or its text stands for a thing, and this is answered of the thing
+  -- if the shelf's count of fetches is this after the fetch of this file: the file has no text of the kind, and nothing
+  -- is fetched after it; or its text has a meaning, and this is the answer for it
   pub data OnFile (count : Option ℕ) (Last : T → Type 0) (Out : T → Status → List ℕ → Type 0) (status : Status)
       (text : List ℕ) : Type 0 where
     Without : seen.fetches_after ≡ count → IsNoText status text → OnFile count Last Out status text

@@ -3,7 +3,7 @@ use Rattle.call_plans.specs.declared.status.Status.{Status}
 use Rattle.call_plans.specs.declared.status.Status.TheVariants.{Done, Unknown, Usage, ReadFault, WriteFault, Memory}
 use Rattle.call_plans.specs.declared.status.Status.TheVariants.{ProgramRefused, ProofRefused, No, RunRefused, NotARun}
 
--- statuses that state what came of texts that were read, those that refuse a text, and the others
+-- statuses that give the result of texts that were read, those that refuse a text, and the others
 pub data Sort : Type 0 where
   Answer : Sort
   Refusal : Sort

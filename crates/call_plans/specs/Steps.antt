@@ -1,4 +1,4 @@
--- Intermediate results on the way to an answer: what bytes are read as, and what a file gives.
+-- Intermediate results on the way to an answer: the result of reading bytes, and that of fetching a file.
 use Rattle.std.specs.Prelude.{◌≡◌, ℕ, List, ⊤}
 use Rattle.call_plans.specs.declared.status.Status.TheVariants.{ReadFault}
 use Rattle.call_plans.specs.declared.reader.Read.{Read}
@@ -10,12 +10,12 @@ use Rattle.call_plans.specs.Kinds.{TextKind}
 use Rattle.call_plans.specs.Gives.{Gives}
 use Rattle.call_plans.specs.OnFiles.{IsNoText}
 
--- what bytes are read as: a thing that they stand for, or a text that refuses them
+-- the result of reading bytes: their meaning, or a text that refuses them
 abbrev pub IsRead : {P Thing : Type 0} → TextKind P → (Thing → P) → List ℕ → Read Thing → Type 0
 IsRead kind plain bytes (read_as.Thing thing) = kind.StandsFor bytes (plain thing)
 IsRead kind plain bytes (read_as.Refusal text) = kind.IsRefusedAs bytes text.items
 
--- what the last file that was fetched gives: a thing that its text stands for, or what is answered where it gives none
+-- the result of the last file that was fetched: the meaning of its text, or the answer if it has none
 abbrev pub IsGot : {P Thing : Type 0} → TextKind P → (Thing → P) → Seen → List ℕ → Got Thing → Type 0
 IsGot kind plain seen file (got_as.Thing thing) = Gives kind seen file ⊤ (plain thing)
 IsGot kind plain seen file (got_as.Answer said) = IsNoText kind seen file said.status said.text.items

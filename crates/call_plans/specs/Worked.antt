@@ -11,7 +11,8 @@ use Rattle.call_plans.specs.Plans.{Plan, Answers, Reads, End, Case, OnPlan}
 use Rattle.call_plans.specs.Meanings.{Wrote, WroteRefusal, MayMiss}
 use Rattle.call_plans.specs.Endings.{EndsOn}
 
--- texts of at most three bytes: an `n` before other bytes stands for their number, and other bytes are refused as `bad`
+-- texts of at most three bytes: the meaning of an `n` before other bytes is their number, and other bytes are refused
+-- as `bad`
 abbrev pub counts : TextKind ℕ
 counts = record {
   limit = 3;
@@ -45,12 +46,12 @@ with_bytes bytes = insert empty (codes "f") bytes
 abbrev pub with_another : Files
 with_another = insert empty (codes "g") (codes "n")
 
--- the toy plan answers so on a shelf with these contents
+-- the toy plan has this answer on a shelf with these contents
 abbrev pub Said : Files → ℕ → Status → List ℕ → Type 0
 Said files taken status text = OnPlan (shelf_with files taken) (Some 3) toy status text
 
--- a lacking file is a fault of reading, one of four bytes too long, one without `n` bad, and others stand for numbers;
--- each is answered with one status and its text; one fetch is counted for it, neither two nor none
+-- a lacking file is a fault of reading, one of four bytes too long, one without `n` bad, and others mean numbers; for
+-- each there is one answer, a status and a text; one fetch is counted for it, neither two nor none
 pub record PlansAreWorkedOut : Type 0 where
   pub lacking : Said with_another 0 ReadFault read_fault_text
   pub long : Said (with_bytes (codes "nnnn")) 0 ProgramRefused (codes "long")
@@ -67,7 +68,7 @@ pub record PlansAreWorkedOut : Type 0 where
   pub fetched_never : (status : Status) (text : List ℕ)
       → ¬ (OnPlan (shelf_with (with_bytes (codes "n")) 1) (Some 4) toy status text)
 
--- a sink without faults, into which one put wrote these bytes behind `old `
+-- a sink without faults, into which one put wrote these bytes after `old `
 abbrev pub wrote : List ℕ → Put
 wrote bytes = record {
   faults_before = 0;
@@ -78,8 +79,8 @@ wrote bytes = record {
   written_after = Some (codes "old " ++ bytes);
 }
 
--- with the status of a row a text of it was written, whole, on a file that gives what the row is for; with that of a
--- refusal one that refuses the file; and a file may fail only where it is lacking
+-- with the status of a row, a text of the row was written, whole, and the file has the meaning that the row is for;
+-- with the status of a refusal, a text that refuses the file was written; and a file may fail only if it is lacking
 pub record StatusesHaveMeanings : Type 0 where
   pub done : Wrote (shelf_with (with_bytes (codes "n")) 1) (wrote (codes "none")) toy Done
   pub in_part : ¬ (Wrote (shelf_with (with_bytes (codes "n")) 1) (wrote (codes "non")) toy Done)

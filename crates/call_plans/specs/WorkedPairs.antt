@@ -11,8 +11,8 @@ use Rattle.call_plans.specs.Meanings.{Wrote, WroteRefusal, MayMiss}
 use Rattle.call_plans.specs.Endings.{EndsOn}
 use Rattle.call_plans.specs.Worked.{counts, with_bytes, with_another, wrote}
 
--- `Done` with the text `same` where the files `f` and `g` stand for the same number, and `Unknown` with the text
--- `other` where they stand for different ones
+-- `Done` with the text `same` if the files `f` and `g` mean the same number, and `Unknown` with the text `other` if
+-- they mean different ones
 abbrev pub pair : Plan
 pair = Reads counts (codes "f") (λ m. Reads counts (codes "g")
     (λ n. Answers (Case Done (m ≡ n) (λ text. (m ≡ n) × (text ≡ codes "same"))
@@ -33,12 +33,12 @@ shelf_after files fetches taken = record {
   taken = taken;
 }
 
--- the plan answers so on a shelf with these contents, from which so many files were fetched
+-- the plan has this answer on a shelf with these contents, from which this many files were fetched
 abbrev pub Said : Files → ℕ → ℕ → Status → List ℕ → Type 0
 Said files fetches taken status text = OnPlan (shelf_after files fetches taken) (Some 3) pair status text
 
--- where the first file is lacking or refused, the second one isn't fetched, and nothing is said of it; behind a first
--- one that stands for a number the second one is fetched, once, and is lacking, too long, bad, or compared
+-- if the first file is lacking or refused, the second one isn't fetched, and the answer doesn't depend on it; after a
+-- first one that means a number the second one is fetched, once, and is lacking, too long, bad, or compared
 pub record PairsAreWorkedOut : Type 0 where
   pub first_lacking : Said with_another 1 0 ReadFault read_fault_text
   pub first_bad : Said (with_both (codes "m") (codes "n")) 1 1 ProgramRefused (codes "bad")
@@ -60,8 +60,8 @@ pub record PairsAreWorkedOut : Type 0 where
       → Said (with_both (codes "no") (codes "n")) fetches taken status text
       → (fetches ≡ 2) × ((taken ≡ 1) × ((status ≡ Unknown) × (text ≡ codes "other")))
 
--- the status of a row means that both files gave numbers; a refusal, that one was refused behind files that gave some;
--- and a fault of reading is one of a file that was reached
+-- the status of a row means that both files gave numbers; the status of a refusal, that a file was refused after those
+-- that gave some; and a fault of reading is one of a file that was reached
 pub record PairStatusesHaveMeanings : Type 0 where
   pub done : Wrote (shelf_after (with_both (codes "no") (codes "nn")) 2 2) (wrote (codes "same")) pair Done
   pub other_file : ¬ (Wrote (shelf_after (with_both (codes "no") (codes "n")) 2 1) (wrote (codes "same")) pair Done)
@@ -73,7 +73,8 @@ pub record PairStatusesHaveMeanings : Type 0 where
   pub missed : MayMiss (shelf_after (with_bytes (codes "no")) 2 0) pair
   pub not_reached : ¬ (MayMiss (shelf_after (with_bytes (codes "m")) 1 1) pair)
 
--- the contents of the shelf determine the status: a first file that is bad hides that the second one is lacking
+-- the contents of the shelf determine the status: if the first file is bad, it isn't seen that the second one is
+-- lacking
 pub record PairsEnd : Type 0 where
   pub hidden : EndsOn (with_bytes (codes "m")) pair ProgramRefused
   pub lacking : EndsOn (with_bytes (codes "no")) pair ReadFault

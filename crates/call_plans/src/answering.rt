@@ -1,9 +1,9 @@
-//! Reads a file and answers what its text stands for.
+//! Reads a file and gives the command's answer on it.
 
 ghost use Rattle.std.specs.Prelude.{◌≡◌, ◌≤◌, ◌<◌, List, ℕ, IfOk, string_bytes};
 ghost use Rattle.outside_io.specs.Counts.{one_more};
 ghost use Rattle.call_plans.specs.Calls.{seen_of};
-ghost use Rattle.call_plans.specs.Plans.{Answers, Reads, Tells, OnPlan};
+ghost use Rattle.call_plans.specs.Plans.{Answers, Reads, HasRow, OnPlan};
 
 use crate::reader::Reader;
 use crate::status::Status;
@@ -13,9 +13,9 @@ use model::Memory;
 use outside_io::Shelf;
 use std::alloc::Global;
 
-/// A reader of a command that answers by its table what the text of the file stands for.
+/// A reader of a command that answers by its table, for the meaning of the file's text.
 pub trait FileCommand: Reader {
-    /// What is answered of a thing that some bytes stand for.
+    /// The answer for a thing that some bytes represent.
     ///
     /// # Errors
     ///
@@ -24,11 +24,11 @@ pub trait FileCommand: Reader {
         requires ready { Self.ready self.now }
         requires read { (bytes : List ℕ) × (Self.kind self.now).StandsFor bytes (Self.plain thing.now) }
         ensures { IfOk result (λ said.
-            Tells (Self.answers self.now (Self.plain thing.now)) said.status said.text.items) };
+            HasRow (Self.answers self.now (Self.plain thing.now)) said.status said.text.items) };
 }
 
-/// Fetches the file of a command, once, and answers what its text stands for, or that the file gives no text of the
-/// command's kind. The shelf's contents don't change.
+/// Fetches the file of a command, once, and gives the answer for the meaning of its text, or that the file has no text
+/// of the command's kind. The shelf's contents don't change.
 ///
 /// # Errors
 ///

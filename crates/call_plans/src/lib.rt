@@ -1,9 +1,9 @@
 //! Plans of calls: which files a call reads, in which order and of which kinds, and the table by which it answers.
 //!
-//! Builds on `model` and `outside_io`. A command is one line of a table of plans. How a call ends, what its status means
-//! and when it comes are defined and proved here once for every plan: a file is lacking, too long, refused, or stands
-//! for something, and the next file is fetched behind it alone. [`take`] fetches a file and reads it by a [`Reader`];
-//! [`answer_file`] answers what the text of a command's last file stands for.
+//! Builds on `model` and `outside_io`. A command is one line of a table of plans. How a call ends, what its status
+//! means and when it comes are defined and proved here once for every plan: a file is lacking, too long, refused, or
+//! has a meaning, and only in the last case is the next file fetched. [`take`] fetches a file and reads it by a
+//! [`Reader`]; [`answer_file`] gives the answer for the text of a command's last file.
 #![tactic(auto)]
 
 mod answering;

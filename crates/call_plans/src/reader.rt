@@ -1,4 +1,4 @@
-//! Readers: what reads the text of a file of some kind.
+//! Readers of the texts of files of some kind.
 
 ghost use Rattle.std.specs.Prelude.{◌≡◌, ℕ, List, IfOk};
 ghost use Rattle.call_plans.specs.Kinds.{TextKind};
@@ -9,10 +9,10 @@ use crate::status::Status;
 use model::Memory;
 use std::alloc::Global;
 
-/// What bytes are read as.
+/// The result of reading bytes.
 #[derive(Drop)]
 pub enum Read<T> {
-    /// What they stand for.
+    /// The meaning of the bytes.
     Thing(T),
     /// The text that refuses them.
     Refusal(Vec<u8>),
@@ -20,11 +20,11 @@ pub enum Read<T> {
 
 /// A reader of texts of one kind.
 ///
-/// Its meanings are `Plain`, the plain data that texts stand for; `kind`, the kind of the texts; `plain`, a thing as
-/// plain data; `ready`, what holds of a reader that may read; and `answers`, the table by which a `FileCommand` answers
-/// what a text stands for, which is `End` for a reader that is none.
+/// Its meanings are `Plain`, the plain data that texts represent; `kind`, the kind of the texts; `plain`, a thing as
+/// plain data; `ready`, the property of a reader that may read; and `answers`, the table by which a `FileCommand`
+/// answers for a text, which is `End` for a reader that is none.
 pub trait Reader {
-    /// What a text stands for.
+    /// The meaning of a text.
     type Thing: Drop;
 
     ghost Plain: { Type 0 };
@@ -49,7 +49,7 @@ pub trait Reader {
     fn too_long(&self) -> &'static [u8]
         ensures { result.now ≡ (kind self.now).too_long };
 
-    /// What the bytes stand for, or the text that refuses them.
+    /// The meaning of the bytes, or the text that refuses them.
     ///
     /// # Errors
     ///

@@ -13,12 +13,12 @@ use model::Memory;
 use outside_io::{FetchError, Shelf};
 use std::alloc::{AllocError, Global};
 
-/// What a file gives.
+/// The result of fetching and reading a file.
 #[derive(Drop)]
 pub enum Got<T> {
-    /// What its text stands for.
+    /// The meaning of its text.
     Thing(T),
-    /// What is answered where it gives no text of the kind.
+    /// The answer if the file has no text of the kind.
     Answer(StatusText),
 }
 
@@ -60,7 +60,7 @@ pub fn take<R: Reader, F: Shelf>(
     }
 }
 
-// What a file with these bytes gives.
+// The result of reading a file with these bytes.
 fn read_text<R: Reader>(alloc: Global, reader: &R, bytes: &[u8]) -> Result<Got<R::Thing>, Memory>
     requires { R.ready reader.now }
     ensures { IfOk result (λ given. (seen : Seen) (file : List ℕ)

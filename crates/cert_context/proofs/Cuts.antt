@@ -14,19 +14,19 @@ module _ {A B : Type 0} (f : A → B) (xs : List A) where
         ∙ (ap (λ (ys : List A). map f (take i xs) ++ map f ys) (drop_more xs i x l)
         ∙ ap (λ (y : A). map f (take i xs) ++ f y ∷ map f (drop (i + 1) xs)) (sym e)))
 
-    -- one more is done
+    -- the images before the next position are those before this one, and that of the element at it
     pub done-more : map f (take (i + 1) xs) ≡ map f (take i xs) ++ f x ∷ []
     done-more = map_more f xs i x l ∙ ap (λ (y : A). map f (take i xs) ++ f y ∷ []) (sym e)
 
-  -- at the end all is done
+  -- at the end of a list, the images before the position are all images
   pub done-all : (i : ℕ) → length xs ≤ i → map f (take i xs) ≡ map f xs
   done-all i l = ap (map f) (take_all i xs l)
 
-  -- this many are done
+  -- the images before a position are as many as the position
   pub done-count : (i : ℕ) → i ≤ length xs → length (map f (take i xs)) ≡ i
   done-count i l = length-map (take i xs) f ∙ (let k = length-take i xs in omega (arith, k, l))
 
--- what holds of all images holds of that of the element at a position
+-- a property of all images is one of the image of the element at a position
 pub each-at : {A B : Type 0} (f : A → B) (P : B → Type 0) (xs : List A) (i : ℕ) (x : A) → i < length xs
     → x ≡ get_or xs i x → AllByRecursion P (map f xs) → P (f x)
 each-at f P [] i x l e h = absurd (omega (arith, l))

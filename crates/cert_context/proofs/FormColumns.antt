@@ -1,4 +1,4 @@
--- Forms column by column: rows with the same numbers, and how large these are.
+-- Forms column by column: forms with the same entries, and how large these are.
 use Rattle.std.proofs.Common.{◌≡◌, ℕ, zero, suc, ◌+◌, ◌<◌, ◌≤◌, List, [], ◌∷◌, ◌++◌, length, refl, sym, ap, ◌∙◌, subst}
 use Rattle.std.proofs.Common.{arith, ◌⊎◌, inl, inr, to_z, of_z, ◌↔◌, Bool}
 use Rattle.std.specs.Prelude.{ℤ, pos, negsuc, ◌+ℤ◌, ◌-ℤ◌, ◌*ℤ◌, ◌≤ℤ◌, unsigned_abs, nat_abs}
@@ -19,7 +19,7 @@ use Rattle.cert_context.specs.declared.columns.Column.{Column}
 use Rattle.cert_context.specs.declared.columns.Column.TheVariants as column
 use Rattle.cert_context.specs.Columns.{number_in, IsAlike, HasColumns}
 
--- a certificate for a form is one for each form with the same numbers
+-- if a form is implied, so is each form with the same entries
 pub alike-implies : (rows : List Form) (ms : List ℕ) (f g : Form) → IsAlike f g → Implies rows ms f → Implies rows ms g
 alike-implies rows ms f g h k = record {
   long = k.long;
@@ -30,7 +30,7 @@ alike-implies rows ms f g h k = record {
 pub alike-back : (f g : Form) → IsAlike f g → IsAlike g f
 alike-back f g h = record { coefs = λ u. sym (h.coefs u); constant = sym h.constant }
 
--- a column of a sum, and of a multiple
+-- the entry of a sum is the sum of the entries
 pub sum-column : (c : Column) (f g : Form) → number_in c (form_sum f g) ≡ number_in c f +ℤ number_in c g
 sum-column (column.Unknown u) f g = at-sum f.coefs g.coefs u
 sum-column column.Constant f g = refl
@@ -39,14 +39,14 @@ pub times-column : (c : Column) (k : ℤ) (f : Form) → number_in c (form_times
 times-column (column.Unknown u) k f = at-times k f.coefs u
 times-column column.Constant k f = refl
 
--- and of a difference
+-- the entry of a difference is the difference of the entries
 pub less-column : (c : Column) (f g : Form) → number_in c (less f g) ≡ number_in c f -ℤ number_in c g
 less-column c f g = regroup _ _ _ _ (sum-column c f (form_times (negsuc 0) g)) (times-column c (negsuc 0) g)
   where
     regroup : (s a b g : ℤ) → s ≡ a +ℤ b → b ≡ negsuc 0 *ℤ g → s ≡ a -ℤ g
     regroup s a b g e d = omega (arith, ints, e, d)
 
--- no numbers of columns
+-- the entries of no columns are the empty list
 pub columns-none : (f : ℕ → ℤ) (xs : List ℤ) → xs ≡ [] → HasColumns f 0 xs
 columns-none f xs e = record { long = ap length e; each = λ u l. absurd (omega (arith, l)) }
 
@@ -59,7 +59,7 @@ at-last : (xs : List ℤ) (x : ℤ) → at (xs ++ x ∷ []) (length xs) ≡ x
 at-last [] x = refl
 at-last (y ∷ xs) x = at-last xs x
 
--- and one more
+-- the entries of one more column are one more entry at the end
 pub columns-more : (f : ℕ → ℤ) (n : ℕ) (xs ys : List ℤ) (x : ℤ) → HasColumns f n xs → ys ≡ xs ++ x ∷ [] → x ≡ f n
     → HasColumns f (n + 1) ys
 columns-more f n xs ys x h e k = record {
@@ -79,7 +79,7 @@ at-past [] u l = refl
 at-past (x ∷ xs) zero l = absurd (omega (arith, l))
 at-past (x ∷ xs) (suc u) l = at-past xs u (omega (arith, l))
 
--- the numbers of a row are small, also where they aren't listed
+-- the entries of a row are small, also those that aren't listed
 pub number-small : (c : Column) (f : Form) → HasRowNumbers f → unsigned_abs (number_in c f) < row_limit
 number-small (column.Unknown u) f h = go (order u (length f.coefs))
   where
@@ -88,7 +88,7 @@ number-small (column.Unknown u) f h = go (order u (length f.coefs))
     go (inr l) = omega (arith, ap unsigned_abs (at-past f.coefs u l))
 number-small column.Constant f h = h.constant
 
--- and so are the numbers of a form within the limit
+-- the entries of a form within the limit are within it
 pub form-small : (c : Column) (f : Form) → IsFormInLimit f → unsigned_abs (number_in c f) ≤ certificate_limit
 form-small (column.Unknown u) f h = go (order u (length f.coefs))
   where
@@ -97,13 +97,13 @@ form-small (column.Unknown u) f h = go (order u (length f.coefs))
     go (inr l) = omega (arith, ap unsigned_abs (at-past f.coefs u l))
 form-small column.Constant f h = omega (arith, ints, h.constant)
 
--- a coefficient within the limit, read in 64 and then in 128 bits
+-- a coefficient within the limit is unchanged by reading it in 64 and then in 128 bits
 pub coef-read : (b r : ℤ) → nat_abs b ≤ certificate_limit → r ≡ to_z w64 (of_z w64 b) → to_z w128 (of_z w128 r) ≡ b
 coef-read b r h e =
     let same : r ≡ b = e ∙ to_z-of_z w64 b (fits_signed_from_abs w64 b (omega (arith, ints, h))) in
     to_z-of_z w128 r (fits_signed_from_abs w128 r (omega (arith, ints, h, ap unsigned_abs same))) ∙ same
 
--- a certificate for a form is one for a form with the same numbers, and the other way round
+-- a test that decides whether a form is implied decides it for each form with the same entries
 pub by-alike : (rows : List Form) (ms : List ℕ) (f g : Form) (b : Bool) → IsTrue b ↔ Implies rows ms f → IsAlike f g
     → IsTrue b ↔ Implies rows ms g
 by-alike rows ms f g b h a =

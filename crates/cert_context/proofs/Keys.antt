@@ -1,4 +1,4 @@
--- Positions of facts by key: what is entered, fact by fact, and the bound that is found.
+-- Positions of facts by key: entering them fact by fact, and the bound that is found.
 use Rattle.std.proofs.Common.{◌≡◌, ℕ, suc, ◌+◌, ◌==◌, ◌&&◌, ◌<◌, ◌≤◌, Bool, true, false, cond, List, [], ◌∷◌, ◌++◌, length, take, get_or}
 use Rattle.std.proofs.Common.{Option, Some, None, is_some, option_map, refl, sym, ap, ◌∙◌, subst, arith}
 use Rattle.std.specs.BTreeMap.{BTreeMap, get, is_at}
@@ -19,7 +19,7 @@ use Rattle.cert_context.specs.Lookups.{pair_cmp, first_of, is_time_of, is_size_o
 use Rattle.cert_context.specs.Lookups.{EntersTime, EntersSize, HasTimes, HasSizes}
 use Rattle.cert_context.proofs.Cuts.{done-more, done-all, done-count}
 
--- the first position among several, and one more
+-- the first of two positions is shifted by one if both are
 first-shift : (o : Option ℕ) (v : Option ℕ) → option_map suc (first_of o v) ≡ first_of (option_map suc o) (option_map suc v)
 first-shift None v = refl
 first-shift (Some n) v = refl
@@ -44,7 +44,7 @@ position-more {A} test (y ∷ xs) x n e = go (test y) (test x) (position-more te
         last true = ap (λ (m : ℕ). first_of (option_map suc (first_position test xs)) (Some m)) e
         last false = refl
 
--- the bound at a position, one behind
+-- the bound at a position is the same one position further on after one more fact
 shifted : (o : Option ℕ) (f : facts.Fact) (fs : List facts.Fact) → bound_at (f ∷ fs) (option_map suc o) ≡ bound_at fs o
 shifted None f fs = refl
 shifted (Some n) f fs = refl
@@ -62,7 +62,7 @@ time-found (Time u b ∷ fs) t = go (u == t) (shifted (first_position (is_time_o
 time-found (Size u i b ∷ fs) t = shifted (first_position (is_time_of t) fs) (Size u i b) fs ∙ time-found fs t
 time-found (Cost u b ∷ fs) t = shifted (first_position (is_time_of t) fs) (Cost u b) fs ∙ time-found fs t
 
--- and so with sizes
+-- the bound at the first position of a size of a place is its size
 pub size-found : (fs : List facts.Fact) (t i : ℕ) → bound_at fs (first_position (is_size_of t i) fs) ≡ size_in fs t i
 size-found [] t i = refl
 size-found (Time u b ∷ fs) t i = shifted (first_position (is_size_of t i) fs) (Time u b) fs ∙ size-found fs t i
@@ -83,7 +83,7 @@ module _ (refs : List (Bor Fact)) (i : ℕ) (r : Bor Fact) (l : i < length refs)
   count : length (facts_at (take i refs)) ≡ i
   count = done-count (λ (q : Bor Fact). fact_of q.now) refs i (omega (arith, l))
 
-  -- times of one fact more
+  -- after one more fact is entered, the map has the first times of one more fact
   pub times-more : (old new : BTreeMap ℕ ℕ) → HasTimes (facts_at (take i refs)) old → EntersTime old (fact_of r.now) i new
       → HasTimes (facts_at (take (i + 1) refs)) new
   times-more old new h k = record {
@@ -94,7 +94,7 @@ module _ (refs : List (Bor Fact)) (i : ℕ) (r : Bor Fact) (l : i < length refs)
         ∙ sym (ap (first_position (is_time_of t)) more)));
   }
 
-  -- sizes of one fact more
+  -- after one more fact is entered, the map has the first sizes of one more fact
   pub sizes-more : (old new : BTreeMap (ℕ × ℕ) ℕ) → HasSizes (facts_at (take i refs)) old
       → EntersSize old (fact_of r.now) i new → HasSizes (facts_at (take (i + 1) refs)) new
   sizes-more old new h k = record {
@@ -105,7 +105,7 @@ module _ (refs : List (Bor Fact)) (i : ℕ) (r : Bor Fact) (l : i < length refs)
         ∙ sym (ap (first_position (is_size_of t j)) more)));
   }
 
--- of all facts
+-- after all facts are entered, the map has the first times of all facts
 pub times-all : (refs : List (Bor Fact)) (i : ℕ) (times : BTreeMap ℕ ℕ) → length refs ≤ i
     → HasTimes (facts_at (take i refs)) times → HasTimes (facts_at refs) times
 times-all refs i times l h =
@@ -116,7 +116,7 @@ pub sizes-all : (refs : List (Bor Fact)) (i : ℕ) (sizes : BTreeMap (ℕ × ℕ
 sizes-all refs i sizes l h =
     subst (λ (fs : List facts.Fact). HasSizes fs sizes) (done-all (λ (q : Bor Fact). fact_of q.now) refs i l) h
 
--- two pairs are equal where both their numbers are
+-- two pairs compare as equal exactly if both of their numbers do
 both-equal : (o p : Ordering) → is_eq (ordering_then o p) ≡ (is_eq o && is_eq p)
 both-equal Less p = refl
 both-equal Equal p = refl
@@ -128,7 +128,7 @@ same-pair x q =
     ∙ (ap (λ (v : Bool). v && is_eq (nat_cmp x.1 q.1)) (unsigned_tied x.0 q.0)
     ∙ ap (λ (v : Bool). (x.0 == q.0) && v) (unsigned_tied x.1 q.1))
 
--- a size is entered where its place has none
+-- a size is entered unless its place has one
 pub size-entered : (old new : BTreeMap (ℕ × ℕ) ℕ) (t i position : ℕ) (b : plain.Bound) (fact : facts.Fact)
     → fact ≡ Size t i b → is_some (get pair_cmp old (t, i)) ≡ false
     → ((q : ℕ × ℕ) → get pair_cmp new q ≡ cond (is_at (pair_cmp (t, i)) q) (Some position) (get pair_cmp old q))

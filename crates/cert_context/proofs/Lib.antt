@@ -1,15 +1,15 @@
--- lists that are cut
+-- Lists that are split at a position.
 pub mod Cuts
 -- the prepared rows of rules
 pub mod Rows
 pub mod SuitedRows
--- the prepared rows of cost rules
+-- the prepared rows of cost rules, by rule
 pub mod PreparedCosts
--- facts of places
+-- facts of places, one after another
 pub mod PlaceFacts
--- facts that are kept
+-- stored facts, by position
 pub mod KeptFacts
--- facts joined
+-- joined facts and their tables
 pub mod JoinedFacts
 pub mod JoinedTables
 -- bounds by key

@@ -1,4 +1,4 @@
--- Bounds that are needed: what is known, and the first that isn't.
+-- Bounds that are needed: which are known, and the first that isn't.
 use Rattle.std.proofs.Common.{◌≡◌, ◌↔◌, ℕ, zero, suc, ◌+◌, ◌<◌, ◌≤◌, true, false, List, [], ◌∷◌, length, map, take, get_or}
 use Rattle.std.proofs.Common.{Option, Some, None, inl, inr, refl, sym, ◌∙◌, subst, arith}
 use Rattle.std.proofs.lemmas.List.{get_or_default}
@@ -10,7 +10,7 @@ use Rattle.gap_checks.specs.GapTests.{IsFirstFailing}
 use Rattle.cert_types.specs.cert_rules.Known.{IsKnown}
 use Rattle.cert_context.proofs.Cuts.{done-more, done-all}
 
--- a bound that was found is known, and where none was, none is
+-- a bound that was found is known, and an absent bound isn't
 pub known-found : (o : Option Bound) (b : Bound) → Some b ≡ o → IsTrue true ↔ IsKnown o
 known-found o b e = (λ t. (b, sym e), λ k. refl)
 
@@ -20,14 +20,14 @@ known-none o e = (λ t. absurd (let no : ⊥ = cc in no), λ k. absurd (differ k
     differ : (b : Bound) → None ≡ Some b → ⊥
     differ b h = cc
 
--- one more has it
+-- if the elements before a position have a property, and the one at it has, so have those up to it
 pub has-more : {A B : Type 0} (f : A → B) (P : B → Type 0) (xs : List A) (i : ℕ) (d : A) → i < length xs
     → All P (map f (take i xs)) → P (f (get_or xs i d)) → All P (map f (take (i + 1) xs))
 has-more f P xs i d l h k =
     subst (All P) (sym (done-more f xs i (get_or xs i d) l (get_or_default xs i d (get_or xs i d) l)))
     (All-push P (map f (take i xs)) (f (get_or xs i d)) h k)
 
--- one that hasn't, behind those that have, is the first
+-- if the elements before a position have a property, and the one at it hasn't, it is the first without it
 pub lacks-first : {A B : Type 0} (f : A → B) (P : B → Type 0) (xs : List A) (i : ℕ) (d : A) → i < length xs
     → All P (map f (take i xs)) → ¬ (P (f (get_or xs i d))) → IsFirstFailing P (map f xs) (f (get_or xs i d))
 lacks-first f P [] i d l h n = absurd (omega (arith, l))
@@ -45,7 +45,7 @@ lacks-here f P xs i x l e h n =
     subst (λ y. IsFirstFailing P (map f xs) (f y)) (sym e)
     (lacks-first f P xs i x l h (subst (λ y. ¬ (P (f y))) e n))
 
--- all have it
+-- if the elements before the end have a property, all have it
 pub has-all : {A B : Type 0} (f : A → B) (P : B → Type 0) (xs : List A) (i : ℕ) → length xs ≤ i → All P (map f (take i xs))
     → AllByRecursion P (map f xs)
 has-all f P xs i l h = recursion_from_All P (map f xs) (subst (All P) (done-all f xs i l) h)

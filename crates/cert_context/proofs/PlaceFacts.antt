@@ -1,4 +1,4 @@
--- Facts of places, one after the other.
+-- Facts of places, one after another.
 use Rattle.std.proofs.Common.{◌≡◌, ℕ, ◌+◌, ◌-◌, List, [], ◌∷◌, ◌++◌, ap}
 use Rattle.std.proofs.Common.{◌∙◌, refl, arith}
 use Rattle.std.specs.List.{range_with_len}
@@ -10,7 +10,7 @@ use Rattle.cert_types.specs.Views.{fact_of, facts_of}
 use Rattle.cert_types.specs.declared.fact.Fact as code
 use Rattle.std.proofs.lemmas.List.{map-append}
 
--- one place more of a rule that never runs
+-- the sizes of one more place of a rule that never runs
 zero-push : (t : ℕ) (is : List ℕ) (i : ℕ) → zero_sizes t (is ++ i ∷ []) ≡ zero_sizes t is ++ Size t i (Constant 0) ∷ []
 zero-push t [] i = refl
 zero-push t (j ∷ is) i = ap (λ (fs : List Fact). Size t j (Constant 0) ∷ fs) (zero-push t is i)
@@ -22,7 +22,7 @@ zero-more t n =
     ∙ (zero-push t (range_with_len 1 n) (1 + n)
     ∙ ap (λ (i : ℕ). zero_sizes t (range_with_len 1 n) ++ Size t i (Constant 0) ∷ []) (let e : 1 + n ≡ n + 1 = omega arith in e))
 
--- one place more of the virtual entry
+-- the sizes of one more place of the virtual entry
 start-push : (is : List ℕ) (i : ℕ) → start_sizes (is ++ i ∷ []) ≡ start_sizes is ++ Size 0 i (Input (i - 1)) ∷ []
 start-push [] i = refl
 start-push (j ∷ is) i = ap (λ (fs : List Fact). Size 0 j (Input (j - 1)) ∷ fs) (start-push is i)
@@ -37,7 +37,7 @@ start-more n =
     ∙ ap (λ (i : ℕ). start_sizes (range_with_len 1 n) ++ Size 0 (n + 1) (Input i) ∷ [])
     (let e : (n + 1) - 1 ≡ n = omega arith in e)))
 
--- one fact more at the end of a list
+-- pushing a fact appends it to the plain facts
 pub facts-pushed : (old new : List code.Fact) (x : code.Fact) (f : Fact) → new ≡ old ++ x ∷ [] → fact_of x ≡ f
     → facts_of new ≡ facts_of old ++ f ∷ []
 facts-pushed old new x f e h =

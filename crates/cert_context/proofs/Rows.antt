@@ -1,4 +1,4 @@
--- The rules of a program, and what was prepared of them.
+-- The rules of a program and their prepared rows.
 use Rattle.std.proofs.Common.{◌≡◌, ℕ, zero, suc, ◌-◌, ◌<◌, ◌≤◌, List, length, map, get_or, slice_get, Some}
 use Rattle.std.proofs.Common.{option_map, sym, ap, ◌∙◌, subst, arith, refl}
 use Rattle.std.proofs.lemmas.Option.{slice_get_read, slice_get_within, slice_get-map}
@@ -54,11 +54,11 @@ all-numbers n [] h = All-nil HasRowNumbers
 all-numbers n (f ∷ rows) h = All-cons HasRowNumbers f rows (small-numbers n f h.0) (all-numbers n rows h.1)
 
 module _ (p : Program) (prepared_rules : List RuleRows) (rows : AreRowsOf prepared_rules p) where
-  -- there are as many rows as rules
+  -- there are as many prepared rules as rules
   same-length : length prepared_rules ≡ length p.rules
   same-length = sym (length-map prepared_rules prepared_of) ∙ (ap length rows ∙ length-map p.rules prepared)
 
-  -- a rule with a number has rows
+  -- the number of a rule is that of a prepared rule
   pub row-within : (t : ℕ) → IsRule p t → (0 < t) × (t ≤ length prepared_rules)
   row-within t is = go t is.rule is.numbered
     where
@@ -66,7 +66,7 @@ module _ (p : Program) (prepared_rules : List RuleRows) (rows : AreRowsOf prepar
       go zero r e = absurd (let no : ⊥ = cc in no)
       go (suc u) r e = let l = slice_get_within p.rules u r e in (omega arith, omega (arith, l, same-length))
 
-  -- which are its own
+  -- the prepared rows at a rule's position are those of the rule
   pub row-is : (t : ℕ) (r : Rule) (prepared_rule : RuleRows) → rule_at p t ≡ Some r → prepared_rule ≡ get_or prepared_rules (t - 1) prepared_rule
       → prepared_of prepared_rule ≡ prepared r
   row-is zero r prepared_rule e h = absurd (let no : ⊥ = cc in no)
@@ -84,17 +84,17 @@ module _ (p : Program) (prepared_rules : List RuleRows) (rows : AreRowsOf prepar
           (h ∙ ap (λ (i : ℕ). get_or prepared_rules i prepared_rule) (let k : suc t - 1 ≡ t = omega arith in k))
 
   module _ (t : ℕ) (is : IsRule p t) (prepared_rule : RuleRows) (e : prepared_rule ≡ get_or prepared_rules (t - 1) prepared_rule) where
-    -- so they are those over which nodes are judged
+    -- the prepared rows of a rule are the rows of the setting
     pub prepared_rule-rows : map form_of prepared_rule.rows.items ≡ (setting_of p).rows t
     prepared_rule-rows =
         ap (λ (m : Prepared). m.rows) (row-is t is.rule prepared_rule is.numbered e) ∙ ap rows_in (sym is.numbered)
 
-    -- and so are the new values
+    -- the prepared new values of a rule are the new values of the setting
     pub prepared_rule-new_values : map form_of prepared_rule.new_values.items ≡ (setting_of p).new_values t
     prepared_rule-new_values =
         ap (λ (m : Prepared). m.new_values) (row-is t is.rule prepared_rule is.numbered e) ∙ ap new_values_in (sym is.numbered)
 
-    -- of a valid program they suit certificates
+    -- the prepared rows of a rule of a valid program are small
     pub prepared_rule-small : IsValid p → AreSmall (map form_of prepared_rule.rows.items)
     prepared_rule-small v =
         subst AreSmall (sym (ap (λ (m : Prepared). m.rows) (row-is t is.rule prepared_rule is.numbered e)))

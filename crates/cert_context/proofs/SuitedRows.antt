@@ -1,4 +1,4 @@
--- What was prepared of a rule suits what is worked out of a ranking function over it.
+-- The prepared rows of a rule are small enough for the checks of ranking functions and side bounds over it.
 use Rattle.std.proofs.Common.{◌≡◌, ℕ, suc, ◌+◌, ◌-◌, ◌≤◌, Bool, true, false, List, [], ◌∷◌, length, map, get_or, All, Option, Some}
 use Rattle.std.proofs.Common.{refl, sym, ap, ◌∙◌, subst, arith}
 use Rattle.std.specs.Prelude.{if◌then◌else◌}
@@ -46,7 +46,7 @@ new_values-count w k (q ∷ ps) = go (is_nonlinear q) (new_values-count w (suc k
     go true h m = ap suc h
     go false h m = ap suc m
 
--- the prepared rows of a preparable rule suits certificates
+-- the prepared rows of a preparable rule suit side bounds
 pub suits-side_bounds : (r : Rule) (m : RuleRows) → IsPreparable r → prepared_of m ≡ prepared r → SuitsSideBounds m
 suits-side_bounds r m q same = record {
   small = subst AreSmall (sym (ap (λ (x : Prepared). x.rows) same))
@@ -61,7 +61,7 @@ suits-side_bounds r m q same = record {
 
 module _ (p : Program) (prepared_rules : List RuleRows) (rows : AreRowsOf prepared_rules p) (v : IsValid p) (t : ℕ) (is : IsRule p t)
     (prepared_rule : RuleRows) (e : prepared_rule ≡ get_or prepared_rules (t - 1) prepared_rule) where
-  -- what is worked out of a ranking function over the rows of a rule stays small
+  -- the prepared rows of a rule suit the goals of ranking functions
   pub prepared_rule-suits : SuitsGoals p t prepared_rule
   prepared_rule-suits =
       let q = preparable p t is.rule v is.numbered in
@@ -92,11 +92,11 @@ module _ (p : Program) (prepared_rules : List RuleRows) (rows : AreRowsOf prepar
       source-same : (u : ℕ) (r : Rule) → rule_at p u ≡ Some r → (a : ℕ) → source_of p u ≡ Some a → a ≡ r.source
       source-same u r n a s = some-same a r.source (sym s ∙ ap source_in n)
 
-  -- and certificates
+  -- the prepared rows of a rule of a valid program suit side bounds
   pub prepared_rule-side_bounds : SuitsSideBounds prepared_rule
   prepared_rule-side_bounds = suits-side_bounds is.rule prepared_rule (preparable p t is.rule v is.numbered) (row-is p prepared_rules rows t is.rule prepared_rule is.numbered e)
 
-  -- it is what the setting has of the rule
+  -- the prepared rows of a rule are those that the setting has for it
   pub prepared_rule-own : IsPreparedRuleOf (setting_of p) t prepared_rule
   prepared_rule-own =
       let same = row-is p prepared_rules rows t is.rule prepared_rule is.numbered e in
@@ -107,7 +107,7 @@ module _ (p : Program) (prepared_rules : List RuleRows) (rows : AreRowsOf prepar
         left = ap (λ (m : Prepared). m.left) same ∙ ap left_in (sym is.numbered);
       }
 
-  -- with a new value for each place
+  -- the prepared rows of a rule have a new value for each place of its target
   pub prepared_rule-places : HasPlaces p t prepared_rule
   prepared_rule-places = record {
     each = λ r n. omega (

@@ -10,15 +10,15 @@ use Rattle.cert_types.specs.cert_program.Setting.{setting_of}
 use Rattle.cert_context.specs.CostRows.{ArePreparedCostRules}
 use Rattle.cert_context.specs.declared.context.CheckContext.{CheckContext}
 
--- its program, as plain data
+-- the program of a check context, as plain data
 abbrev pub program : CheckContext → Program
 program g = program_of g.program.now
 
--- and the setting of this
+-- the setting of that program
 abbrev pub setting : CheckContext → Setting
 setting g = setting_of (program g)
 
--- the program is valid, and the rows, those of costs and the graph are its own
+-- a check context is well-formed: its program is valid, and its rows, cost rows and graph are those of the program
 pub record IsCheckContext (g : CheckContext) : Type 0 where
   pub valid : IsValid (program g)
   pub rows : AreRowsOf g.prepared_rules.items (program g)

@@ -1,15 +1,15 @@
--- what was stated
+-- The stored facts of earlier lemmas.
 pub mod Statements
--- what nodes are judged over
+-- the context in which nodes are checked
 pub mod CheckContexts
 pub mod SuitedRows
 pub mod CostRows
--- what is answered to nodes
+-- the answers on nodes
 pub mod NodeAnswers
--- bounds by key, and bounds that are needed
+-- bounds by key, and the bounds that nodes need
 pub mod Lookups
 pub mod Needed
--- facts that are joined
+-- joined facts
 pub mod Joining
 -- forms, column by column
 pub mod Columns

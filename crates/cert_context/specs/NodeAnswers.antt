@@ -9,7 +9,7 @@ use Rattle.cert_types.specs.cert_rules.Reasons.{Check, AllPass, IsFirstAmong}
 use Rattle.cert_context.specs.declared.refusal.NodeFault.{NodeFault}
 use Rattle.cert_context.specs.declared.refusal.NodeFault.TheVariants as node
 
--- a refusal is the first check that fails; running out of memory is always permitted
+-- the refusal is the reason of the first check that fails; running out of memory is always permitted
 abbrev pub Refuses : List Check → NodeFault → Type 0
 Refuses checks (node.Refused reason) = IsFirstAmong checks (reason_of reason)
 Refuses checks node.Memory = ⊤

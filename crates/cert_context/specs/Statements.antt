@@ -22,7 +22,7 @@ facts_from [] n = []
 facts_from (facts ∷ others) zero = facts_of facts.items
 facts_from (facts ∷ others) (suc n) = facts_from others n
 
--- the facts that are kept at a position
+-- the facts stored at a position
 abbrev pub stated_at : StatedFacts → ℕ → List plain.Fact
 stated_at kept n = facts_from kept.stated.items n
 
@@ -30,16 +30,16 @@ stated_at kept n = facts_from kept.stated.items n
 abbrev pub past_of : StatedFacts → List (List plain.Fact)
 past_of kept = map (stated_at kept) kept.lemmas.items
 
--- the facts that a node states
+-- the facts that a premise states
 abbrev pub facts_by : StatedFacts → PremiseFacts → List plain.Fact
 facts_by kept (by.StatedFacts n) = stated_at kept n
 facts_by kept (by.Own facts) = facts_of facts.items
 
--- and those that several state, joined in order
+-- the facts that several premises state, joined in order
 abbrev pub joined_by : StatedFacts → List PremiseFacts → List plain.Fact
 joined_by kept uses = all_facts (map (facts_by kept) uses)
 
--- those of the first of several; of none, no fact
+-- the facts of the first of several premises; no fact if there are none
 abbrev pub first_by : StatedFacts → List PremiseFacts → List plain.Fact
 first_by kept [] = []
 first_by kept (used ∷ uses) = facts_by kept used
@@ -48,7 +48,7 @@ first_by kept (used ∷ uses) = facts_by kept used
 abbrev pub AreBased : List plain.Fact → Type 0
 AreBased facts = All HasBasedBound facts
 
--- facts of a node's own, where there are
+-- the answer with a node's facts as facts of its own
 abbrev pub owned_by : Result (Vec Fact) NodeFault → Result PremiseFacts NodeFault
 owned_by (Ok facts) = Ok (by.Own facts)
 owned_by (Err fault) = Err fault

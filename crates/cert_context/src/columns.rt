@@ -9,14 +9,14 @@ ghost use Rattle.cert_context.specs.Columns.{number_in};
 
 use poly_terms::Row;
 
-/// A column of forms: that of an unknown, or that of the constants.
+/// A column of forms: that of one unknown, or that of the constants.
 #[derive(Clone, Copy, Debug)]
 pub enum Column {
     Unknown(usize),
     Constant,
 }
 
-// The coefficient of an unknown, 0 where it isn't listed.
+// The coefficient of an unknown, or 0 if it isn't listed.
 fn row_coefficient(coefs: &[i128], unknown: usize) -> i128
     ensures { result ≡ at coefs.now unknown }
 {
@@ -26,7 +26,7 @@ fn row_coefficient(coefs: &[i128], unknown: usize) -> i128
     }
 }
 
-/// The coefficient of a place, 0 where it isn't listed.
+/// The coefficient of a place, or 0 if it isn't listed.
 pub fn coefficient(coefs: &[i64], unknown: usize) -> i64
     ensures { result ≡ at coefs.now unknown }
 {
@@ -36,7 +36,7 @@ pub fn coefficient(coefs: &[i64], unknown: usize) -> i64
     }
 }
 
-/// The number of a row in a column.
+/// The entry of a row in a column.
 pub fn number(row: &Row, column: Column) -> i128
     ensures { result ≡ number_in column (form_of row.now) }
 {
@@ -46,7 +46,7 @@ pub fn number(row: &Row, column: Column) -> i128
     }
 }
 
-/// A number of a row times a coefficient.
+/// The product of an entry and a coefficient.
 pub fn product(number: i128, coef: i128) -> i128
     requires number_small { unsigned_abs number < row_limit }
     requires coef_small { unsigned_abs coef ≤ certificate_limit }

@@ -20,8 +20,8 @@ use its_model::Program;
 use model::Memory;
 use std::alloc::Global;
 
-/// A program, with the rows of each of its rules, in order, those of the cost rule of each that has a cost, and its
-/// graph.
+/// A program, with its graph, the rows of each of its rules, in order, and those of the cost rule of each rule that has
+/// a cost.
 #[derive(Drop)]
 pub struct CheckContext<'a> {
     pub program: &'a Program,
@@ -59,7 +59,7 @@ fn all_rows(alloc: Global, p: &Program) -> Result<Vec<RuleRows>, Memory>
     Ok(prepared_rules)
 }
 
-/// The prepared rows of a rule.
+/// The prepared rows of the rule with this number.
 pub fn prepared_rule<'g>(context: &'g CheckContext, rule: u32) -> &'g RuleRows
     requires context { IsCheckContext context.now }
     requires rule { IsRule (program context.now) rule }

@@ -3,7 +3,7 @@
 ghost use Rattle.std.specs.Prelude.{IfOk};
 ghost use Rattle.its_model.specs.Valid.{IsValid};
 ghost use Rattle.its_model.specs.Views.{program_of};
-ghost use Rattle.cert_context.specs.CostRows.{ArePreparedCostRules, TellsCost};
+ghost use Rattle.cert_context.specs.CostRows.{ArePreparedCostRules, StatesCost};
 
 use cost_nodes::{cost_rows, has_cost};
 use guard_prep::RuleRows;
@@ -14,7 +14,7 @@ use std::alloc::Global;
 // The prepared rows of the cost rule of a rule, if it has a cost.
 fn prepared_cost(alloc: Global, p: &Program, rule: u32) -> Result<Option<RuleRows>, Memory>
     requires { IsValid (program_of p.now) }
-    ensures { IfOk result (λ prepared. TellsCost (program_of p.now) rule prepared) }
+    ensures { IfOk result (λ prepared. StatesCost (program_of p.now) rule prepared) }
 {
     if !has_cost(p, rule) {
         return Ok(None);

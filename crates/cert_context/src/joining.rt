@@ -2,7 +2,7 @@
 
 ghost use Rattle.std.specs.Prelude.{◌≡◌, ◌++◌, IfOk, OnOk};
 ghost use Rattle.cert_context.specs.Lookups.{EntersSize, EntersTime, HasSizes, HasTimes, facts_at};
-ghost use Rattle.cert_context.specs.Joining.{TellsAllAt, TellsAlso};
+ghost use Rattle.cert_context.specs.Joining.{StatesAllAt, StatesAlso};
 ghost use Rattle.cert_context.specs.Statements.{facts_by, joined_by, stated_at};
 ghost use Rattle.cert_types.specs.Views.{fact_of, facts_of};
 ghost use Rattle.cert_types.specs.cert_rules.Known.{table_of};
@@ -51,7 +51,7 @@ fn enter_size(
     }
 }
 
-// Of each rule the position of its first time among facts.
+// For each rule the position of its first time among the facts.
 fn times_of(alloc: Global, facts: &[&Fact]) -> Result<BTreeMap<u32, usize>, Memory>
     ensures { IfOk result (λ times. HasTimes (facts_at facts.now) times) }
 {
@@ -62,7 +62,7 @@ fn times_of(alloc: Global, facts: &[&Fact]) -> Result<BTreeMap<u32, usize>, Memo
     Ok(times)
 }
 
-// Of each place after a rule that of its first size.
+// For each place after a rule the position of its first size among the facts.
 fn sizes_of(alloc: Global, facts: &[&Fact]) -> Result<BTreeMap<(u32, u32), usize>, Memory>
     ensures { IfOk result (λ sizes. HasSizes (facts_at facts.now) sizes) }
 {
@@ -83,17 +83,17 @@ fn push_facts<'a>(all: &mut Vec<&'a Fact>, facts: &'a [Fact]) -> Result<(), Memo
     Ok(())
 }
 
-// Joins the facts at a position, unless they were joined before.
+// Joins the facts stored at a position, unless they were joined before.
 fn push_kept<'a>(
     all: &mut Vec<&'a Fact>,
     seen: &mut BTreeSet<u32>,
     kept: &'a StatedFacts,
     position: u32,
 ) -> Result<(), Memory>
-    requires { TellsAllAt kept.now seen.old (facts_at all.old.items) }
+    requires { StatesAllAt kept.now seen.old (facts_at all.old.items) }
     ensures joined { OnOk result
-        (TellsAlso (facts_at all.old.items) (stated_at kept.now position) (facts_at all.new.items)) }
-    ensures result_is { OnOk result (TellsAllAt kept.now seen.new (facts_at all.new.items)) }
+        (StatesAlso (facts_at all.old.items) (stated_at kept.now position) (facts_at all.new.items)) }
+    ensures result_is { OnOk result (StatesAllAt kept.now seen.new (facts_at all.new.items)) }
 {
     if seen.contains(&position) {
         return Ok(());
@@ -103,17 +103,17 @@ fn push_kept<'a>(
     Ok(())
 }
 
-// Joins the facts of a use.
+// Joins the facts of a premise.
 fn push_used<'a>(
     all: &mut Vec<&'a Fact>,
     seen: &mut BTreeSet<u32>,
     kept: &'a StatedFacts,
     used: &'a PremiseFacts,
 ) -> Result<(), Memory>
-    requires { TellsAllAt kept.now seen.old (facts_at all.old.items) }
+    requires { StatesAllAt kept.now seen.old (facts_at all.old.items) }
     ensures joined { OnOk result
-        (TellsAlso (facts_at all.old.items) (facts_by kept.now used.now) (facts_at all.new.items)) }
-    ensures result_is { OnOk result (TellsAllAt kept.now seen.new (facts_at all.new.items)) }
+        (StatesAlso (facts_at all.old.items) (facts_by kept.now used.now) (facts_at all.new.items)) }
+    ensures result_is { OnOk result (StatesAllAt kept.now seen.new (facts_at all.new.items)) }
 {
     match used {
         PremiseFacts::StatedFacts(position) => push_kept(all, seen, kept, *position),
@@ -121,8 +121,8 @@ fn push_used<'a>(
     }
 }
 
-// The facts of the uses of a node, in order. Stored facts are joined once, however often they are used: for each key
-// the first fact counts.
+// The facts of a node's premises, in order. Stored facts are joined once, however often they are used: for each key the
+// first fact counts.
 fn joined<'a>(
     alloc: Global,
     kept: &'a StatedFacts,
@@ -138,8 +138,9 @@ fn joined<'a>(
     Ok(all)
 }
 
-/// The facts of a node's premises, by key. No fact is copied, and stored facts are walked once, however often they are
-/// used: the time is near-linear in the uses and in the facts that are stored or their own.
+/// The facts of a node's premises, by key. No fact is copied, and stored facts are gone through once, however often
+/// they are used: the running time is near-linear in the number of premises and of the facts that are stored or their
+/// own.
 ///
 /// # Errors
 ///

@@ -2,8 +2,8 @@
 //! premises, each stored once and looked up by key, and ranking functions column by column.
 //!
 //! Builds on `cert_types`, `its_graph`, `guard_prep` and `gap_checks`. Main guarantee: a `Lookup` gives what
-//! `cert_types::Known` requires, for the table of the facts that the premises state, joined in order; and the rows of a
-//! rule are those that `cert_program` has of it.
+//! `cert_types::Known` requires, for the table of the facts that the premises state, joined in order; and the prepared
+//! rows of a rule are those of the program's setting in `cert_program`.
 #![tactic(auto)]
 
 mod columns;

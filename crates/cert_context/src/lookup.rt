@@ -1,4 +1,4 @@
-//! Looks up known facts, by key.
+//! Looks up known bounds, by key.
 
 ghost use Rattle.std.specs.Prelude.{◌≡◌, Some};
 ghost use Rattle.cert_context.specs.Lookups.{HasSizes, HasTimes, bound_at as bound_at_position, facts_at};
@@ -10,15 +10,15 @@ use bound_expr::Bound;
 use cert_types::{Fact, Known};
 use std::collections::BTreeMap;
 
-/// The facts of a node's premises, in order: for each rule the position of its first time, and for each place after a
-/// rule that of its first size.
+/// The facts of a node's premises, in order, with the position of the first time of each rule, and of the first size of
+/// each place after a rule.
 #[derive(Drop)]
 pub struct Lookup<'a> {
     pub facts: Vec<&'a Fact>,
     pub times: BTreeMap<u32, usize>,
     pub sizes: BTreeMap<(u32, u32), usize>,
-    ghost times_told: { HasTimes (facts_at facts.items) times },
-    ghost sizes_told: { HasSizes (facts_at facts.items) sizes },
+    ghost times_stated: { HasTimes (facts_at facts.items) times },
+    ghost sizes_stated: { HasSizes (facts_at facts.items) sizes },
 }
 
 impl<'a> Known for Lookup<'a> {
@@ -39,7 +39,7 @@ impl<'a> Known for Lookup<'a> {
     }
 }
 
-// The bound of the fact at a position, where there is one.
+// The bound of the fact at a position, if there is one.
 fn bound_from<'a>(facts: &[&'a Fact], position: usize) -> Option<&'a Bound>
     ensures { optional_bound result ≡ bound_at_position (facts_at facts.now) (Some position) }
 {

@@ -8,7 +8,7 @@ ghost use Rattle.cert_types.specs.Views.{result_variable_of};
 
 use cert_types::{Known, ResultVariable};
 
-/// Whether a time of a rule is known.
+/// Whether the time of a rule is known.
 pub fn has_time<K: Known>(known: &K, rule: u32) -> bool
     ensures { IsTrue result ↔ HasTime (K.table known.now) rule }
 {
@@ -18,7 +18,7 @@ pub fn has_time<K: Known>(known: &K, rule: u32) -> bool
     }
 }
 
-// Whether a size of a place after a rule is known.
+// Whether the size of a place after a rule is known.
 fn has_size<K: Known>(known: &K, result_variable: &ResultVariable) -> bool
     ensures { IsTrue result ↔ HasSize (K.table known.now) (result_variable_of result_variable.now) }
 {

@@ -6,10 +6,10 @@ ghost use Rattle.cert_context.specs.declared.refusal.NodeFault.TheVariants.{Memo
 use cert_types::Reason;
 use std::alloc::{AllocError, AllocFailed};
 
-/// Why a node whose premises are accepted isn't accepted.
+/// Why a node isn't accepted, where its premises are, or that memory ran out.
 #[derive(Clone, Copy, Debug, PartialEq, Eq)]
 pub enum NodeFault {
-    /// The first of its checks that fails has this reason.
+    /// The reason of the first check that fails.
     Refused(Reason),
     /// Memory ran out.
     Memory,

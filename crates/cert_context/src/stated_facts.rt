@@ -11,20 +11,20 @@ use cert_types::Fact;
 pub struct StatedFacts {
     /// The facts of the virtual entry, and then those of each lemma that is no citation.
     pub stated: Vec<Vec<Fact>>,
-    /// For each lemma the position of its facts; a citation has that of the lemma which it cites.
+    /// For each lemma the position of its facts; a citation has the position of the lemma that it cites.
     pub lemmas: Vec<u32>,
 }
 
-/// The facts of a node.
+/// The facts that a premise states.
 #[derive(Drop)]
 pub enum PremiseFacts {
-    /// Those stored at this position.
+    /// The facts stored at this position.
     StatedFacts(u32),
-    /// These facts.
+    /// Facts of its own.
     Own(Vec<Fact>),
 }
 
-/// The facts at a position.
+/// The facts stored at a position.
 pub fn facts_at(kept: &StatedFacts, position: u32) -> &[Fact]
     ensures { facts_of result.now ≡ stated_at kept.now position }
 {
@@ -34,7 +34,7 @@ pub fn facts_at(kept: &StatedFacts, position: u32) -> &[Fact]
     }
 }
 
-/// The facts that a node states.
+/// The facts that a premise states.
 pub fn facts_in<'a>(kept: &'a StatedFacts, used: &'a PremiseFacts) -> &'a [Fact]
     ensures { facts_of result.now ≡ facts_by kept.now used.now }
 {

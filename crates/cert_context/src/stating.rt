@@ -28,7 +28,7 @@ pub fn one(alloc: Global, fact: Fact) -> Result<Vec<Fact>, Memory>
     Ok(facts)
 }
 
-/// The time of a rule is 0.
+/// The fact that the time of a rule is 0.
 pub fn zero_time(alloc: Global, rule: u32) -> Result<Vec<Fact>, Memory>
     ensures { IfOk result (λ facts. facts_of facts.items ≡ Time rule (Constant 0) ∷ []) }
 {
@@ -41,7 +41,7 @@ pub fn zero_time(alloc: Global, rule: u32) -> Result<Vec<Fact>, Memory>
     )
 }
 
-/// Each of this many places after a rule has the size 0.
+/// The facts that each of this many places after a rule has the size 0.
 pub fn zero_sizes(alloc: Global, rule: u32, places: u32) -> Result<Vec<Fact>, Memory>
     ensures { IfOk result (λ facts. facts_of facts.items ≡ zero_sizes_of rule (range_with_len 1 places)) }
 {
@@ -56,7 +56,7 @@ pub fn zero_sizes(alloc: Global, rule: u32, places: u32) -> Result<Vec<Fact>, Me
     Ok(facts)
 }
 
-/// The virtual entry occurs once, and each of its places has the size of its start argument.
+/// The facts that the virtual entry occurs once, and that each of its places has the size of its start argument.
 pub fn start_facts(alloc: Global, p: &Program) -> Result<Vec<Fact>, Memory>
     ensures { IfOk result (λ facts. facts_of facts.items ≡ start_facts_of (program_of p.now)) }
 {

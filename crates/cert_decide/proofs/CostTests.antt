@@ -19,7 +19,7 @@ use Rattle.cert_decide.proofs.NumberTests.{decides-yes, decides-no, decides-mult
 use Rattle.cert_decide.proofs.RankTests.{decides-known, small-last, sizes-decide}
 use Rattle.cert_decide.proofs.SizeTests.{decides-side_bound_shape, decides-side_bound}
 
--- a cost at a rule
+-- the test whether a rule has a cost is right
 decides-cost : (p : Program) (t : ℕ) → Decides (has_cost p t) (HasCost p t)
 decides-cost p t = go (rule_at p t) refl
   where
@@ -41,7 +41,7 @@ decides-cost p t = go (rule_at p t) refl
         by None f = decides-no (λ h. no h.cost
             (sym f ∙ ap (λ (q : Rule). q.cost) (same h.rule (sym e ∙ h.numbered)) ∙ h.written))
 
--- the numbers by which a cost is shown, and the shape of a node
+-- the test whether the numbers by which a cost is shown have the right shape is right
 decides-cost_numbers : (s : Setting) (t : ℕ) (by : CostBy) → Decides (has_cost_numbers s t by) (HasCostNumbers s t by)
 decides-cost_numbers s t (EmptyCost ms) = decides-multipliers (costs_of s) t ms
 decides-cost_numbers s t NeverCost = decides-yes tt

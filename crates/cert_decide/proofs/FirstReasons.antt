@@ -1,4 +1,4 @@
--- The first reason that is computed is the first reason.
+-- The computed reason is the first reason.
 use Rattle.std.proofs.Common.{◌≡◌, ◌↔◌, List, [], ◌∷◌, ◌++◌, Option, Some, None, is_none, refl, sym, ◌∙◌}
 use Rattle.std.specs.Bool.{Decides}
 use Rattle.std.proofs.lemmas.Bool.Decides.{Decides-and}
@@ -70,7 +70,7 @@ module _ (s : Setting) (past : List (List Fact)) where
       go None e h = refl
       go (Some r) e h = absurd (h r ((reason-decided proof r).0 e))
 
--- the tests decide which nodes are accepted
+-- laws for lemmas: the tests decide which are accepted
 module _ (s : Setting) where
   decides-node : (past : List (List Fact)) (proof : Proof) → Decides (accepts_node s past proof) (AcceptsNode s past proof)
   decides-node past proof = go (first_reason s past proof) refl (none-decided s past proof)
@@ -109,7 +109,7 @@ module _ (s : Setting) where
   decides-from past (proof ∷ proofs) =
       Decides-and _ _ (decides-proof past proof) (decides-from (past ++ facts_of s past proof ∷ []) proofs)
 
--- the laws
+-- the computed reason is the first reason of each node
 pub first-reasons-decided : FirstReasonsAreDecided
 first-reasons-decided = record { some = reason-decided; none = none-decided }
 

@@ -1,4 +1,4 @@
--- the tests decide acceptance and find the first reason, and worked values
+-- Laws of the tests: they decide acceptance and find the first reason; and worked values.
 pub mod TestLists
 pub mod NumberTests
 pub mod PlainTests

@@ -1,4 +1,4 @@
--- Members of appended lists of numbers and of the images of a list, and how many numbers of a list pass a test.
+-- Membership in appended lists of numbers and in the images of a list, and how many numbers of a list pass a test.
 use Rattle.std.proofs.Common.{◌≡◌, ◌⊎◌, inl, inr, ℕ, suc, ◌≤◌, ◌==◌, Bool, true, false, cond, List, [], ◌∷◌, ◌++◌}
 use Rattle.std.proofs.Common.{length, filter, filter_map, Option, Some, None, refl, sym, ap, ◌∙◌, subst, arith}
 use Rattle.std.proofs.lemmas.Bool.{or_left, or_right}
@@ -30,7 +30,7 @@ in-either (y ∷ xs) ys x h = go (is_in-cases x y (xs ++ ys) h) (in-either xs ys
     go (inl e) ih = inl (or_left (x == y) (is_in x xs) (subst (λ (n : ℕ). (x == n) ≡ true) e (same_number x)))
     go (inr k) ih = later (ih k)
 
--- a member of the images of a list is the image of one of its numbers
+-- laws for the images of the numbers of a list
 module _ (f : ℕ → Option ℕ) where
   -- a number among the images comes from a number of the list
   pub image-sound : (ts : List ℕ) (a : ℕ) → is_in a (filter_map f ts) ≡ true → (t : ℕ) × (is_in t ts ≡ true) × (f t ≡ Some a)
@@ -64,7 +64,7 @@ module _ (f : ℕ → Option ℕ) where
       by (inl same) ih = rw (ap f (sym same) ∙ e) (or_left (a == a) (is_in a (filter_map f ts)) (same_number a))
       by (inr k) ih = later (f u) refl (ih k)
 
--- at most all numbers of a list pass a test
+-- at most as many numbers of a list pass a test as there are
 pub passing-most : (test : ℕ → Bool) (ts : List ℕ) → length (filter test ts) ≤ length ts
 passing-most test [] = omega arith
 passing-most test (t ∷ ts) = go (test t) refl (passing-most test ts)
@@ -74,7 +74,7 @@ passing-most test (t ∷ ts) = go (test t) refl (passing-most test ts)
     go true e ih = omega (arith, ih)
     go false e ih = omega (arith, ih)
 
--- where all pass each does
+-- if as many numbers pass a test as there are, each passes
 pub all-passing : (test : ℕ → Bool) (ts : List ℕ) → length ts ≤ length (filter test ts) → (t : ℕ) → is_in t ts ≡ true
     → test t ≡ true
 all-passing test [] h t i = absurd (no_is_not_yes false refl i)
@@ -87,7 +87,7 @@ all-passing test (u ∷ ts) h t i = go (test u) refl h (is_in-cases t u ts i) (�
     go true e k (inr j) ih = ih (omega (arith, k)) j
     go false e k j ih = absurd (omega (arith, k, passing-most test ts))
 
--- a test that more numbers pass
+-- laws for two tests of which the first implies the second
 module _ (p q : ℕ → Bool) (more : (t : ℕ) → p t ≡ true → q t ≡ true) where
   -- where one test implies another, no more numbers pass the first than the second
   pub passing-more : (ts : List ℕ) → length (filter p ts) ≤ length (filter q ts)
@@ -101,7 +101,7 @@ module _ (p q : ℕ → Bool) (more : (t : ℕ) → p t ≡ true → q t ≡ tru
       go false true e f ih = omega (arith, ih)
       go false false e f ih = ih
 
-  -- one more number of the list passes
+  -- if a number of the list passes only the second test, more numbers pass the second than the first
   pub passing-one_more : (ts : List ℕ) (t : ℕ) → is_in t ts ≡ true → p t ≡ false → q t ≡ true
       → suc (length (filter p ts)) ≤ length (filter q ts)
   passing-one_more [] t i before now = absurd (no_is_not_yes false refl i)

@@ -26,15 +26,15 @@ use Rattle.cert_program.proofs.cert_rules.CheckLists.{each-in, in-each}
 use Rattle.cert_decide.specs.Numbers.{is_in_limit, are_in_limit, is_form_in_limit, are_multipliers, is_ascending}
 use Rattle.cert_decide.specs.Numbers.{longest, implies}
 
--- yes decides what holds, and no what doesn't
+-- the answer true decides a property that holds
 pub decides-yes : {P : Type 0} → P → Decides true P
 decides-yes h = (λ e. h, λ k. refl)
 
--- no decides what doesn't hold
+-- the answer false decides a property that doesn't hold
 pub decides-no : {P : Type 0} → ¬ P → Decides false P
 decides-no n = (λ e. absurd (true≢false (sym e)), λ k. absurd (n k))
 
--- comparisons
+-- the test `nat_le` decides whether a number is at most another
 pub decides-le : (m n : ℕ) → Decides (nat_le m n) (m ≤ n)
 decides-le m n = (leb-true m n, le-leb m n)
 
@@ -46,7 +46,7 @@ decides-int_le (negsuc m) (pos n) = decides-yes (omega (arith, ints))
 decides-int_le (negsuc m) (negsuc n) =
     ((λ e. omega (arith, ints, leb-true n m e)), (λ h. le-leb n m (omega (arith, ints, h))))
 
--- an answer that is no
+-- the negation of a test decides whether it fails
 pub decides-not : (v : Bool) → Decides (not v) (v ≡ false)
 decides-not true = decides-no true≢false
 decides-not false = decides-yes refl
@@ -63,7 +63,7 @@ decides-each p P each xs =
     Decides-like (list_all p xs) (λ h. each-in P xs (recursion_from_All P xs h))
     (λ h. All-from_recursion P xs (in-each P xs h)) (decides-all p P each xs)
 
--- limits
+-- the test of the limit decides whether a number is within it
 pub decides-limit : (n : ℕ) → Decides (is_in_limit n) (IsInLimit n)
 decides-limit n = decides-le n certificate_limit
 
@@ -82,13 +82,13 @@ decides-multipliers s t ms =
     Decides-like (are_multipliers s t ms) (λ h. record { long = h.0; limit = h.1 }) (λ h. (h.long, h.limit))
     (Decides-and _ _ (Decides-eqb (length ms) (length (s.rows t))) (decides-limits ms))
 
--- ascending numbers
+-- the test of ascending numbers decides whether they are
 pub decides-ascending : (xs : List ℕ) → Decides (is_ascending xs) (IsAscending xs)
 decides-ascending [] = decides-yes tt
 decides-ascending (x ∷ []) = decides-yes tt
 decides-ascending (x ∷ y ∷ rest) = Decides-and (nat_lt x y) _ (Decides-ltb x y) (decides-ascending (y ∷ rest))
 
--- past the last coefficient of the rows nothing is combined
+-- the combined coefficient of an unknown past the longest row is 0
 past-rows : (ms : List ℕ) (rows : List Form) (u : ℕ) → longest rows ≤ u → combined_coef ms rows u ≡ pos 0
 past-rows [] rows u h = refl
 past-rows (m ∷ ms) [] u h = refl
@@ -101,9 +101,9 @@ past-rows (m ∷ ms) (r ∷ rows) u h =
     both : (a b : ℤ) → a ≡ pos 0 → b ≡ pos 0 → (a +ℤ b) ≡ pos 0
     both a b e f = omega (arith, ints, e, f)
 
--- certificates
+-- laws for rows, multipliers and a goal
 module _ (rows : List Form) (ms : List ℕ) (goal : Form) where
-  -- the coefficients of an unknown are the same
+  -- the combined rows and the goal have the same coefficient of an unknown
   abbrev Same : ℕ → Type 0
   Same u = at goal.coefs u ≡ combined_coef ms rows u
 

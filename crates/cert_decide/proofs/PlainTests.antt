@@ -1,4 +1,4 @@
--- The tests of nodes without linear programs decide acceptance.
+-- The tests of nodes without an arithmetic certificate decide acceptance.
 use Rattle.std.proofs.Common.{◌≡◌, ℕ, zero, suc, ◌&&◌, Bool, List, [], ◌∷◌, length, Option, Some, None, refl, is_some}
 use Rattle.std.specs.Bool.{Decides}
 use Rattle.std.proofs.lemmas.Bool.Decides.{Decides-ltb, Decides-and, Decides-like}
@@ -18,7 +18,7 @@ use Rattle.cert_decide.specs.Plain.{is_input_below, is_tidy_number, has_weaken_s
 use Rattle.cert_decide.specs.Numbers.{are_multipliers}
 use Rattle.cert_decide.proofs.NumberTests.{decides-yes, decides-no, decides-le, decides-multipliers}
 
--- rules and lemmas
+-- the test whether a number is that of a rule is right
 pub decides-rule : (p : Program) (t : ℕ) → Decides (is_rule p t) (IsRule p t)
 decides-rule p t = go (rule_at p t) refl
   where
@@ -42,7 +42,7 @@ decides-empty_shape s t ms =
     Decides-like _ (λ h. record { rule = h.0; one_each = h.1 }) (λ h. (h.rule, h.one_each))
     (Decides-and _ _ (decides-rule s.program t) (decides-multipliers s t ms))
 
--- facts of a child
+-- the test whether there is exactly one fact, a time, is right
 pub decides-one_time : (facts : List Fact) → Decides (is_one_time facts) (IsOneTime facts)
 decides-one_time [] = decides-no (λ h. h)
 decides-one_time (Size t i b ∷ facts) = decides-no (λ h. h)
@@ -58,7 +58,7 @@ decides-zero_time (Size t i b ∷ facts) = decides-no (λ h. h)
 decides-zero_time (Cost t b ∷ facts) = decides-no (λ h. h)
 decides-zero_time (Time t b ∷ facts) = ((λ e. e), (λ e. e))
 
--- nodes of a bound
+-- laws for a test of bounds: applied at each node, it decides whether each node has the property
 module _ (p : Bound → Bool) (P : Bound → Type 0) (each : (b : Bound) → Decides (p b) (P b)) where
   mutual
     decides-nodes : (b : Bound) → Decides (each_node p b) (EachNode P b)

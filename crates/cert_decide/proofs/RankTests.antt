@@ -39,7 +39,7 @@ decides-small rewrite b =
     Decides-like (is_small rewrite b) (λ h. record { before = h.0; after = h.1 }) (λ h. (h.before, h.after))
     (Decides-and _ _ (decides-not (is_large b)) (decides-not (is_large (rewrite b))))
 
--- the last tests of a node: its times, its sizes, and that its bound is small
+-- laws for the last tests of a node: of its times and sizes, and that its bound is small
 module _ (s : Setting) (table : Table) where
   -- the last test decides whether the composed bound is small
   pub small-last : (b : Bound) → AllDecide (check_small s b ∷ []) (test_small s b ∷ [])
@@ -58,7 +58,7 @@ module _ (s : Setting) (table : Table) where
       each-decides (check_size table) (test_size table) cs rest (λ result_variable. refl)
       (λ result_variable. decides-known (table.size result_variable.rule result_variable.place)) h result_variables
 
--- lists of numbers
+-- the test whether two lists of numbers are equal is right
 decides-same : (xs ys : List ℕ) → Decides (are_same xs ys) (xs ≡ ys)
 decides-same [] [] = decides-yes refl
 decides-same [] (y ∷ ys) = decides-no no
@@ -87,7 +87,7 @@ decides-form_shape p f =
     Decides-like (has_form_shape p f) (λ h. record { long = h.0; limit = h.1 }) (λ h. (h.long, h.limit))
     (Decides-and _ _ (Decides-eqb (length f.form.coefs) (arity_of p f.symbol)) (decides-form f.form))
 
--- the shape: of the set, of the function and of the multipliers
+-- laws for the shape of a ranking node: that of the set, of the function and of the multipliers
 module _ (s : Setting) (node : RankNode) where
   decides-rank_shape :
       Decides (has_set_shape s.program node && has_function_shape s.program node && has_certificate_shape s node)

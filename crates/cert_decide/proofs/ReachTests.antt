@@ -1,4 +1,4 @@
--- As many rounds as there are rules reach all that is reached.
+-- As many rounds as there are rules find all symbols that are reached.
 use Rattle.std.proofs.Common.{◌≡◌, ◌⊎◌, inl, inr, ℕ, zero, suc, ◌≤◌, ◌==◌, ◌&&◌, not, Bool, true, false, cond, List, []}
 use Rattle.std.proofs.Common.{◌∷◌, length, filter, filter_map, Option, Some, None, refl, sym, ap, ◌∙◌, subst, arith}
 use Rattle.std.specs.Bool.{Decides}
@@ -18,11 +18,11 @@ use Rattle.cert_decide.proofs.NumberLists.{in-left, in-right, in-either, image-s
 use Rattle.cert_decide.proofs.NumberLists.{passing-one_more}
 
 module _ (p : Program) (is_allowed : ℕ → Bool) where
-  -- the symbols after this many rounds
+  -- the symbols that are found in n rounds
   abbrev seen : ℕ → List ℕ
   seen n = reached_in p is_allowed n
 
-  -- the source of a rule that leaves one of these symbols, and its target
+  -- if the source of a rule is one of these symbols, its target is the symbol that the rule leads to
   from-rule : (symbols : List ℕ) (t a : ℕ) → is_among (source_of p t) symbols ≡ true → target_of p t ≡ Some a
       → (r : Rule) × (rule_at p t ≡ Some r) × (is_in r.source symbols ≡ true) × (r.target ≡ a)
   from-rule symbols t a h e = go (rule_at p t) refl h
@@ -54,7 +54,7 @@ module _ (p : Program) (is_allowed : ℕ → Bool) where
           let l = and_parts (is_allowed i.0) (is_among (source_of p i.0) symbols) j.1 in
           let r = from-rule symbols i.0 a l.1 i.2 in inr (i.0, r.0, r.1, l.0, r.2, r.3)
 
-  -- the target of such a rule is added
+  -- the target of an allowed rule that leaves one of the symbols is added in a round
   round-adds : (symbols : List ℕ) (t : ℕ) (r : Rule) → rule_at p t ≡ Some r → is_allowed t ≡ true
       → is_in r.source symbols ≡ true → is_in r.target (one_round p is_allowed symbols) ≡ true
   round-adds symbols t r e allowed h =
@@ -65,7 +65,7 @@ module _ (p : Program) (is_allowed : ℕ → Bool) where
       (subst (λ (o : Option ℕ). is_among o symbols ≡ true) (sym (source_of-rule p t r e)) h)))
       (target_of-rule p t r e))
 
-  -- the symbols of the rounds are reached
+  -- the symbols that are found in any number of rounds are reached
   rounds-reach : (n a : ℕ) → is_in a (seen n) ≡ true → IsReached p is_allowed a
   rounds-reach zero a h = go (is_in-cases a p.start [] h)
     where
@@ -94,7 +94,7 @@ module _ (p : Program) (is_allowed : ℕ → Bool) where
   IsClosed symbols = (t : ℕ) (r : Rule) → rule_at p t ≡ Some r → is_allowed t ≡ true → is_in r.source symbols ≡ true
       → is_in r.target symbols ≡ true
 
-  -- the reached symbols are among closed ones that contain the start symbol
+  -- if symbols are closed and contain the start symbol, all reached symbols are among them
   closed-reached : (symbols : List ℕ) → IsClosed symbols → is_in p.start symbols ≡ true → (a : ℕ)
       → IsReached p is_allowed a → is_in a symbols ≡ true
   closed-reached symbols closed start a (Here e) = subst (λ (b : ℕ). is_in b symbols ≡ true) e start
@@ -131,7 +131,7 @@ module _ (p : Program) (is_allowed : ℕ → Bool) where
   abbrev leads_out : List ℕ → ℕ → Bool
   leads_out symbols t = leaves p is_allowed symbols t && not (leads_to symbols t)
 
-  -- these symbols are closed, or one more rule leads to those of the next round
+  -- either these symbols are closed, or a round makes one more rule lead to one of them
   round-gains : (symbols : List ℕ)
       → IsClosed symbols
       ⊎ (suc (length (filter (leads_to symbols) (entry_and_rules p)))
@@ -180,12 +180,12 @@ module _ (p : Program) (is_allowed : ℕ → Bool) where
               (not_from_false (leads_to symbols t)
               (subst (λ (o : Option ℕ). is_among o symbols ≡ false) (sym (target_of-rule p t r f)) i)))))
 
-  -- the start symbol is there from the first
+  -- the start symbol is among the symbols of any number of rounds
   start-seen : (n : ℕ) → is_in p.start (seen n) ≡ true
   start-seen zero = or_left (p.start == p.start) false (same_number p.start)
   start-seen (suc n) = in-left (seen n) _ p.start (start-seen n)
 
-  -- after this many rounds they are closed, or more rules than that, with the virtual entry, lead to them
+  -- after n rounds the symbols are closed, or more than n rules, with the virtual entry, lead to them
   rounds-gain : (n : ℕ) → IsClosed (seen n) ⊎ (suc n ≤ length (filter (leads_to (seen n)) (entry_and_rules p)))
   rounds-gain zero = inr (go (leads_to (seen 0) 0) (start-seen 0))
     where
@@ -218,7 +218,7 @@ module _ (p : Program) (is_allowed : ℕ → Bool) where
           (all-passing (leads_to (seen (length p.rules))) (entry_and_rules p)
           (omega (arith, k, length-range_with_len 0 (suc (length p.rules)))) t (rule_is_numbered p t r e))
 
-  -- the rounds decide whether a rule isn't reached
+  -- the test whether a rule isn't reached is right
   pub decides-unreached : (t : ℕ) → Decides (is_unreached p is_allowed t) (IsUnreached p is_allowed t)
   decides-unreached t = (
     (λ e r f reached. no_is_not_yes (not (is_among (source_of p t) (seen (length p.rules))))

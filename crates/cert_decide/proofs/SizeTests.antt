@@ -33,7 +33,7 @@ use Rattle.cert_decide.proofs.NumberTests.{decides-each, decides-limit, decides-
 use Rattle.cert_decide.proofs.NumberTests.{decides-implies}
 use Rattle.cert_decide.proofs.RankTests.{small-last, times-decide, sizes-decide}
 
--- a place after a rule
+-- the test whether this is a place after a rule is right
 decides-result_variable : (p : Program) (result_variable : ResultVariable)
     → Decides (is_place_after p (rule_at p result_variable.rule) result_variable.place) (IsResultVariable p result_variable)
 decides-result_variable p result_variable = go (rule_at p result_variable.rule) refl
@@ -109,7 +109,7 @@ pub decides-side_bound : (s : Setting) (result_variable : ResultVariable) (side 
 decides-side_bound s result_variable side (Linear den form ms) = decides-implies _ ms _
 decides-side_bound s result_variable side Poly = decides-polynomial s result_variable
 
--- members ascend
+-- the test whether one result variable comes before another is right
 decides-before : (a b : ResultVariable) → Decides (is_before a b) (ComesBefore a b)
 decides-before a b =
     Decides-or (nat_lt a.rule b.rule) _ (Decides-ltb a.rule b.rule)
@@ -130,7 +130,7 @@ decides-cycle_shape s ms =
     (Decides-and _ _ (decides-le 1 (length ms)) (decides-members ms))
     (decides-all (has_member_shape s) (HasMemberShape s) (decides-member_shape s) ms))
 
--- no variable of a polynomial is a member
+-- laws for the test whether no variable of a polynomial is a member
 module _ (members : List Member) (e : ℕ) where
   abbrev Avoids : Option Polynomial → Type 0
   Avoids o = (j : ℕ) → has_variable o j ≡ true → is_member members e j ≡ false
@@ -170,7 +170,7 @@ decides-straight : (s : Setting) (members : List Member) (m : Member) (e : ℕ) 
 decides-straight s members m e (Linear den form ms) = decides-yes tt
 decides-straight s members m e Poly = decides-avoids members e (poly_at s m.result_variable)
 
--- whether all side bounds of these members are straight is decided
+-- laws for the tests whether the side bounds of members are straight
 module _ (s : Setting) (members : List Member) where
   after-decide : (m : Member) (es : List ℕ) (cs : List Check) (ts : List Test) → AllDecide cs ts
       → AllDecide (straight_from s members m es cs) (straight_after s members m es ts)

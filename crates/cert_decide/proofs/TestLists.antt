@@ -46,7 +46,7 @@ first-complete (c ∷ cs) (t ∷ ts) h r k = go t.passes refl (first-complete cs
     go false p later (inl l) = ap Some (sym h.0 ∙ l.1)
     go false p later (inr l) = absurd (no_is_not_yes t.passes p (h.1.0.1 l.0))
 
--- where no test fails all checks pass
+-- if no test fails, all checks pass
 pub none-passes : {R : Type 0} (cs : List (CheckOf R)) (ts : List (TestOf R)) → AllDecide cs ts → first_failing ts ≡ None
     → AllPass cs
 none-passes [] [] h e = tt
@@ -71,7 +71,7 @@ passes-none (c ∷ cs) [] h k = absurd h
 passes-none (c ∷ cs) (t ∷ ts) h k =
     ap (λ (v : Bool). cond v (first_failing ts) (Some t.reason)) (h.1.0.1 k.0) ∙ passes-none cs ts h.1.1 k.1
 
--- a test for each element decides a check for each element
+-- laws for tests of each element of a list
 module _ {X R : Type 0} (f : X → CheckOf R) (g : X → TestOf R) (cs : List (CheckOf R)) (ts : List (TestOf R)) where
   -- tests for each element, with the reasons of its checks, decide them, before further ones that decide
   pub each-decides : ((x : X) → (f x).reason ≡ (g x).reason) → ((x : X) → Decides (g x).passes (f x).holds)

@@ -15,12 +15,12 @@ use Rattle.cert_decide.specs.Numbers.{are_multipliers, implies}
 use Rattle.cert_decide.specs.Ranking.{test_time, test_size, test_small}
 use Rattle.cert_decide.specs.Sizes.{has_side_bound_shape, accepts_side_bound}
 
--- there is a rule, and a cost is written at it
+-- the rule exists, and has a cost
 abbrev pub is_costly : Option Rule → Bool
 is_costly None = false
 is_costly (Some r) = is_some r.cost
 
--- a cost is written at the rule with this number
+-- the rule with this number has a cost
 abbrev pub has_cost : Program → ℕ → Bool
 has_cost p t = is_costly (rule_at p t)
 

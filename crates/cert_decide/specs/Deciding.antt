@@ -1,4 +1,4 @@
--- Decides whether a derivation node is accepted, by computing the first reason why it isn't; and so whether lemmas are.
+-- Decides whether a derivation node is accepted, by computing its first reason; and whether lemmas are accepted.
 use Rattle.std.specs.Prelude.{◌&&◌, Bool, true, List, [], ◌∷◌, ◌++◌, Option, is_none}
 use Rattle.cert_program.specs.model.Facts.{Fact}
 use Rattle.cert_program.specs.cert_rules.Nodes.{Proof, Cite, Start, Empty, Unreached, Never, Rank, Spread, Cycle}
@@ -28,15 +28,15 @@ tests_of s past (Cycle members uses) = cycle_tests s (table_of (joined_facts s p
 tests_of s past (Weaken child b) = weaken_tests s (facts_of s past child) b
 tests_of s past (Charge node uses) = cost_tests s (table_of (joined_facts s past uses)) node
 
--- the first reason why a node isn't accepted after lemmas with these facts, where all of its premises are
+-- the first reason why a node isn't accepted after lemmas with these facts, supposing that its premises are accepted
 abbrev pub first_reason : Setting → List (List Fact) → Proof → Option Reason
 first_reason s past proof = first_failing (tests_of s past proof)
 
--- there is no reason why a node itself isn't accepted
+-- the node itself has no reason
 abbrev pub accepts_node : Setting → List (List Fact) → Proof → Bool
 accepts_node s past proof = is_none (first_reason s past proof)
 
--- whether no node of a proof has a reason, and no node of these proofs
+-- no node of a derivation has a reason; and no node of several derivations has one
 abbrev mutual
   pub accepts : Setting → List (List Fact) → Proof → Bool
   accepts s past (Cite n) = accepts_node s past (Cite n)
@@ -54,7 +54,7 @@ abbrev mutual
   accepts_all s past NoProof = true
   accepts_all s past (AndProof proof uses) = accepts s past proof && accepts_all s past uses
 
--- whether none of these lemmas has a reason, each after those before it
+-- none of these lemmas has a reason, each after those before it
 abbrev pub accepts_from : Setting → List (List Fact) → List Proof → Bool
 accepts_from s past [] = true
 accepts_from s past (proof ∷ proofs) =

@@ -1,4 +1,4 @@
--- The first reason that is computed is the first reason, and so lemmas are decided.
+-- The computed reason is the first reason, and so lemmas are decided.
 use Rattle.std.specs.Prelude.{◌≡◌, ◌↔◌, true, List, Some, None}
 use Rattle.cert_program.specs.model.Facts.{Fact}
 use Rattle.cert_program.specs.cert_rules.Nodes.{Proof}
@@ -8,14 +8,14 @@ use Rattle.cert_program.specs.cert_rules.Reasons.{Reason}
 use Rattle.cert_program.specs.cert_rules.Checks.{IsFirstReason}
 use Rattle.cert_decide.specs.Deciding.{first_reason, accepts_lemmas}
 
--- of every node, over every setting and after all earlier facts: the reason that is computed is its first reason, and
--- none is computed exactly if it is accepted
+-- for every node, setting and earlier facts: the computed reason is the first reason, and none is computed exactly if
+-- the node is accepted
 pub record FirstReasonsAreDecided : Type 0 where
   pub some : (s : Setting) (past : List (List Fact)) (proof : Proof) (r : Reason)
       → (first_reason s past proof ≡ Some r) ↔ IsFirstReason s past proof r
   pub none : (s : Setting) (past : List (List Fact)) (proof : Proof)
       → (first_reason s past proof ≡ None) ↔ AcceptsNode s past proof
 
--- whether all lemmas of a list are accepted is computed
+-- the computed test whether all lemmas of a list are accepted is right
 pub record LemmasAreDecided : Type 0 where
   pub each : (s : Setting) (proofs : List Proof) → (accepts_lemmas s proofs ≡ true) ↔ AcceptsLemmas s proofs

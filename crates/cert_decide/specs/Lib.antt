@@ -1,6 +1,6 @@
 -- The definitions that the contracts of this crate, and of crates above it, cite.
 pub mod Deciding
--- laws, and values that were worked out by hand
+-- laws and worked values
 pub mod Laws
 pub mod WorkedNodes
 pub mod WorkedPrograms
@@ -9,7 +9,7 @@ pub mod WorkedLemmas
 pub mod WorkedOrder
 pub mod WorkedShapes
 pub mod WorkedCosts
--- the machinery of the functions inside and of the proofs
+-- further definitions, for the proofs
 pub mod Tests
 pub mod Numbers
 pub mod Reaching

@@ -12,7 +12,7 @@ use Rattle.cert_program.specs.cert_rules.Setting.{Setting}
 abbrev pub is_in_limit : ℕ → Bool
 is_in_limit n = nat_le n certificate_limit
 
--- each of these is within the limit
+-- each of these numbers is within the limit
 abbrev pub are_in_limit : List ℕ → Bool
 are_in_limit ns = list_all is_in_limit ns
 
@@ -30,13 +30,14 @@ is_ascending [] = true
 is_ascending (x ∷ []) = true
 is_ascending (x ∷ y ∷ rest) = nat_lt x y && is_ascending (y ∷ rest)
 
--- the most coefficients that one of these forms has
+-- the number of coefficients of the longest of these forms
 abbrev pub longest : List Form → ℕ
 longest [] = 0
 longest (f ∷ fs) = max (length f.coefs) (longest fs)
 
--- the multipliers show that the goal is at least 0 where the rows are: one for each row, the same coefficient of every
--- unknown that the goal or a row has, and a constant that isn't above the goal's
+-- the multipliers show that the goal is at least 0 where the rows are: there is one for each row; the combined rows and
+-- the goal have the same coefficient of every unknown that one of them has; and the combined constant isn't above the
+-- goal's
 abbrev pub implies : List Form → List ℕ → Form → Bool
 implies rows multipliers goal =
     (length multipliers == length rows)

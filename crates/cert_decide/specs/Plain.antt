@@ -21,17 +21,17 @@ is_rule p t = is_some (rule_at p t)
 abbrev pub is_earlier : List (List Fact) → ℕ → Bool
 is_earlier past n = nat_le 1 n && nat_le n (length past)
 
--- a cited lemma is an earlier one
+-- the test of a citation: the lemma is an earlier one
 abbrev pub cite_tests : List (List Fact) → ℕ → List Test
 cite_tests past n = test Shape (is_earlier past n) ∷ []
 
--- an empty rule has a multiplier for each row, and the rows, each times its multiplier, add up to -1
+-- the tests of an empty rule: there is a multiplier for each row, and the rows, each times its multiplier, add up to -1
 abbrev pub empty_tests : Setting → ℕ → List ℕ → List Test
 empty_tests s t multipliers =
     test Shape (is_rule s.program t && are_multipliers s t multipliers)
     ∷ test NotEmpty (implies (s.rows t) multipliers minus_one) ∷ []
 
--- an unreached rule is one, and its source isn't reached by rules that are allowed
+-- the tests of an unreached rule: it is a rule, and its source isn't reached by the allowed rules
 abbrev pub unreached_tests : Setting → (ℕ → Bool) → ℕ → List Test
 unreached_tests s is_allowed t =
     test Shape (is_rule s.program t) ∷ test Reached (is_unreached s.program is_allowed t) ∷ []
@@ -46,11 +46,11 @@ abbrev pub is_zero_time : List Fact → Bool
 is_zero_time (Time t b ∷ facts) = is_zero_bound b
 is_zero_time facts = false
 
--- a rule that never runs has a time, and it is 0
+-- the tests of a rule that never runs: it has a time, and this is 0
 abbrev pub never_tests : List Fact → List Test
 never_tests facts = test Shape (is_one_time facts) ∷ test NotZero (is_zero_time facts) ∷ []
 
--- the test is passed by each node of a bound, and by each node of its parts
+-- each node of a bound passes a test, and each node of its parts does
 abbrev mutual
   pub each_node : (Bound → Bool) → Bound → Bool
   each_node passes (Constant c) = passes (Constant c)
@@ -64,12 +64,12 @@ abbrev mutual
   each_node_of_all passes NoParts = true
   each_node_of_all passes (Part b bs) = each_node passes b && each_node_of_all passes bs
 
--- whether a bound that is an input is one of the first n
+-- the bound, if it is an input, is one of the first n
 abbrev pub is_input_below : ℕ → Bound → Bool
 is_input_below n (Input i) = nat_lt i n
 is_input_below n b = true
 
--- whether a bound that is a constant is below 2^127, and one that is a power has a base of at least 2
+-- the bound is below 2^127 if it is a constant, and has a base of at least 2 if it is a power
 abbrev pub is_tidy_number : Bound → Bool
 is_tidy_number (Constant c) = nat_le c constant_limit
 is_tidy_number (PowerOf c e) = nat_le 2 c
@@ -86,7 +86,7 @@ is_weaker s (Size t i a ∷ []) b = s.below a b
 is_weaker s (Cost t a ∷ []) b = s.below a b
 is_weaker s facts b = false
 
--- a weaker bound may be written, and is one
+-- the tests of a `weaken` node: its bound has the right shape, and is weaker
 abbrev pub weaken_tests : Setting → List Fact → Bound → List Test
 weaken_tests s facts b =
     test Shape (has_weaken_shape s.program b) ∷ test NotWeaker (is_weaker s facts b) ∷ []

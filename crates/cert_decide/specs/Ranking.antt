@@ -19,14 +19,14 @@ use Rattle.cert_decide.specs.Tests.{Test, test}
 use Rattle.cert_decide.specs.Numbers.{is_in_limit, is_form_in_limit, are_multipliers, is_ascending, implies}
 use Rattle.cert_decide.specs.Plain.{is_rule}
 
--- the rule has a time; the place after a rule has a size
+-- the test that a rule has a time, and the test that a place after a rule has a size
 abbrev pub test_time : Table → ℕ → Test
 test_time table t = test (MissingTime t) (is_some (table.time t))
 
 abbrev pub test_size : Table → ResultVariable → Test
 test_size table result_variable = test (MissingSize result_variable.rule result_variable.place) (is_some (table.size result_variable.rule result_variable.place))
 
--- whether a composed bound isn't large, neither before nor after it is rewritten
+-- the composed bound isn't large, neither before nor after it is rewritten
 abbrev pub is_small : (Bound → Bound) → Bound → Bool
 is_small rewrite b = not (is_large b) && not (is_large (rewrite b))
 
@@ -63,7 +63,7 @@ has_certificate_shape s node =
     && list_all (λ t. are_multipliers s t (moves_of node.set node.moves t)) node.set
     && are_multipliers s node.rule node.floor
 
--- the function, before a rule less after it, is at least what it has to lose
+-- the function loses at least the least loss by the rule
 abbrev pub loses : Setting → RankNode → ℕ → Bool
 loses s node t =
     implies (s.rows t) (moves_of node.set node.moves t)
@@ -74,8 +74,8 @@ abbrev pub has_floor : Setting → RankNode → Bool
 has_floor s node =
     implies (s.rows node.rule) node.floor (less (at_source s.program node node.rule) (constant_form (pos node.den)))
 
--- the shape; what each rule of the set takes; the floor; a time for each entry; a size for each place that is read
--- after an entry; and that the composed bound is small
+-- the tests of a ranking node: the shape; the loss by each rule of the set; the floor; a time for each entry; a size
+-- for each place that is read after an entry; and that the composed bound is small
 abbrev pub rank_tests : Setting → Table → RankNode → List Test
 rank_tests s table node =
     test Shape (has_set_shape s.program node && has_function_shape s.program node && has_certificate_shape s node) ∷

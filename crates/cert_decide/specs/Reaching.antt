@@ -6,12 +6,12 @@ use Rattle.cert_program.specs.model.Programs.{Program}
 use Rattle.cert_program.specs.model.Paths.{source_of, target_of, entry_and_rules}
 use Rattle.cert_program.specs.model.Entries.{is_in}
 
--- the symbol exists, and is among these
+-- the symbol exists, and is in the list
 abbrev pub is_among : Option ℕ → List ℕ → Bool
 is_among None symbols = false
 is_among (Some a) symbols = is_in a symbols
 
--- the rule is allowed and leaves one of these symbols
+-- the allowed rule leaves one of these symbols
 abbrev pub leaves : Program → (ℕ → Bool) → List ℕ → ℕ → Bool
 leaves p is_allowed symbols t = is_allowed t && is_among (source_of p t) symbols
 
@@ -20,7 +20,7 @@ abbrev pub one_round : Program → (ℕ → Bool) → List ℕ → List ℕ
 one_round p is_allowed symbols =
     symbols ++ filter_map (target_of p) (filter (leaves p is_allowed symbols) (entry_and_rules p))
 
--- the symbols that are reached from the start symbol in this many rounds
+-- the symbols that are reached from the start symbol in n rounds
 abbrev pub reached_in : Program → (ℕ → Bool) → ℕ → List ℕ
 reached_in p is_allowed zero = p.start ∷ []
 reached_in p is_allowed (suc n) = one_round p is_allowed (reached_in p is_allowed n)

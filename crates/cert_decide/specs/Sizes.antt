@@ -17,7 +17,7 @@ use Rattle.cert_decide.specs.Tests.{Test, test}
 use Rattle.cert_decide.specs.Numbers.{is_in_limit, is_form_in_limit, are_multipliers, implies}
 use Rattle.cert_decide.specs.Ranking.{test_time, test_size, test_small}
 
--- there is a rule, and this is a place of its target
+-- the rule exists, and its target has this place
 abbrev pub is_place_after : Program → Option Rule → ℕ → Bool
 is_place_after p None place = false
 is_place_after p (Some r) place = nat_le 1 place && nat_le place (arity_of p r.target)
@@ -37,7 +37,7 @@ has_member_shape s m =
     && has_side_bound_shape s m.result_variable.rule (left_of s.program m.result_variable.rule) m.local.up
     && has_side_bound_shape s m.result_variable.rule (left_of s.program m.result_variable.rule) m.local.low
 
--- there is a polynomial, over left variables alone
+-- there is a polynomial, and it is over left variables alone
 abbrev pub is_over_left : ℕ → Option Polynomial → Bool
 is_over_left left None = false
 is_over_left left (Some q) = list_all (λ m. list_all (λ v. nat_lt v left) m.vars) q
@@ -48,15 +48,15 @@ accepts_side_bound s result_variable side (Linear den form multipliers) =
     implies (s.rows result_variable.rule) multipliers (side_bound_goal side den form (new_value s result_variable))
 accepts_side_bound s result_variable side Poly = is_over_left (left_of s.program result_variable.rule) (poly_at s result_variable)
 
--- the tests of the two side bounds of a member
+-- the test that the upper side bound of a member is accepted, and the test that the lower one is
 abbrev pub test_up : Setting → Member → Test
 test_up s m = test (SideBoundUp m.result_variable.rule m.result_variable.place) (accepts_side_bound s m.result_variable Up m.local.up)
 
 abbrev pub test_low : Setting → Member → Test
 test_low s m = test (SideBoundLow m.result_variable.rule m.result_variable.place) (accepts_side_bound s m.result_variable Low m.local.low)
 
--- the tests of a spread: the shape; the up side bound; the low side bound; a size for each place that a side bound
--- reads after the rules that can come before; and that the composed bound is small
+-- the tests of a spread: the shape; the upper side bound; the lower side bound; a size for each place that a side bound
+-- reads, after each rule that can come before; and that the composed bound is small
 abbrev pub spread_tests : Setting → Table → Member → List Test
 spread_tests s table m =
     test Shape (has_member_shape s m) ∷
@@ -106,8 +106,8 @@ all_straight s members [] rest = rest
 all_straight s members (m ∷ ms) rest =
     straight_after s members m (pre s.program m.result_variable.rule) (all_straight s members ms rest)
 
--- the tests of a loop: the shape; all up side bounds; all low ones; the sizes; that no polynomial side bound reads a
--- member; the times; and that the composed bound is small
+-- the tests of a loop: the shape; all upper side bounds; all lower ones; the sizes; that no polynomial side bound reads
+-- a member; the times; and that the composed bound is small
 abbrev pub cycle_tests : Setting → Table → List Member → List Test
 cycle_tests s table members =
     test Shape (has_cycle_shape s members) ∷

@@ -11,11 +11,11 @@ pub record TestOf (R : Type 0) : Type 0 where
 abbrev pub Test : Type 0
 Test = TestOf Reason
 
--- the test with this answer
+-- the test with this reason and this answer
 abbrev pub test : {R : Type 0} → R → Bool → TestOf R
 test reason passes = record { reason = reason; passes = passes }
 
--- the reason of the first test that fails, where one does
+-- the reason of the first test that fails, if one does
 abbrev pub first_failing : {R : Type 0} → List (TestOf R) → Option R
 first_failing [] = None
 first_failing (t ∷ ts) = cond t.passes (first_failing ts) (Some t.reason)

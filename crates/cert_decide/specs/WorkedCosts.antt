@@ -20,21 +20,21 @@ use Rattle.cert_decide.specs.WorkedNodes.{only}
 use Rattle.cert_decide.specs.WorkedLemmas.{once, down, copied, lessened}
 use Rattle.cert_decide.specs.WorkedShapes.{most, over}
 
--- k(A) -> l(A) for a cost of this
+-- k(A) -> l(A) with this cost
 abbrev pub paying : Term → Program
 paying cost = program (1 ∷ 1 ∷ []) (with_cost cost enter ∷ [])
 
--- enter, and l(A) -> l(A - 1) where A >= 1 for a cost of this
+-- the entering rule, and l(A) -> l(A - 1) where A >= 1 with this cost
 abbrev pub paying_rounds : Term → Program
 paying_rounds cost =
     program (1 ∷ 1 ∷ []) (enter ∷ with_cost cost (loop (lowered first 1) (at_least first 1 ∷ [])) ∷ [])
 
--- enter, and l(A) -> l(A) where A >= 1 and A <= 0 for a cost of A
+-- the entering rule, and l(A) -> l(A) where A >= 1 and A <= 0 with the cost A
 abbrev pub paying_never : Program
 paying_never =
     program (1 ∷ 1 ∷ []) (enter ∷ with_cost first (loop first (at_least first 1 ∷ at_most first 0 ∷ [])) ∷ [])
 
--- k(A) -> l(A) for a cost of C, which is free, and the same where C <= A
+-- k(A) -> l(A) with the cost C, which is free, and the same where C <= A
 abbrev pub paying_any : Program
 paying_any = program (1 ∷ 1 ∷ []) (with_cost second (rule 0 1 1 1 (first ∷ []) []) ∷ [])
 
@@ -42,7 +42,7 @@ abbrev pub paying_at_most_A : Program
 paying_at_most_A =
     program (1 ∷ 1 ∷ []) (with_cost second (rule 0 1 1 1 (first ∷ []) (Compare second AtMost first ∷ [])) ∷ [])
 
--- k(A, B) -> l(A) for a cost of this
+-- k(A, B) -> l(A) with this cost
 abbrev pub paying_two : Term → Program
 paying_two cost = program (2 ∷ 1 ∷ []) (with_cost cost (rule 0 1 2 0 (first ∷ []) []) ∷ [])
 
@@ -54,15 +54,15 @@ charge t by uses = Charge (record { rule = t; by = by }) uses
 abbrev pub up_to : ℤ → ℤ → List ℕ → CostBy
 up_to a c multipliers = SideBoundCost (side_bound (one a) c multipliers)
 
--- uses: the virtual entry, and these lemmas
+-- premises: the virtual entry, and these lemmas
 abbrev pub entered_and : List ℕ → Proofs
 entered_and ns = AndProof Start (cited ns)
 
--- the rule runs once, and how its cost is shown, with the multipliers of its rows
+-- the lemmas that the rule runs once, and how its cost is shown, with the multipliers of its rows
 abbrev pub once_paid : List ℕ → CostBy → List Proof
 once_paid multipliers by = once multipliers ∷ charge 1 by (entered_and (1 ∷ [])) ∷ []
 
--- the place after the rule is A, it runs once and costs A, and that is at most A + 7
+-- the lemmas that the place after the rule is A, that it runs once and costs A, and that this is at most A + 7
 abbrev pub entering_lemmas : List Proof
 entering_lemmas =
     once [] ∷
@@ -76,7 +76,7 @@ entering_facts =
     (Size 1 1 (Input 0) ∷ []) ∷
     (Cost 1 (Input 0) ∷ []) ∷ (Cost 1 (sum (Input 0 ∷ Constant 7 ∷ [])) ∷ []) ∷ []
 
--- the lemmas on the loop, how often its rule runs and what its place is, before one on its cost
+-- lemmas on the loop, on its rule's time and its place's size, before one on its cost
 abbrev pub rounds_before : List Proof → List Proof
 rounds_before rest = once [] ∷ down ∷ copied ∷ Cycle (lessened 2 0 ∷ []) (cited (3 ∷ [])) ∷ rest
 
@@ -89,13 +89,13 @@ rounds_known rest =
 abbrev pub rounds_paid : List Proof
 rounds_paid = rounds_before (charge 2 (up_to (pos 1) (pos 0) (0 ∷ 0 ∷ [])) (cited (2 ∷ 3 ∷ 4 ∷ [])) ∷ [])
 
--- rounds that cost -A cost nothing: the rows A >= 1 and -A >= 0 add up to -1
+-- the lemmas on rounds with the cost -A, which cost nothing: the rows A >= 1 and -A >= 0 add up to -1
 abbrev pub rounds_free : List Proof
 rounds_free = rounds_before (charge 2 (EmptyCost (1 ∷ 1 ∷ [])) NoProof ∷ [])
 
--- all lemmas on costs are accepted, with these facts: entering for a cost of A, of A * A, of 5 and of -1, which is
--- nothing; of a free variable up to A; A rounds for a cost of A each, and for one of -A, which is nothing; and a rule
--- that never runs
+-- all worked lemmas on costs are accepted, with these facts: entering with the costs A, A * A, 5, and -1, which counts
+-- as 0; entering with a free cost of at most A; A rounds with the cost A each, and with the cost -A, which counts as 0;
+-- and a rule that never runs
 pub record CostsAreJudged : Type 0 where
   pub entering : AcceptsLemmas (setting_of (paying first)) entering_lemmas
   pub entering_stated : facts_of_lemmas (setting_of (paying first)) entering_lemmas ≡ entering_facts
@@ -123,12 +123,12 @@ pub record CostsAreJudged : Type 0 where
       facts_of_lemmas (setting_of paying_never) (Empty 2 (1 ∷ 1 ∷ []) ∷ charge 2 NeverCost (cited (1 ∷ [])) ∷ [])
       ≡ (Time 2 (Constant 0) ∷ []) ∷ (Cost 2 (Constant 0) ∷ []) ∷ []
 
--- the first reason of a node on the cost of entering, without uses
+-- the first reason of a node on the cost of entering, without premises
 abbrev pub entering_reason : Term → CostBy → Option Reason
 entering_reason cost by = first_reason_in (paying cost) [] (charge 1 by NoProof)
 
--- the reason of a node on the cost of a round, which is A, where the rule runs A times and the place is A after both
--- rules
+-- the first reason of a node on the cost of a round, which is A, where the rule runs A times and the place is A after
+-- both rules
 abbrev pub round_reason : CostBy → List ℕ → Option Reason
 round_reason by uses = first_reason_in (paying_rounds first) (rounds_known []) (charge 2 by (cited uses))
 

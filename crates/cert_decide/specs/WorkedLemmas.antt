@@ -1,4 +1,4 @@
--- Lemmas on programs with one loop or none, worked out by hand.
+-- Lemmas on programs with at most one loop, worked out by hand.
 use Rattle.std.specs.Prelude.{◌≡◌, ℕ, List, [], ◌∷◌, ℤ, pos, Some}
 use Rattle.cert_program.specs.model.Bounds.{Constant, Input}
 use Rattle.cert_program.specs.model.Facts.{Fact, Time, Size}
@@ -27,11 +27,11 @@ falling_by den a c = rank 2 (1 ∷ 2 ∷ []) den (at_symbol 0 (one a) c ∷ at_s
 abbrev pub down : Proof
 down = falling_by 1 (pos 1) (pos 0)
 
--- the place after the first rule is A
+-- the place after the first rule is A, as a lemma
 abbrev pub copied : Proof
 copied = Spread (equal_to 1 1 (one (pos 1)) []) entered
 
--- a place after a rule is at most what it was, and at least minus low
+-- a member whose place is at most what it was before the rule, and at least minus low
 abbrev pub lessened : ℕ → ℕ → Member
 lessened rule low = member rule 1 (side_bound (one (pos 1)) (pos 0) (0 ∷ [])) (side_bound (one (pos 0)) (pos low) (1 ∷ []))
 
@@ -50,18 +50,18 @@ counting_facts =
     (Size 1 1 (Input 0) ∷ []) ∷
     (Size 2 1 (Input 0) ∷ []) ∷ (Time 2 (sum (Input 0 ∷ Constant 7 ∷ [])) ∷ []) ∷ []
 
--- the only rule falls from A, and after it the place is at most what it was
+-- the lemmas that the only rule falls from A, and that after it the place is at most what it was
 abbrev pub start_lemmas : List Proof
 start_lemmas =
     rank 1 (1 ∷ []) 1 (at_symbol 0 (one (pos 1)) (pos 0) ∷ []) ((0 ∷ []) ∷ []) (1 ∷ []) entered ∷
     Cycle (lessened 1 0 ∷ []) entered ∷ []
 
--- the function (A + 1) / 2 falls by 1 where A falls by 2; after the rule A is at least -1
+-- the lemmas that the function (A + 1) / 2 falls by 1 where A falls by 2, and that after the rule A is at least -1
 abbrev pub halved_lemmas : List Proof
 halved_lemmas =
     once [] ∷ falling_by 2 (pos 1) (pos 1) ∷ copied ∷ Cycle (lessened 2 1 ∷ []) (cited (3 ∷ [])) ∷ []
 
--- the guard A >= 5 gives the low side
+-- the lemmas for the guard A >= 5, which gives the lower side bound
 abbrev pub guarded_lemmas : List Proof
 guarded_lemmas =
     once (0 ∷ []) ∷
@@ -95,7 +95,8 @@ pub record FallingLoopsAreJudged : Type 0 where
   pub guarded_stated : facts_of_lemmas (setting_of guarded_entry) guarded_lemmas
       ≡ (Time 1 (Constant 1) ∷ []) ∷ (Size 1 1 (Input 0) ∷ []) ∷ []
 
--- rules that never run: their guard has no point, or no integer one, or they aren't reached
+-- lemmas on rules that never run are accepted: their guard has no point, or no integer one, or their source isn't
+-- reached
 pub record DeadRulesAreJudged : Type 0 where
   pub empty : AcceptsLemmas (setting_of contradicted) (dead_lemmas (Empty 2 (1 ∷ 1 ∷ [])))
   pub empty_stated : facts_of_lemmas (setting_of contradicted) (dead_lemmas (Empty 2 (1 ∷ 1 ∷ []))) ≡ dead_facts

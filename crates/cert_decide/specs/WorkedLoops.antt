@@ -23,20 +23,20 @@ first_place = Spread (equal_to 1 1 (two (pos 1) (pos 0)) []) entered
 abbrev pub second_place : Proof
 second_place = Spread (equal_to 1 2 (two (pos 0) (pos 1)) []) entered
 
--- the outer of the nested loops falls from A; the multipliers of the set are given
+-- the outer of the nested loops falls from A; the multipliers of the rules are given
 abbrev pub outer : List (List ℕ) → Proof
 outer moves = rank 2 (1 ∷ 2 ∷ 3 ∷ 4 ∷ []) 1
     (at_symbol 0 (two (pos 1) (pos 0)) (pos 0)
     ∷ at_symbol 1 (two (pos 1) (pos 0)) (pos 0)
     ∷ at_symbol 2 (two (pos 1) (pos 0)) (minus 1) ∷ []) moves (1 ∷ []) entered
 
--- each round of it goes back once
+-- the last rule of the outer loop, which leads back, occurs once in each of its rounds
 abbrev pub back : Proof
 back = rank 4 (3 ∷ 4 ∷ []) 1
     (at_symbol 1 (two (pos 0) (pos 0)) (pos 0) ∷ at_symbol 2 (two (pos 0) (pos 0)) (pos 1) ∷ [])
     ((0 ∷ []) ∷ (0 ∷ []) ∷ []) (0 ∷ []) (cited (2 ∷ []))
 
--- A after the rules of the loops: by the first of them it is at least 1, by the last it falls by 1
+-- the place A after the rules of the loops: at least 1 after the first of them, one less after the last
 abbrev pub round_member : Member
 round_member = member 2 1 (side_bound (two (pos 1) (pos 0)) (pos 0) (0 ∷ [])) (side_bound (two (pos 0) (pos 0)) (minus 1) (1 ∷ []))
 
@@ -49,7 +49,7 @@ back_member = member 4 1 (side_bound (two (pos 1) (pos 0)) (pos 0) (0 ∷ [])) (
 abbrev pub round_members : List Member
 round_members = round_member ∷ kept_member ∷ back_member ∷ []
 
--- B after them: by the first it is A, by the second at least 0, and by the last at most 0
+-- the place B after the rules: A after the first, at least 0 after the second, and at most 0 after the last
 abbrev pub handed_over : Member
 handed_over = member 2 2 (side_bound (two (pos 1) (pos 0)) (pos 0) (0 ∷ [])) (side_bound (two (pos 0) (pos 0)) (minus 1) (1 ∷ []))
 
@@ -94,12 +94,12 @@ nested_facts =
     (Size 2 1 twice ∷ Size 3 1 twice ∷ Size 4 1 twice ∷ []) ∷
     (Size 2 2 twice ∷ []) ∷ (Size 3 2 twice ∷ []) ∷ (Size 4 2 twice ∷ []) ∷ (Time 3 twice_squared ∷ []) ∷ []
 
--- a bound read as a form over 1, so many times
+-- n times a bound read as a form over 1
 abbrev pub taken : ℕ → Bound → Bound
 taken n b = sum (Constant 0 ∷ product (Constant n ∷ b ∷ []) ∷ [])
 
 -- the size of the members: the maximum of the sizes that enter, plus the last rule's time times the sum of the
--- additions from each of the two rules before it, 0 on the up side and 1 on the low side
+-- additions from the two rules before it, 0 on the upper side and 1 on the lower
 abbrev pub round_size : Bound
 round_size =
     product
@@ -138,7 +138,7 @@ leaving = rank 3 (1 ∷ 2 ∷ 3 ∷ []) 1
 abbrev pub falling : ℕ → Member
 falling rule = member rule 1 (side_bound (two (pos 1) (pos 0)) (pos 0) (0 ∷ [])) (side_bound (two (pos 0) (pos 0)) (pos 0) (1 ∷ []))
 
--- the second one doubles
+-- the second place after the rule doubles
 abbrev pub doubled_member : Member
 doubled_member = equal_to 2 2 (two (pos 0) (pos 2)) (0 ∷ [])
 

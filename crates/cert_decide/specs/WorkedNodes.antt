@@ -1,4 +1,4 @@
--- Nodes and bounds in a short notation, and the first reason of a node of a program.
+-- A short notation for nodes and bounds, and the first reason of a node of a program.
 use Rattle.std.specs.Prelude.{ℕ, List, [], ◌∷◌, map, ℤ, pos, neg_ℤ, Option}
 use Rattle.cert_program.specs.model.Bounds.{Bound, SumOf, ProductOf, MaximumOf, Parts, NoParts, Part}
 use Rattle.cert_program.specs.model.Facts.{Fact}
@@ -45,7 +45,7 @@ member rule place up low = record {
   local = record { up = up; low = low };
 }
 
--- a place whose new value is a form without a constant: the form is one side bound, its opposite the other
+-- a member whose new value is a form without a constant: the form is one side bound, and its negation the other
 abbrev pub equal_to : ℕ → ℕ → List ℤ → List ℕ → Member
 equal_to rule place coefs multipliers =
     member rule place (side_bound coefs (pos 0) multipliers) (side_bound (map neg_ℤ coefs) (pos 0) multipliers)
@@ -54,7 +54,7 @@ equal_to rule place coefs multipliers =
 abbrev pub nonlinear : ℕ → ℕ → Member
 nonlinear rule place = member rule place Poly Poly
 
--- uses: the virtual entry; and lemmas by their numbers
+-- premises: the virtual entry; and lemmas by their numbers
 abbrev pub entered : Proofs
 entered = AndProof Start NoProof
 
@@ -80,6 +80,6 @@ maximum bs = MaximumOf (parts_of bs)
 abbrev pub first_reason_in : Program → List (List Fact) → Proof → Option Reason
 first_reason_in p past proof = first_reason (setting_of p) past proof
 
--- one lemma, with this fact
+-- the facts of one lemma that states this fact
 abbrev pub only : Fact → List (List Fact)
 only fact = (fact ∷ []) ∷ []

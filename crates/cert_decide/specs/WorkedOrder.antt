@@ -1,4 +1,4 @@
--- Worked values of nodes with more than one fault, and which of these is reported.
+-- Worked values of nodes with several faults, and which of these is reported.
 use Rattle.std.specs.Prelude.{◌≡◌, ℕ, List, [], ◌∷◌, ℤ, pos, Option, Some, None}
 use Rattle.cert_program.specs.model.Bounds.{Constant, Input}
 use Rattle.cert_program.specs.model.Facts.{Fact, Time, Size}
@@ -18,20 +18,21 @@ use Rattle.cert_decide.specs.WorkedNodes.{cited, first_reason_in, only}
 use Rattle.cert_decide.specs.WorkedLoops.{outer, back_member, round_members}
 use Rattle.cert_decide.specs.WorkedLoops.{handed_over, doubled_member}
 
--- the rule that counts down, over both rules, with this denominator, this coefficient at k and these multipliers
+-- the ranking node of the rule that counts down, over both rules, with this denominator, this coefficient at k and
+-- these multipliers
 abbrev pub down_with : ℕ → ℤ → List ℕ → Proof
 down_with den a multipliers = rank 2 (1 ∷ 2 ∷ []) den
     (at_symbol 0 (one a) (pos 0) ∷ at_symbol 1 (one (pos 1)) (pos 0) ∷ []) ([] ∷ multipliers ∷ []) (1 ∷ []) entered
 
--- the rule that counts down alone, with this number and floor
+-- the ranking node of the rule that counts down, over it alone, with this number and floor
 abbrev pub alone : ℕ → List ℕ → Proofs → Proof
 alone rule floor uses = rank rule (rule ∷ []) 1 (at_symbol 1 (one (pos 1)) (pos 0) ∷ []) ((0 ∷ []) ∷ []) floor uses
 
--- the first rule occurs once
+-- a fact: the first rule occurs once
 abbrev pub once_fact : Fact
 once_fact = Time 1 (Constant 1)
 
--- the place after it is A
+-- a fact: the place after the first rule is A
 abbrev pub place_fact : Fact
 place_fact = Size 1 1 (Input 0)
 
@@ -46,8 +47,8 @@ pub record RankReasonsAreInOrder : Type 0 where
   pub times_before_sizes :
       first_reason_in two_ways_in (only once_fact) (alone 3 (1 ∷ []) (cited (1 ∷ []))) ≡ Some (MissingTime 2)
 
--- members of two rules that multiply: as they are, and the first with a wrong low side bound, the second with a wrong
--- up one
+-- members of two rules that multiply: as they are; and the first with a wrong lower side bound, the second with a wrong
+-- upper one
 abbrev pub twice_member : Member
 twice_member = equal_to 2 1 (one (pos 2)) []
 
@@ -60,14 +61,14 @@ wrong_low = member 2 1 (side_bound (one (pos 2)) (pos 0) []) (side_bound (one (p
 abbrev pub wrong_up : Member
 wrong_up = member 3 1 (side_bound (one (pos 2)) (pos 0) []) (side_bound (one (minus 3)) (pos 0) [])
 
--- the members of the nested loops, with a wrong low side bound at the first and a wrong up one at the second
+-- the members of the nested loops, with a wrong lower side bound at the first and a wrong upper one at the second
 abbrev pub wrong_round : Member
 wrong_round = member 2 1 (side_bound (two (pos 1) (pos 0)) (pos 0) (0 ∷ [])) (side_bound (two (pos 0) (pos 0)) (pos 0) (0 ∷ []))
 
 abbrev pub wrong_kept : Member
 wrong_kept = member 3 1 (side_bound (two (pos 0) (pos 0)) (pos 0) (0 ∷ [])) (side_bound (two (minus 1) (pos 0)) (pos 0) (0 ∷ []))
 
--- all up side bounds come before all low ones; then the sizes; then nonlinear side bounds; and then the times,
+-- all upper side bounds come before all lower ones; then the sizes; then nonlinear side bounds; and then the times,
 -- ascending
 pub record LoopReasonsAreInOrder : Type 0 where
   pub up_before_low :
@@ -107,7 +108,8 @@ vanishing = record {
   below = towering.below;
 }
 
--- the reason at the place after the first rule, where that after the virtual entry is a power so many times
+-- the reason at the place after the first rule, where the place after the virtual entry has a tower of n powers as its
+-- size
 abbrev pub over_tower : ℕ → Option Reason
 over_tower n = first_reason vanishing ((Size 0 1 (tower n) ∷ []) ∷ []) (Spread entered_member (cited (1 ∷ [])))
 
@@ -125,9 +127,9 @@ doubling_towers = record {
   below = settings.zero_below;
 }
 
--- a size that the up side bound reads comes before one that the low one reads, whatever their places; one is needed
--- after each rule that can come before, in their order; a missing size comes before a bound that is too large; and a
--- bound is measured before it is rewritten, and after that
+-- a size that the upper side bound reads comes before one that the lower one reads, whatever their places; sizes are
+-- needed after each rule that can come before, in their order; a missing size comes before a bound that is too large;
+-- and a bound is measured before and after it is rewritten
 pub record SizeReasonsAreInOrder : Type 0 where
   pub up_before_low : first_reason_in chosen_between [] (Spread chosen NoProof) ≡ Some (MissingSize 0 2)
   pub first_before : first_reason_in nested_loops [] (Spread handed_over NoProof) ≡ Some (MissingSize 1 1)
@@ -143,8 +145,8 @@ pub record SizeReasonsAreInOrder : Type 0 where
       first_reason doubling_towers ((place_fact ∷ Time 2 (Constant 3) ∷ []) ∷ []) (Cycle doubled (cited (1 ∷ [])))
       ≡ Some (Large 201)
 
--- the check for one time of a rule comes before the check that it is 0; that a bound may be written before that it is
--- weaker; and that there is a multiplier for each row before that they add up
+-- the check for one time of a rule comes before the check that it is 0; the check that a bound has the right shape
+-- before the check that it is weaker; and the check for one multiplier a row before the check that the rows add up
 pub record PlainReasonsAreInOrder : Type 0 where
   pub never_of_a_size : first_reason_in counting_down (only place_fact) (Never (Cite 1)) ≡ Some Shape
   pub never_of_the_entry : first_reason_in counting_down [] (Never Start) ≡ Some Shape

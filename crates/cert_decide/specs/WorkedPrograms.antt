@@ -38,7 +38,7 @@ third = Variable 2
 abbrev pub number : ℕ → Term
 number n = Literal (pos n)
 
--- a term less a number, and a multiple of one
+-- a term less a number, and a multiple of a term
 abbrev pub lowered : Term → ℕ → Term
 lowered e n = Subtraction e (number n)
 
@@ -48,29 +48,29 @@ times n e = Multiplication (number n) e
 abbrev pub square : Term → Term
 square e = Multiplication e e
 
--- a term is at least a number, or at most
+-- the atoms that a term is at least a number, and at most a number
 abbrev pub at_least : Term → ℕ → Atom
 at_least e n = Compare e AtLeast (number n)
 
 abbrev pub at_most : Term → ℕ → Atom
 at_most e n = Compare e AtMost (number n)
 
--- k(A) -> l(A), and k(A, B) -> l(A, B)
+-- the entering rules k(A) -> l(A), and k(A, B) -> l(A, B)
 abbrev pub enter : Rule
 enter = rule 0 1 1 0 (first ∷ []) []
 
 abbrev pub enter_with_two : Rule
 enter_with_two = rule 0 1 2 0 (first ∷ second ∷ []) []
 
--- l(A) -> l(.. A ..), with this guard
+-- l(A) -> l(t) for this term t, with this guard
 abbrev pub loop : Term → List Atom → Rule
 loop update guard = rule 1 1 1 0 (update ∷ []) guard
 
--- enter, and l(A) -> l(A - 1) where A >= 1
+-- the entering rule, and l(A) -> l(A - 1) where A >= 1
 abbrev pub counting_down : Program
 counting_down = program (1 ∷ 1 ∷ []) (enter ∷ loop (lowered first 1) (at_least first 1 ∷ []) ∷ [])
 
--- enter twice, and the same loop
+-- the entering rule twice, and the same loop
 abbrev pub two_ways_in : Program
 two_ways_in = program (1 ∷ 1 ∷ []) (enter ∷ enter ∷ loop (lowered first 1) (at_least first 1 ∷ []) ∷ [])
 
@@ -78,7 +78,7 @@ two_ways_in = program (1 ∷ 1 ∷ []) (enter ∷ enter ∷ loop (lowered first 
 abbrev pub looping_start : Program
 looping_start = program (1 ∷ []) (rule 0 0 1 0 (lowered first 1 ∷ []) (at_least first 1 ∷ []) ∷ [])
 
--- enter, and l(A) -> l(A - 2) where A >= 1
+-- the entering rule, and l(A) -> l(A - 2) where A >= 1
 abbrev pub by_twos : Program
 by_twos = program (1 ∷ 1 ∷ []) (enter ∷ loop (lowered first 2) (at_least first 1 ∷ []) ∷ [])
 
@@ -86,20 +86,20 @@ by_twos = program (1 ∷ 1 ∷ []) (enter ∷ loop (lowered first 2) (at_least f
 abbrev pub guarded_entry : Program
 guarded_entry = program (1 ∷ 1 ∷ []) (rule 0 1 1 0 (first ∷ []) (at_least first 5 ∷ []) ∷ [])
 
--- enter, and l(A) -> l(A) where A >= 1 and A <= 0
+-- the entering rule, and l(A) -> l(A) where A >= 1 and A <= 0
 abbrev pub contradicted : Program
 contradicted = program (1 ∷ 1 ∷ []) (enter ∷ loop first (at_least first 1 ∷ at_most first 0 ∷ []) ∷ [])
 
--- enter, and l(A) -> l(A) where 2 * A >= 1 and 2 * A <= 1, which no integer meets
+-- the entering rule, and l(A) -> l(A) where 2 * A >= 1 and 2 * A <= 1, which no integer meets
 abbrev pub between_integers : Program
 between_integers =
     program (1 ∷ 1 ∷ []) (enter ∷ loop first (at_least (times 2 first) 1 ∷ at_most (times 2 first) 1 ∷ []) ∷ [])
 
--- enter, and m(A) -> m(A)
+-- the entering rule, and m(A) -> m(A)
 abbrev pub apart : Program
 apart = program (1 ∷ 1 ∷ 1 ∷ []) (enter ∷ rule 2 2 1 0 (first ∷ []) [] ∷ [])
 
--- enter, l(A) -> m(A) where A >= 1 and A <= 0, and m(A) -> m(A)
+-- the entering rule, l(A) -> m(A) where A >= 1 and A <= 0, and m(A) -> m(A)
 abbrev pub cut_off : Program
 cut_off = program (1 ∷ 1 ∷ 1 ∷ [])
     (enter ∷ rule 1 2 1 0 (first ∷ []) (at_least first 1 ∷ at_most first 0 ∷ []) ∷ rule 2 2 1 0 (first ∷ []) [] ∷ [])
@@ -108,16 +108,16 @@ cut_off = program (1 ∷ 1 ∷ 1 ∷ [])
 abbrev pub squaring : Program
 squaring = program (1 ∷ 1 ∷ []) (rule 0 1 1 0 (square first ∷ []) [] ∷ [])
 
--- enter, and l(A, B) -> l(A - 1, B * B) where A >= 1
+-- the entering rule, and l(A, B) -> l(A - 1, B * B) where A >= 1
 abbrev pub squaring_loop : Program
 squaring_loop = program (2 ∷ 2 ∷ [])
     (enter_with_two ∷ rule 1 1 2 0 (lowered first 1 ∷ square second ∷ []) (at_least first 1 ∷ []) ∷ [])
 
--- enter, l(A) -> l(2 * A), and l(A) -> l(3 * A)
+-- the entering rule, l(A) -> l(2 * A), and l(A) -> l(3 * A)
 abbrev pub twice_or_thrice : Program
 twice_or_thrice = program (1 ∷ 1 ∷ []) (enter ∷ loop (times 2 first) [] ∷ loop (times 3 first) [] ∷ [])
 
--- enter, l(A) -> l(2 * A), and l(A) -> l(A * A)
+-- the entering rule, l(A) -> l(2 * A), and l(A) -> l(A * A)
 abbrev pub twice_or_squared : Program
 twice_or_squared = program (1 ∷ 1 ∷ []) (enter ∷ loop (times 2 first) [] ∷ loop (square first) [] ∷ [])
 
@@ -127,7 +127,8 @@ chosen_between = program (2 ∷ 2 ∷ [])
     (rule 0 1 2 1 (first ∷ third ∷ [])
     (Compare third AtMost second ∷ Compare third AtLeast (Subtraction (number 0) first) ∷ []) ∷ [])
 
--- enter, l(A, B) -> m(A, A) where A >= 1, m(A, B) -> m(A, B - 1) where B >= 1, and m(A, B) -> l(A - 1, B) where B <= 0
+-- the entering rule, l(A, B) -> m(A, A) where A >= 1, m(A, B) -> m(A, B - 1) where B >= 1, and m(A, B) -> l(A - 1, B)
+-- where B <= 0
 abbrev pub nested_loops : Program
 nested_loops = program (2 ∷ 2 ∷ 2 ∷ [])
     (enter_with_two
@@ -135,7 +136,8 @@ nested_loops = program (2 ∷ 2 ∷ 2 ∷ [])
     ∷ rule 2 2 2 0 (first ∷ lowered second 1 ∷ []) (at_least second 1 ∷ [])
     ∷ rule 2 1 2 0 (lowered first 1 ∷ second ∷ []) (at_most second 0 ∷ []) ∷ [])
 
--- enter, l(A, B) -> l(A - 1, 2 * B) where A >= 1, l(A, B) -> m(B, B), and m(A, B) -> m(A - 1, B) where A >= 1
+-- the entering rule, l(A, B) -> l(A - 1, 2 * B) where A >= 1, l(A, B) -> m(B, B), and m(A, B) -> m(A - 1, B) where A >=
+-- 1
 abbrev pub doubling : Program
 doubling = program (2 ∷ 2 ∷ 2 ∷ [])
     (enter_with_two

@@ -1,4 +1,4 @@
--- Shapes that are refused, numbers at their limits, and facts that come first, worked out by hand.
+-- Shapes that are refused, numbers at their limits, and the first of several facts, worked out by hand.
 use Rattle.std.specs.Prelude.{◌≡◌, ℕ, ◌+◌, ◌-◌, ◌^◌, List, [], ◌∷◌, pos, Some, None}
 use Rattle.cert_program.specs.model.Bounds.{Bound, Constant, Input, PowerOf}
 use Rattle.cert_program.specs.model.Facts.{Fact, Time, Size}
@@ -12,7 +12,7 @@ use Rattle.cert_decide.specs.WorkedNodes.{cited, product, first_reason_in, only}
 use Rattle.cert_decide.specs.WorkedLoops.{round_member, kept_member, back_member}
 use Rattle.cert_decide.specs.WorkedOrder.{alone}
 
--- the outer of the nested loops, with its forms in another order
+-- the ranking node of the outer of the nested loops, with its forms in another order
 abbrev pub disordered : Proof
 disordered = rank 2 (1 ∷ 2 ∷ 3 ∷ 4 ∷ []) 1
     (at_symbol 1 (two (pos 1) (pos 0)) (pos 0)
@@ -20,7 +20,7 @@ disordered = rank 2 (1 ∷ 2 ∷ 3 ∷ 4 ∷ []) 1
     ∷ at_symbol 2 (two (pos 1) (pos 0)) (minus 1) ∷ [])
     ([] ∷ (0 ∷ []) ∷ (0 ∷ []) ∷ (0 ∷ []) ∷ []) (1 ∷ []) entered
 
--- the inner loop, with a form for another symbol too, and with multipliers for another rule too
+-- the ranking node of the inner loop, with a form for another symbol too, and with multipliers for another rule too
 abbrev pub one_form_more : Proof
 one_form_more = rank 3 (3 ∷ []) 1
     (at_symbol 1 (two (pos 0) (pos 0)) (pos 0) ∷ at_symbol 2 (two (pos 0) (pos 1)) (pos 0) ∷ [])
@@ -30,7 +30,7 @@ abbrev pub one_move_more : Proof
 one_move_more = rank 3 (3 ∷ []) 1 (at_symbol 2 (two (pos 0) (pos 1)) (pos 0) ∷ [])
     ((0 ∷ []) ∷ (0 ∷ []) ∷ []) (1 ∷ []) NoProof
 
--- the way back over a set that descends, and over one without it
+-- the ranking node of the rule that leads back, over a set that descends, and over one without the rule
 abbrev pub descending : Proof
 descending = rank 4 (4 ∷ 3 ∷ []) 1
     (at_symbol 1 (two (pos 0) (pos 0)) (pos 0) ∷ at_symbol 2 (two (pos 0) (pos 0)) (pos 1) ∷ [])
@@ -54,7 +54,7 @@ foreign_set = rank 2 (1 ∷ 2 ∷ 3 ∷ []) 1
 abbrev pub at_result_variable : ℕ → ℕ → Proof
 at_result_variable rule place = Spread (equal_to rule place (one (pos 1)) []) entered
 
--- each of these is no node
+-- each of these nodes has a wrong shape
 pub record ShapesAreRefused : Type 0 where
   pub disordered : first_reason_in nested_loops [] disordered ≡ Some Shape
   pub one_form_more : first_reason_in nested_loops [] one_form_more ≡ Some Shape
@@ -73,13 +73,14 @@ pub record ShapesAreRefused : Type 0 where
   pub past_the_rules : first_reason_in counting_down [] (at_result_variable 3 1) ≡ Some Shape
   pub set_past_the_rules : first_reason_in counting_down [] foreign_set ≡ Some Shape
 
--- the function (a * A + c) / den falls by the rule that counts down, with these multipliers of the rule and the floor
+-- the function (a * A + c) / den as a ranking node of the rule that counts down, with these multipliers of the rule and
+-- the floor
 abbrev pub large_numbers : ℕ → ℕ → ℕ → ℕ → ℕ → Proof
 large_numbers den a c move floor = rank 2 (1 ∷ 2 ∷ []) den
     (at_symbol 0 (one (pos a)) (pos c) ∷ at_symbol 1 (one (pos a)) (pos c) ∷ [])
     ([] ∷ (move ∷ []) ∷ []) (floor ∷ []) entered
 
--- multipliers, denominators, coefficients and constants of ranking functions go up to 2^56
+-- multipliers, denominators, coefficients and constants of ranking functions are accepted up to 2^56
 abbrev pub most : ℕ
 most = 2 ^ 56
 
@@ -100,8 +101,8 @@ pub record RankLimitsAreMet : Type 0 where
   pub most_floor : first_reason_in counting_down [] (large_numbers 1 1 0 0 most) ≡ Some Floor
   pub floor_over : first_reason_in counting_down [] (large_numbers 1 1 0 0 over) ≡ Some Shape
 
--- (a * A + c) / den on the up side of a place after the rule that counts down, and 0 on the low side, over den by this
--- multiplier
+-- a spread node with the upper side bound (a * A + c) / den at a place after the rule that counts down, and the lower
+-- one 0, over den by this multiplier
 abbrev pub large_side_bounds : ℕ → ℕ → ℕ → ℕ → Proof
 large_side_bounds den a c multiplier = Spread (record {
   result_variable = record { rule = 2; place = 1 };
@@ -111,11 +112,11 @@ large_side_bounds den a c multiplier = Spread (record {
   };
 }) (cited (1 ∷ []))
 
--- the place is A after both rules
+-- the facts that the place is A after both rules
 abbrev pub two_places : List (List Fact)
 two_places = (Size 1 1 (Input 0) ∷ Size 2 1 (Input 0) ∷ []) ∷ []
 
--- the numbers of side bounds go up to their limits, too
+-- the numbers of side bounds are accepted up to their limits, too
 pub record SideBoundLimitsAreMet : Type 0 where
   pub most_den : first_reason_in counting_down two_places (large_side_bounds most most 0 most) ≡ None
   pub most_stated :
@@ -141,15 +142,15 @@ pub record WeakerLimitsAreMet : Type 0 where
   pub base_under : first_reason_in contradicted (only (Time 2 (Constant 0))) (weaker_than_never (PowerOf 1 (Input 0))) ≡ Some Shape
   pub input_over : first_reason_in contradicted (only (Time 2 (Constant 0))) (weaker_than_never (PowerOf 2 (Input 1))) ≡ Some Shape
 
--- the first rule occurs once, at most five times, and the place after it is A
+-- the facts that the first rule occurs once, and at most five times, and that the place after it is A
 abbrev pub two_times : List (List Fact)
 two_times = (Time 1 (Constant 1) ∷ []) ∷ (Time 1 (Constant 5) ∷ []) ∷ (Size 1 1 (Input 0) ∷ []) ∷ []
 
--- the second rule occurs never, and at most three times
+-- the facts that the second rule occurs never, and at most three times
 abbrev pub never_or_thrice : List (List Fact)
 never_or_thrice = (Time 2 (Constant 0) ∷ []) ∷ (Time 2 (Constant 3) ∷ []) ∷ []
 
--- the first time of a rule counts, but a time of 0 counts in any position
+-- of several times of a rule the first counts, but a time of 0 counts in any position
 pub record FirstFactsCount : Type 0 where
   pub five : facts_of (setting_of counting_down) two_times (alone 2 (1 ∷ []) (cited (2 ∷ 1 ∷ 3 ∷ [])))
       ≡ Time 2 (product (Constant 5 ∷ Input 0 ∷ [])) ∷ []

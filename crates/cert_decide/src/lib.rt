@@ -24,8 +24,8 @@ pub fn lemmas_are_decided()
     ensures { LemmasAreDecided }
 {}
 
-/// Worked values: lemmas on small programs that are accepted, with their facts: on loops that fall, nested loops, a
-/// loop that doubles before another one counts, rules that never run, and squares.
+/// Worked values: lemmas on small programs that are accepted, with their facts: on loops that fall, on nested loops, on
+/// a loop that doubles before another one counts down, on rules that never run, and on squares.
 pub fn lemmas_are_as_worked_out()
     ensures falling { FallingLoopsAreJudged }
     ensures dead { DeadRulesAreJudged }
@@ -42,8 +42,8 @@ pub fn reasons_are_as_worked_out()
     ensures plain { PlainReasonsAreInOrder }
 {}
 
-/// Worked values: wrong shapes are refused, numbers are accepted up to their limits and no further, and the first facts
-/// count.
+/// Worked values: wrong shapes are refused; numbers are accepted up to their limits and no further; and of several
+/// facts with one key the first counts.
 pub fn shapes_are_as_worked_out()
     ensures shapes { ShapesAreRefused }
     ensures ranks { RankLimitsAreMet }

@@ -1,4 +1,4 @@
--- The pieces of a bound inside a proof file are found again in their bytes.
+-- The pieces of a bound inside a proof file are cut from their bytes again.
 use Rattle.std.proofs.Common.{◌≡◌, ℕ, ◌+◌, ◌-◌, ◌<◌, ◌≤◌, ◌^◌, min, Bool, true, false, cond, List, [], ◌∷◌}
 use Rattle.std.proofs.Common.{◌++◌, map, length, slice_index_or, Some, refl, ap, sym, subst, ◌∙◌, arith}
 use Rattle.std.specs.Prelude.{codes, ◌==◌, ◌&&◌, ◌||◌, nat_lt}
@@ -34,7 +34,7 @@ use Rattle.cert_lexer.specs.Lexing.{lexeme_in, plain_lexeme}
 use Rattle.cert_lexer.specs.BoundSteps.{pieces_in}
 use Rattle.cert_lexer.proofs.BoundCuts.{Goes, IsOpened, PartLevels, behind_bracket}
 
--- a name ends there, a number does, and no bracket comes first
+-- bytes that close a piece end a name and a number, and don't begin with an opening bracket
 closes_name : (bytes : List ℕ) → Closes bytes → Stops continues_name bytes
 closes_name [] h = tt
 closes_name (b ∷ bytes) h = h.0
@@ -47,12 +47,12 @@ closes_call : (bytes : List ℕ) → Closes bytes → begins_with 40 bytes ≡ f
 closes_call [] h = refl
 closes_call (b ∷ bytes) h = h.2
 
--- the lexeme of any byte but a letter
+-- the lexeme of a byte that begins no name
 abbrev other_lexeme : ℕ → List ℕ → Lexeme Piece
 other_lexeme c bytes =
     cond (is_ascii_digit c) (number_at (c ∷ prefix is_ascii_digit bytes)) (record { piece = mark_at c; len = 1 })
 
--- a name is found again
+-- a name is cut from its bytes again
 word_found : (names : List Name) (i : ℕ) (rest : List ℕ) → AreNames names → i < length names → Closes rest
     → Found names (Variable i) rest
 word_found names i rest are h closed = go (slice_index_or names i []) (listed_name names i are h) refl
@@ -81,7 +81,7 @@ word_found names i rest are h closed = go (slice_index_or names i []) (listed_na
 digit_no_name : (c : ℕ) → is_ascii_digit c ≡ true → begins_name c ≡ false
 digit_no_name c h = grind (arith, nat_tests)
 
--- a number is found again
+-- a number is cut from its bytes again
 number_found : (names : List Name) (n : ℕ) (rest : List ℕ) → n < 2 ^ 127 → Closes rest → Found names (Number n) rest
 number_found names n rest small closed = go (decimal n) d.0.0 (digits_pass (decimal n) d.0.1) refl
   where
@@ -112,7 +112,7 @@ number_found names n rest small closed = go (decimal n) d.0.0 (digits_pass (deci
               ∙ (let k : min n (2 ^ 127) ≡ n = omega (arith, small) in k));
         }
 
--- a kept piece is found again
+-- every piece that meets the conditions is cut from its bytes again
 pub piece_found : (names : List Name) (q : Piece) (rest : List ℕ) → AreNames names → KeptPiece (length names) q
     → (IsLong q → Closes rest) → Found names q rest
 piece_found names (Variable i) rest are kept closed = word_found names i rest are kept (closed tt)
@@ -127,7 +127,7 @@ piece_found names Blank rest are kept closed = record { first = 32; others = [];
 piece_found names Comma rest are kept closed = record { first = 44; others = []; split = refl; lexeme = refl }
 piece_found names Wrong rest are kept closed = absurd kept
 
--- a piece that can follow a name or a number closes it, and so do bytes that can
+-- pieces that can follow a name or a number close it, and so do the bytes after a bound if there are no such pieces
 pub marked_close : (names : List Name) (qs : List Piece) (rest : List ℕ) → PartLevels qs → Closes rest
     → Closes (bytes_of names qs ++ rest)
 marked_close names [] rest m c = c
@@ -143,7 +143,7 @@ marked_close names (Maximum ∷ qs) rest m c = absurd m
 marked_close names (Open ∷ qs) rest m c = absurd m
 marked_close names (Wrong ∷ qs) rest m c = absurd m
 
--- no piece begins with a byte that ends a bound
+-- a byte that begins a name ends no bound
 letter_no_end : (depth b : ℕ) → begins_name b ≡ true → ends_bound depth b ≡ false
 letter_no_end depth b h = go (b == 59) (b == 125) (b == 10) (b == 41) (other 59 refl) (other 125 refl) (other 10 refl) (other 41 refl)
   where
@@ -209,7 +209,7 @@ first_no_end names depth Blank first others are kept opened e = let same : 32 �
 first_no_end names depth Comma first others are kept opened e = let same : 44 ≡ first = cc in subst (λ (k : ℕ). ends_bound depth k ≡ false) same refl
 first_no_end names depth Wrong first others are kept opened e = absurd kept
 
--- the piece of the code, and the number of open brackets after it
+-- the piece of the code is the piece, and the number of open brackets after it is the same
 pub piece_same : (n : ℕ) (q : Piece) → n < 2 ^ 32 → KeptPiece n q → piece_of (bound_piece n 0 q) ≡ q
 piece_same n (Variable i) small kept =
     let listed : nat_lt i n ≡ true = grind (arith, nat_tests) in
@@ -226,7 +226,7 @@ piece_same n Blank small kept = refl
 piece_same n Comma small kept = refl
 piece_same n Wrong small kept = refl
 
--- it doesn't depend on the number of pieces before it
+-- the piece of the code doesn't depend on the number of pieces before it
 before_free : (n before : ℕ) (q : Piece) → KeptPiece n q → bound_piece n before q ≡ bound_piece n 0 q
 before_free n before (Variable i) kept =
     let listed : nat_lt i n ≡ true = grind (arith, nat_tests) in
@@ -257,14 +257,14 @@ depth_same n depth Blank l = refl
 depth_same n depth Comma l = refl
 depth_same n depth Wrong l = refl
 
--- the pieces of a bound as they are kept
+-- the piece and its length, as the code stores them
 abbrev pub inner_of : List Name → Piece → Inner
 inner_of names q = record { piece = bound_piece (length names) 0 q; len = length (spelled names q) }
 
 abbrev pub inners : List Name → List Piece → List Inner
 inners names qs = map (inner_of names) qs
 
--- the inner pieces are those pieces
+-- the stored pieces are these pieces
 pub inners_are : (names : List Name) (depth : ℕ) (qs : List Piece) → length names < 2 ^ 32 → Goes (length names) depth qs
     → pieces_in (inners names qs) ≡ qs
 inners_are names depth [] small goes = refl
@@ -272,7 +272,7 @@ inners_are names depth (q ∷ qs) small goes =
     ap (λ (r : Piece). r ∷ pieces_in (inners names qs)) (piece_same (length names) q small goes.0)
     ∙ ap (λ (rs : List Piece). q ∷ rs) (inners_are names (behind_bracket depth q) qs small goes.4)
 
--- whether a bound ends before pieces, with bytes after them at which it does
+-- whether a bound ends before these pieces, if the bytes after them end it
 abbrev pub is_last : List Piece → Bool
 is_last [] = true
 is_last (q ∷ qs) = false
@@ -288,7 +288,7 @@ ends_so names depth (q ∷ qs) b others are goes ends closed =
     ap (λ (xs : List ℕ). (xs ++ bytes_of names qs) ++ b ∷ others) f.split in
     ap (ends_before depth) e ∙ first_no_end names depth q f.first f.others are goes.0 goes.2 f.split
 
--- a piece of a bound is cut off in a proof file
+-- a piece of a bound is cut from the bytes of a proof file
 pub inner_cut : (symbols names : List Name) (depth before : ℕ) (q : Piece) (rest : List ℕ) (f : Found names q rest)
     → KeptPiece (length names) q → ends_bound depth f.first ≡ false
     → lexeme_in symbols names (mode.InBound depth before) f.first (f.others ++ rest)

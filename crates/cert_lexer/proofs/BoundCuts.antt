@@ -1,5 +1,5 @@
--- The pieces of a bound within the limits: each is kept, names and numbers are separated, and each closing bracket has
--- its opening one before it.
+-- The pieces of a bound within the limits meet the conditions; a name or a number isn't followed by another one; and
+-- each closing bracket has an opening one before it.
 use Rattle.std.proofs.Common.{◌≡◌, ℕ, suc, ◌-◌, ◌≤◌, List, [], ◌∷◌, Option, Some, None, refl}
 use Rattle.std.proofs.Common.{ap, sym, subst, ◌∙◌, arith}
 use Rattle.std.specs.Prelude.{⊤}
@@ -31,7 +31,7 @@ behind_bracket depth Open = suc depth
 behind_bracket depth Close = depth - 1
 behind_bracket depth piece = depth
 
--- a bracket that closes was opened before
+-- a closing bracket has an opening one before it
 abbrev pub IsOpened : ℕ → Piece → Type 0
 IsOpened depth Close = 1 ≤ depth
 IsOpened depth piece = ⊤
@@ -66,7 +66,7 @@ few_brackets : (outer : Outer) → brackets outer ≤ levels_above outer
 few_brackets Whole = omega arith
 few_brackets (Inside bracket ts fs outer) = omega (arith, few_brackets outer)
 
--- the number of open brackets after a piece
+-- the number of open brackets after an accepted piece is that of the state
 bracket_leads : (f g : Front) (q : Piece) → Leads f q g → brackets g.outer ≡ behind_bracket (brackets f.outer) q
 bracket_leads f g q (of_variable o ts fs i) = refl
 bracket_leads f g q (of_number o ts fs c) = refl
@@ -86,7 +86,7 @@ bracket_leads f g q (of_plus o ts fs) = refl
 bracket_leads f g q (of_term o ts fs e) = refl
 bracket_leads f g q (of_argument o bs ts' fs' ts fs e) = refl
 
--- a bracket that closes was opened before
+-- an accepted closing bracket has an opening one before it
 opened : (f g : Front) (q : Piece) → Leads f q g → IsOpened (brackets f.outer) q
 opened f g q (of_close bracket o ts' fs' ts fs e c) = omega arith
 opened f g q (of_variable o ts fs i) = tt
@@ -106,7 +106,7 @@ opened f g q (of_plus o ts fs) = tt
 opened f g q (of_term o ts fs e) = tt
 opened f g q (of_argument o bs ts' fs' ts fs e) = tt
 
--- after a name or a number the position is that of an item
+-- after an accepted name or number the position is that of an item
 behind_long : (f g : Front) (q : Piece) → Leads f q g → IsLong q → g.position ≡ ItemRead
 behind_long f g q (of_variable o ts fs i) long = refl
 behind_long f g q (of_number o ts fs c) long = refl
@@ -126,7 +126,7 @@ behind_long f g q (of_plus o ts fs) long = absurd long
 behind_long f g q (of_term o ts fs e) long = absurd long
 behind_long f g q (of_argument o bs ts' fs' ts fs e) long = absurd long
 
--- a piece that can follow an item is one of the marks
+-- an accepted piece that follows an item is one of the marks
 item_marked : (f h : Front) (q : Piece) (qs : List Piece) → f.position ≡ ItemRead → step f q ≡ Some h → PartLevels (q ∷ qs)
 item_marked f h q qs e on = go q (ap (λ (position : Position). step_at position f.outer f.terms f.factors q) (sym e) ∙ on)
   where
@@ -143,7 +143,7 @@ item_marked f h q qs e on = go q (ap (λ (position : Position). step_at position
     go Plus on = cc
     go Wrong on = cc
 
--- where a text can end no bracket is open
+-- in a state in which a text can end no bracket is open
 none_open : (f : Front) (b : Bound) → finish f ≡ Some b → brackets f.outer ≡ 0
 none_open f b = go f.position f.outer
   where
@@ -157,7 +157,7 @@ none_open f b = go f.position f.outer
     go PlusRead outer e = cc
     go CommaRead outer e = cc
 
--- the pieces after a state continue, and mark its end
+-- the pieces after a state go on as required, and begin with a mark after an item
 record GoOn (n : ℕ) (f : Front) (qs : List Piece) : Type 0 where
   pub small : IsSmall n f qs
   pub goes : Goes n (brackets f.outer) qs
@@ -197,7 +197,7 @@ module _ (n : ℕ) (b : Bound) (within : IsKeptWithin n b) where
             marked = λ k. item_marked f h q qs k s;
           }
 
--- the pieces of a tidy bound within the limits continue so
+-- the pieces of a tidy bound within the limits go on as required
 pub pieces_go : (n : ℕ) (b : Bound) → IsTidy b → ReadsBelow n b → IsWithin b → Goes n 0 (pieces_of b)
 pieces_go n b tidy listed within =
     let k = tidy_kept n b tidy listed within.bases in

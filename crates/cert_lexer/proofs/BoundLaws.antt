@@ -1,4 +1,4 @@
--- Reading a bound piece by piece gives the answer to all of it.
+-- Reading a bound piece by piece gives the answer to all its pieces.
 use Rattle.std.proofs.Common.{◌≡◌, ℕ, zero, suc, ◌+◌, ◌-◌, ◌<◌, ◌≤◌, Bool, true, false, cond, List, [], ◌∷◌, ◌++◌, length}
 use Rattle.std.proofs.Common.{map, Option, Some, None, refl, ap, sym, subst, ◌∙◌, arith, length-append, inl, inr}
 use Rattle.std.specs.Prelude.{IfSome, ◌==◌, ◌&&◌, ◌||◌, nat_lt, slice_get, ◌⊎◌}
@@ -29,21 +29,21 @@ use Rattle.cert_lexer.specs.declared.kind.ProofKind.{ProofKind}
 use Rattle.cert_lexer.specs.declared.kind.ProofKind.TheVariants.{Syntax, NumberTooLarge, TooDeep, BadReference, Limit}
 use Rattle.cert_lexer.specs.Bounds.{number_of, bound_levels, kind_of, as_cert_refusal, too_deep, refusals_at_end, bounds_in, counted_from}
 use Rattle.cert_lexer.specs.Bounds.{bound_answer}
-use Rattle.cert_lexer.specs.BoundSteps.{answer_of, pieces_in, TellsDeep, IsBefore, or_refusal}
+use Rattle.cert_lexer.specs.BoundSteps.{answer_of, pieces_in, FirstIsDeep, IsBefore, or_refusal}
 use Rattle.cert_lexer.specs.BoundSteps.{or_syntax, ended_with, BreaksOff, Ends}
 
 -- a refusal of a kind at a position
 abbrev pub refused : ProofKind → ℕ → Fault ProofKind
 refused k at = record { kind = k; at = at }
 
--- a refusal at a position that isn't before another's doesn't come first
+-- a refusal at a position that isn't before another's doesn't replace it
 stays_first : (n : ℕ) (x : Fault ProofKind) (k : ProofKind) (at : ℕ) → x.at < at
     → first_of (bounds_in n) (Some x) (refused k at) ≡ x
 stays_first n x k at h =
     let e : is_before (bounds_in n) (refused k at) x ≡ false = grind (arith, nat_tests) in
     ap (λ (v : Bool). cond v (refused k at) x) e
 
--- a refusal so far with that of the next piece
+-- the refusal so far and that of the next piece, of which the first counts
 among_next : (n : ℕ) (best : Option (Fault ProofKind)) (first_refusal : Option ProofKind) (at : ℕ) → IfSome best (λ x. x.at < at)
     → first_among (bounds_in n) best (refusals first_refusal at) ≡ or_refusal best first_refusal at
 among_next n None None at h = refl
@@ -64,7 +64,7 @@ syntax_first n k at = go k (let e : (at == at) ≡ true = grind (arith, nat_test
     go BadReference e f = rw (e, f) refl
     go Limit e f = rw (e, f) refl
 
--- where a bound breaks off, the faults of the piece there don't count
+-- if a bound breaks off at a piece, the faults of that piece don't count
 breaks_with : (n : ℕ) (best : Option (Fault ProofKind)) (first_refusal : Option ProofKind) (at : ℕ) → IfSome best (λ x. x.at < at)
     → first_of (bounds_in n) (first_among (bounds_in n) best (refusals first_refusal at)) (refused Syntax at) ≡ or_syntax best at
 breaks_with n None None at h = refl
@@ -73,30 +73,30 @@ breaks_with n (Some x) None at h = stays_first n x Syntax at h
 breaks_with n (Some x) (Some k) at h =
     ap (λ (y : Fault ProofKind). first_of (bounds_in n) (Some y) (refused Syntax at)) (stays_first n x k at h) ∙ stays_first n x Syntax at h
 
--- the first of some and then of others
+-- the first among two lists of faults is the first among the second, given the first among the first
 among_both : (n : ℕ) (best : Option (Fault ProofKind)) (xs ys : List (Fault ProofKind))
     → first_among (bounds_in n) best (xs ++ ys) ≡ first_among (bounds_in n) (first_among (bounds_in n) best xs) ys
 among_both n best [] ys = refl
 among_both n best (x ∷ xs) ys = among_both n (Some (first_of (bounds_in n) best x)) xs ys
 
--- where reading has stopped, that is the answer
+-- once reading has stopped at a refusal, that is the answer
 run-stopped : (n len : ℕ) (rest : List (Token Piece)) (x : Fault ProofKind) → run (bounds_in n) len (Stopped x) rest ≡ Refused x
 run-stopped n len [] x = refl
 run-stopped n len (t ∷ rest) x = refl
 
--- a refusal of the code is before a position where the plain one is
+-- if the code's refusal is before a position, so is the plain one
 is_before_plain : (at : ℕ) (best : Option (code_fault.Fault ProofKind)) → IsBefore at best → IfSome (fault_of best) (λ x. x.at < at)
 is_before_plain at None h = tt
 is_before_plain at (Some x) h = h
 
--- counted pieces of appended lists
+-- the counted pieces of two lists are those of the first, and those of the second counted on
 counted_both : (i : ℕ) (xs ys : List Inner) → counted_from i (xs ++ ys) ≡ counted_from i xs ++ counted_from (i + length xs) ys
 counted_both i [] ys = ap (λ (k : ℕ). counted_from k ys) (let e : i ≡ i + 0 = omega arith in e)
 counted_both i (x ∷ xs) ys =
     ap (λ (ts : List (Token Piece)). record { piece = piece_of x.piece; at = i; upto = suc i } ∷ ts)
     (counted_both (suc i) xs ys ∙ ap (λ (k : ℕ). counted_from (suc i) xs ++ counted_from k ys) (let e : suc i + length xs ≡ i + suc (length xs) = omega arith in e))
 
--- one more that is counted
+-- the counted pieces of a list with one more are those of the list, and that one at its number
 counted_more : (xs : List Inner) (x : Inner)
     → counted_from 0 xs ++ record { piece = piece_of x.piece; at = length xs; upto = suc (length xs) } ∷ []
     ≡ counted_from 0 (xs ++ x ∷ [])
@@ -104,24 +104,24 @@ counted_more xs x =
     ap (λ (k : ℕ). counted_from 0 xs ++ counted_from k (x ∷ []))
     (let e : length xs ≡ 0 + length xs = omega arith in e) ∙ sym (counted_both 0 xs (x ∷ []))
 
--- the pieces of tokens that are counted
+-- the pieces of counted tokens are the pieces that were counted
 pub counted_pieces : (i : ℕ) (xs : List Inner) → pieces (counted_from i xs) ≡ pieces_in xs
 counted_pieces i [] = refl
 counted_pieces i (x ∷ xs) = ap (λ (ps : List Piece). piece_of x.piece ∷ ps) (counted_pieces (suc i) xs)
 
--- a token that is counted is at its number
+-- the position of a counted token is its number
 pub counted_at : (i j : ℕ) (xs : List Inner) → j < length xs → (t : Token Piece) × (slice_get (counted_from i xs) j ≡ Some t) × (t.at ≡ i + j)
 counted_at i j [] h = absurd (omega (arith, h))
 counted_at i zero (x ∷ xs) h = (record { piece = piece_of x.piece; at = i; upto = suc i }, refl, omega arith)
 counted_at i (suc j) (x ∷ xs) h = let w = counted_at (suc i) j xs (omega (arith, h)) in let e = w.2 in (w.0, w.1, omega (arith, e))
 
--- the parts of tokens that are too deep are so in tokens followed by others
-deep_front : (most : ℕ) (marks : Marks) (ts us : List (Token Piece))
+-- a part that is too deep in some tokens is so in these tokens followed by others
+deep_prefix : (most : ℕ) (marks : Marks) (ts us : List (Token Piece))
     → (deep_among most marks ts ≡ []) ⊎ (deep_among most marks (ts ++ us) ≡ deep_among most marks ts)
-deep_front most [] ts us = inl refl
-deep_front most (m ∷ marks) [] us = inl refl
-deep_front most (None ∷ marks) (t ∷ ts) us = deep_front most marks ts us
-deep_front most (Some level ∷ marks) (t ∷ ts) us = go (nat_lt most level) (deep_front most marks ts us)
+deep_prefix most [] ts us = inl refl
+deep_prefix most (m ∷ marks) [] us = inl refl
+deep_prefix most (None ∷ marks) (t ∷ ts) us = deep_prefix most marks ts us
+deep_prefix most (Some level ∷ marks) (t ∷ ts) us = go (nat_lt most level) (deep_prefix most marks ts us)
   where
     go : (v : Bool) → (deep_among most marks ts ≡ []) ⊎ (deep_among most marks (ts ++ us) ≡ deep_among most marks ts)
         → (cond v (record { kind = kinds.TooDeep; at = t.at } ∷ []) (deep_among most marks ts) ≡ [])
@@ -129,7 +129,7 @@ deep_front most (Some level ∷ marks) (t ∷ ts) us = go (nat_lt most level) (d
     go true h = inr refl
     go false h = h
 
--- this many copies of a token
+-- n copies of a token
 abbrev copies : ℕ → Token Piece → List (Token Piece)
 copies zero t = []
 copies (suc k) t = t ∷ copies k t
@@ -144,14 +144,14 @@ behind_copies [] k j t l h = copied k j t (omega (arith, h))
 behind_copies (u ∷ ts) k zero t l h = absurd (omega (arith, l))
 behind_copies (u ∷ ts) k (suc j) t l h = behind_copies ts k j t (omega (arith, l)) (omega (arith, h))
 
--- the position of the first of some faults
+-- the position of the first fault of a list
 abbrev at_first : List (Fault Kind) → ℕ
 at_first [] = 0
 at_first (x ∷ xs) = x.at
 
--- a part that is found too deep after all tokens is none of them
+-- a part that is found too deep after all tokens is refused at none of them
 past_deep : (most : ℕ) (f : Front) (j : ℕ) (ts : List (Token Piece)) → FindsDeep most f (Some j) → length ts ≤ j → deep_among most (front_marks f) ts ≡ []
-past_deep most f j ts found h = go (deep_front most (front_marks f) ts (copies (suc j) one)) (deep_front most (front_marks f) ts (copies (suc j) other))
+past_deep most f j ts found h = go (deep_prefix most (front_marks f) ts (copies (suc j) one)) (deep_prefix most (front_marks f) ts (copies (suc j) other))
   where
     one : Token Piece
     one = record { piece = Blank; at = 0; upto = 0 }
@@ -174,10 +174,10 @@ past_deep most f j ts found h = go (deep_front most (front_marks f) ts (copies (
         let e : record { kind = kinds.TooDeep; at = 0 } ∷ [] ≡ record { kind = kinds.TooDeep; at = 1 } ∷ [] = sym at_one ∙ a ∙ sym b ∙ at_other in
         let z : 0 ≡ 1 = ap at_first e in absurd (omega (arith, z))
 
--- no part is too deep
-pub tells_none : (f : Front) (best : Option (code_fault.Fault ProofKind)) (count : ℕ) (found : Option ℕ) → found ≡ None
-    → FindsDeep bound_levels f found → TellsDeep f best count best
-tells_none f best count found is h =
+-- if no part is too deep, the first refusal is that so far
+pub no_part_deep : (f : Front) (best : Option (code_fault.Fault ProofKind)) (count : ℕ) (found : Option ℕ) → found ≡ None
+    → FindsDeep bound_levels f found → FirstIsDeep f best count best
+no_part_deep f best count found is h =
     let e : FindsDeep bound_levels f None = subst (FindsDeep bound_levels f) is h in
     record { each = λ n xs l. sym (ap (λ (ys : List (Fault Kind)). first_among (bounds_in n) (fault_of best) (map as_cert_refusal ys)) (e (counted_from 0 xs))) }
 
@@ -186,21 +186,21 @@ counted_length : (i : ℕ) (xs : List Inner) → length (counted_from i xs) ≡ 
 counted_length i [] = refl
 counted_length i (x ∷ xs) = ap suc (counted_length (suc i) xs)
 
-pub tells_past : (f : Front) (best : Option (code_fault.Fault ProofKind)) (count j : ℕ) (found : Option ℕ) → found ≡ Some j
-    → FindsDeep bound_levels f found → count ≤ j → TellsDeep f best count best
-tells_past f best count j found is h past =
+pub earlier_refusal_first : (f : Front) (best : Option (code_fault.Fault ProofKind)) (count j : ℕ) (found : Option ℕ) → found ≡ Some j
+    → FindsDeep bound_levels f found → count ≤ j → FirstIsDeep f best count best
+earlier_refusal_first f best count j found is h past =
     let e : FindsDeep bound_levels f (Some j) = subst (FindsDeep bound_levels f) is h in
     record {
       each = λ n xs l. sym (ap (λ (ys : List (Fault Kind)). first_among (bounds_in n) (fault_of best) (map as_cert_refusal ys))
           (past_deep bound_levels f j (counted_from 0 xs) e (omega (arith, past, l, counted_length 0 xs))));
     }
 
--- one is
-pub tells_deep : (f : Front) (best : Option (code_fault.Fault ProofKind)) (count j : ℕ) (found : Option ℕ) (first : code_fault.Fault ProofKind) → found ≡ Some j
+-- if a part is too deep, the first refusal is the earlier one of that so far and that of the part
+pub deep_part_first : (f : Front) (best : Option (code_fault.Fault ProofKind)) (count j : ℕ) (found : Option ℕ) (first : code_fault.Fault ProofKind) → found ≡ Some j
     → FindsDeep bound_levels f found → j < count
     → ((n : ℕ) → refusal_of first ≡ first_of (bounds_in n) (fault_of best) (refused TooDeep j))
-    → TellsDeep f best count (Some first)
-tells_deep f best count j found first is h within tells =
+    → FirstIsDeep f best count (Some first)
+deep_part_first f best count j found first is h within tells =
     let e : FindsDeep bound_levels f (Some j) = subst (FindsDeep bound_levels f) is h in
     record { each = λ n xs l. first_refusal n xs e (omega (arith, within, l)) }
   where
@@ -212,7 +212,7 @@ tells_deep f best count j found first is h within tells =
         ap (λ (y : Fault ProofKind). Some y) (tells n ∙ ap (λ (k : ℕ). first_of (bounds_in n) (fault_of best) (refused TooDeep k)) (let p : j ≡ w.0.at = omega (arith, e) in p))
         ∙ sym (ap (λ (ys : List (Fault Kind)). first_among (bounds_in n) (fault_of best) (map as_cert_refusal ys)) (found (counted_from 0 xs) w.0 w.1))
 
--- the first of two refusals is before a position where both are
+-- the first of two refusals is before a position if both are
 pub first_before : (n count : ℕ) (best : Option (code_fault.Fault ProofKind)) (j : ℕ) (first : code_fault.Fault ProofKind) → IsBefore count best → j < count
     → refusal_of first ≡ first_of (bounds_in n) (fault_of best) (refused TooDeep j) → first.at < count
 first_before n count None j first h l e = subst (λ (k : ℕ). k < count) (sym (ap (λ (y : Fault ProofKind). y.at) e)) l
@@ -222,8 +222,8 @@ first_before n count (Some x) j first h l e = go (is_before (bounds_in n) (refus
     go true e = subst (λ (k : ℕ). k < count) (sym (ap (λ (y : Fault ProofKind). y.at) e)) l
     go false e = subst (λ (k : ℕ). k < count) (sym (ap (λ (y : Fault ProofKind). y.at) e)) h
 
--- the progress of reading: this many pieces were read, all refusals so far are before their end, and the rest decides
--- the answer
+-- the invariant of reading: some pieces were read, all refusals so far are before their end, and the state with the
+-- pieces that are left decides the answer
 pub record Reads (n : ℕ) (all left : List Inner) (f : Front) (best : Option (Fault ProofKind)) : Type 0 where
   pub read : List Inner
   pub count : length read + length left ≡ length all
@@ -232,7 +232,7 @@ pub record Reads (n : ℕ) (all left : List Inner) (f : Front) (best : Option (F
   pub tokens : onto done [] ≡ counted_from 0 read
   pub decides : run (bounds_in n) (length all) (Going best done f) (counted_from (length read) left) ≡ bound_answer n all
 
--- at the beginning
+-- the invariant holds at the beginning
 pub reads_begun : (n : ℕ) (all : List Inner) → Reads n all all (bounds_in n).beginning None
 reads_begun n all = record {
   read = [];
@@ -243,24 +243,24 @@ reads_begun n all = record {
   decides = refl;
 }
 
--- the first fault of a piece that precedes others
-abbrev pub refusal_against : ℕ → Front → Inner → List Inner → Option ProofKind
-refusal_against n f x behind = option_map kind_of (first_kind (stands n f (piece_of x.piece) (pieces_in behind)) other_kinds)
+-- the first fault of a piece that is followed by these
+abbrev pub refusal_of_piece : ℕ → Front → Inner → List Inner → Option ProofKind
+refusal_of_piece n f x behind = option_map kind_of (first_kind (stands n f (piece_of x.piece) (pieces_in behind)) other_kinds)
 
--- the refusal is before the next piece
+-- the first refusal after a piece is before the next piece
 refusal_within : (best : Option (Fault ProofKind)) (first_refusal : Option ProofKind) (at k : ℕ) → at < k → IfSome best (λ x. x.at < at) → IfSome (or_refusal best first_refusal at) (λ x. x.at < k)
 refusal_within None None at k h l = tt
 refusal_within None (Some kind) at k h l = h
 refusal_within (Some x) first_refusal at k h l = omega (arith, h, l)
 
--- a piece more
+-- the invariant holds after one more accepted piece
 pub reads_on : (n : ℕ) (all left behind : List Inner) (x : Inner) (f g : Front) (best : Option (Fault ProofKind)) (at : ℕ)
     → Reads n all left f best → left ≡ x ∷ behind → at ≡ length all - length left → limited_step f (piece_of x.piece) ≡ Some g
-    → Reads n all behind g (or_refusal best (refusal_against n f x behind) at)
+    → Reads n all behind g (or_refusal best (refusal_of_piece n f x behind) at)
 reads_on n all left behind x f g best at d is place leads = go (subst (λ (xs : List Inner). Reads n all xs f best) is d) (place ∙ ap (λ (xs : List Inner). length all - length xs) is)
   where
     first_refusal : Option ProofKind
-    first_refusal = refusal_against n f x behind
+    first_refusal = refusal_of_piece n f x behind
 
     go : Reads n all (x ∷ behind) f best → at ≡ length all - suc (length behind) → Reads n all behind g (or_refusal best first_refusal at)
     go d p = record {
@@ -286,7 +286,7 @@ reads_on n all left behind x f g best at d is place leads = go (subst (λ (xs : 
         here : at ≡ length d.read
         here = let e = d.count in omega (arith, e, p)
 
--- with the faults before it, the end of a bound gives the answer that it ends with
+-- the answer at the end of a bound is that of the code's answer with the refusals so far
 ended_as : (n : ℕ) (first_refusal : Option (Fault ProofKind)) (b : Option Bound) (at : ℕ) → IfSome first_refusal (λ x. x.at < at)
     → ended (bounds_in n) first_refusal b (refused Syntax at) ≡ ended_with first_refusal b at
 ended_as n None None at h = refl
@@ -299,14 +299,14 @@ behind_all : {X : Type 0} (xs : List X) → xs ++ [] ≡ xs
 behind_all [] = refl
 behind_all (x ∷ xs) = ap (λ (ys : List _). x ∷ ys) (behind_all xs)
 
--- after this many pieces the refusals so far of the code agree with those of the definition, where those of parts that
--- are too deep are added
+-- after this many pieces the code's first refusal is that of the definition, if the refusals of parts that are too deep
+-- are added to both
 abbrev pub SameFirst : Front → Option (Fault ProofKind) → Option (code_fault.Fault ProofKind) → ℕ → Type 0
 SameFirst f first_refusal best count =
     (n : ℕ) (xs : List Inner) → length xs ≡ count
     → first_among (bounds_in n) (fault_of best) (too_deep f (counted_from 0 xs)) ≡ first_among (bounds_in n) first_refusal (too_deep f (counted_from 0 xs))
 
--- a piece that can't follow
+-- if a piece can't follow, the bound breaks off with the answer
 pub reads_off : (n : ℕ) (all left behind : List Inner) (x : Inner) (f : Front) (first_refusal : Option (Fault ProofKind)) (best : Option (code_fault.Fault ProofKind)) (result : BoundRead) (at : ℕ)
     → Reads n all left f first_refusal → left ≡ x ∷ behind → at ≡ length all - length left
     → limited_step f (piece_of x.piece) ≡ None → BreaksOff f best at result → SameFirst f first_refusal best at → answer_of result ≡ bound_answer n all
@@ -336,7 +336,7 @@ reads_off n all left behind x f best code result at d is place leads off same =
         deep : first_among (bounds_in n) best (too_deep f (counted_from 0 d.read)) ≡ first_among (bounds_in n) best (too_deep f (onto d.done []))
         deep = ap (λ (ts : List (Token Piece)). first_among (bounds_in n) best (too_deep f ts)) (sym d.tokens)
 
--- the end
+-- after the last piece, the end of the bound gives the answer
 pub reads_ended : (n : ℕ) (all left : List Inner) (f : Front) (first_refusal : Option (Fault ProofKind)) (best : Option (code_fault.Fault ProofKind)) (result : BoundRead)
     → Reads n all left f first_refusal → length left ≡ 0 → Ends f best (length all) result → SameFirst f first_refusal best (length all) → answer_of result ≡ bound_answer n all
 reads_ended n all left f first_refusal best result d is ends same = go left is d
@@ -353,6 +353,6 @@ reads_ended n all left f first_refusal best result d is ends same = go left is d
         ∙ ap (first_among (bounds_in n) first_refusal) (sym (behind_all (too_deep f (onto d.done [])))))
         ∙ d.decides
 
--- at most as many pieces are left as there are
+-- at most as many pieces are left as there are in all
 pub reads_left : (n : ℕ) (all left : List Inner) (f : Front) (first_refusal : Option (Fault ProofKind)) → Reads n all left f first_refusal → length left ≤ length all
 reads_left n all left f first_refusal d = let e = d.count in omega (arith, e)

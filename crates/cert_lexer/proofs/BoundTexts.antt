@@ -1,4 +1,4 @@
--- Pieces that spell a bound within the limits are answered as it.
+-- The answer to pieces that spell a bound within the limits is that bound.
 use Rattle.std.proofs.Common.{◌≡◌, ℕ, suc, ◌+◌, ◌≤◌, Bool, true, false, cond, List, [], ◌∷◌, ◌++◌, map, length, Option, Some}
 use Rattle.std.proofs.Common.{None, refl, ap, sym, ◌∙◌, arith}
 use Rattle.std.specs.Prelude.{⊤, nat_lt, ◌==◌, ◌^◌}
@@ -40,13 +40,13 @@ use Rattle.cert_lexer.specs.Bounds.{counted_from, bound_answer}
 use Rattle.cert_lexer.specs.BoundSteps.{pieces_in}
 use Rattle.cert_lexer.proofs.BoundLaws.{counted_pieces}
 
--- each mark is at most so large
+-- each mark is at most n
 abbrev pub AtMost : ℕ → Marks → Type 0
 AtMost n [] = ⊤
 AtMost n (None ∷ marks) = AtMost n marks
 AtMost n (Some level ∷ marks) = (level ≤ n) × AtMost n marks
 
--- a run's mark, where it has one, is
+-- the mark of an open run, if there is one, is at most n
 abbrev RunAtMost : ℕ → ℕ → Before → Type 0
 RunAtMost n level Nothing = ⊤
 RunAtMost n level (Run i k) = level ≤ n
@@ -80,7 +80,7 @@ run_most n level (Run j k) i l = go (j == i)
     go false = l
 run_most n level Other i l = l
 
--- a bound has a level
+-- every bound has at least one level
 some_depth : (b : Bound) → 1 ≤ depth_of b
 some_depth (Constant c) = omega arith
 some_depth (Input i) = omega arith
@@ -89,7 +89,7 @@ some_depth (ProductOf bs) = omega arith
 some_depth (MaximumOf bs) = omega arith
 some_depth (PowerOf c e) = omega arith
 
--- a factor's marks, in brackets or not, and those of an exponent
+-- the marks of a factor or an exponent, in brackets or not, are at most n
 factor_most : (v : Bool) (n level : ℕ) (marks : Marks → Marks) (rest : Marks) → level ≤ n
     → ((ms : Marks) → AtMost n ms → AtMost n (marks ms)) → AtMost n rest → AtMost n (factor_marks v level marks rest)
 factor_most true n level marks rest l f h = (l, f (None ∷ rest) h)
@@ -100,7 +100,7 @@ exponent_most : (v : Bool) (n : ℕ) (marks : Marks → Marks) (rest : Marks)
 exponent_most true n marks rest f h = f rest h
 exponent_most false n marks rest f h = f (None ∷ rest) h
 
--- a variable continues a run or begins one
+-- the marks of factors that begin with a variable, which continues a run or begins one, are at most n
 variable_most : (n level : ℕ) (before : Before) (i : ℕ) (bs : Parts) (rest : Marks) (v : Bool) → level ≤ n
     → RunAtMost n level before → AtMost n (factors_marks level (run_with before i) bs rest)
     → AtMost n (factors_marks level (Run i 1) bs rest)
@@ -111,7 +111,7 @@ variable_most n level before i bs rest false l r on begun =
     ended_most n level before (times_marks before (factors_marks level (Run i 1) bs rest)) r
     (times_most n before (factors_marks level (Run i 1) bs rest) begun)
 
--- any other factor is a part of its own
+-- the marks of factors that begin with another factor are at most n
 other_most : (n level : ℕ) (before : Before) (b : Bound) (bs : Parts) (rest : Marks)
     → level + maximum_depth (Part b bs) ≤ suc n → RunAtMost n level before → AtMost n rest
     → AtMost n (factors_marks level Other bs rest) → ((ms : Marks) → AtMost n ms → AtMost n (bound_marks level b ms))
@@ -185,7 +185,7 @@ mutual
       (factors_most n level Other bs rest (omega (arith, l)) tt h)
       (λ ms k. bound_most n level (PowerOf c e) ms (omega (arith, l)) k)
 
--- terms with a separator after each
+-- the marks of terms with a separator after each are at most n
 each_most : (n level : ℕ) (separator : List Piece) (bs : Parts) (rest : Marks) → level + maximum_depth bs ≤ suc n
     → AtMost n rest → AtMost n (each_marks separator level bs rest)
 each_most n level separator NoParts rest l h = h
@@ -213,7 +213,7 @@ ended_front_most n f b = go f.position f.outer f.terms f.factors
     go PlusRead outer ts fs e l = cc
     go CommaRead outer ts fs e l = cc
 
--- marks that are at most so large find nothing too deep
+-- if each mark is at most the limit, no part is too deep
 none_deep : (n : ℕ) (marks : Marks) (ts : List (Token Piece)) → AtMost n marks → deep_among n marks ts ≡ []
 none_deep n [] ts h = refl
 none_deep n (mark ∷ marks) [] h = refl
@@ -222,7 +222,7 @@ none_deep n (Some level ∷ marks) (t ∷ ts) (l, h) =
     ap (λ (v : Bool). cond v (record { kind = kinds.TooDeep; at = t.at } ∷ []) (deep_among n marks ts))
     (false_lt n level l) ∙ none_deep n marks ts h
 
--- if there is a fault of none of these kinds, there is no first one
+-- if no kind passes a test, there is no first kind that passes it
 none_first : (test : Kind → Bool) (ks : List Kind) → ((k : Kind) → test k ≡ false) → first_of test ks ≡ None
 none_first test [] h = refl
 none_first test (k ∷ ks) h = ap (λ (v : Bool). cond v (Some k) (first_of test ks)) (h k) ∙ none_first test ks h
@@ -247,11 +247,11 @@ fits_base PlusRead fs h = refl
 fits_base CommaRead fs h = refl
 
 module _ (n len : ℕ) (b : Bound) (within : IsKeptWithin n b) where
-  -- the rest of a text leads to the bound
+  -- reading the rest of a text leads to the answer that is the bound
   abbrev Comes : List (Token Piece) → List (Token Piece) → Front → Type 0
   Comes done ts f = run (bounds_in n) len (Going None done f) ts ≡ Stands b
 
-  -- at the end nothing is too deep
+  -- at the end of a text within the limits no part is too deep, and the bound is the answer
   ends_well : (done : List (Token Piece)) (f : Front) → finish f ≡ Some b → IsSmall n f [] → Comes done [] f
   ends_well done f fin s =
       ap (λ (xs : List (Fault Kind)). ended (bounds_in n) (first_among (bounds_in n) None (map as_cert_refusal xs ++ []))
@@ -260,7 +260,7 @@ module _ (n len : ℕ) (b : Bound) (within : IsKeptWithin n b) where
       (ended_front_most bound_levels f b fin s.levels))
       ∙ ap (λ (o : Option Bound). ended (bounds_in n) None o (record { kind = Syntax; at = len })) fin
 
-  -- a piece more
+  -- before an accepted piece without faults, reading leads to the bound if it does after the piece
   goes_well : (t : Token Piece) (ts done : List (Token Piece)) (f h : Front) → step f t.piece ≡ Some h
       → IsSmall n f (t.piece ∷ pieces ts) → Comes (t ∷ done) ts h → Comes done (t ∷ ts) f
   goes_well t ts done f h s small on =
@@ -277,7 +277,7 @@ module _ (n len : ℕ) (b : Bound) (within : IsKeptWithin n b) where
       (refusals (option_map kind_of k) t.at)) done t (Some h) (record { kind = Syntax; at = t.at })) ts) against
       ∙ on
 
-  -- the law above along all pieces
+  -- along accepted pieces without faults, reading leads to the bound
   goes_on_well : (ts done : List (Token Piece)) (before : List Piece) (f g : Front) → reached (bounds n) before ≡ Some f
       → walk (Some f) (pieces ts) ≡ Some g → finish g ≡ Some b → IsSmall n f (pieces ts) × Comes done ts f
   goes_on_well [] done before f g e w fin =
@@ -298,7 +298,7 @@ module _ (n len : ℕ) (b : Bound) (within : IsKeptWithin n b) where
           let small = (shows_no_limit n).goes_back before f h t.piece (pieces ts) e s r.0 in
           (small, goes_well t ts done f h s small r.1)
 
--- a tidy bound within the limits is the answer to its pieces
+-- a tidy bound within the limits is the answer to the pieces that spell it
 pub bound_stands : (n : ℕ) (b : Bound) (xs : List Inner) → IsTidy b → ReadsBelow n b → IsWithin b
     → pieces_in xs ≡ pieces_of b → bound_answer n xs ≡ Stands b
 bound_stands n b xs tidy listed within e =

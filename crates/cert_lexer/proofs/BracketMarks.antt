@@ -33,7 +33,7 @@ other_behind level b fs rest h =
       other = λ w c cs p. tt;
     }) Nothing fs tt
 
--- one more part that a separator joins
+-- the marks of parts with one more, which a separator joins
 more-with_part : (s : List Piece) (level : ℕ) (bs : Parts) (b : Bound) (rest : Marks)
     → more_marks s level (with_part bs b) rest ≡ unmarked s (each_marks s level bs (bound_marks level b rest))
 more-with_part s level NoParts b rest = refl
@@ -45,18 +45,18 @@ joined-with_part : (s : List Piece) (level : ℕ) (bs : Parts) (b : Bound) (rest
 joined-with_part s level NoParts b rest = refl
 joined-with_part s level (Part c cs) b rest = ap (bound_marks level c) (more-with_part s level cs b rest)
 
--- the marks of parts with one more and its separator
+-- the marks of parts with a separator after each, and one more
 pub each-with_part : (s : List Piece) (level : ℕ) (bs : Parts) (b : Bound) (rest : Marks)
     → each_marks s level (with_part bs b) rest ≡ each_marks s level bs (bound_marks level b (unmarked s rest))
 each-with_part s level NoParts b rest = refl
 each-with_part s level (Part c cs) b rest =
     ap (λ (ms : Marks). bound_marks level c (unmarked s ms)) (each-with_part s level cs b rest)
 
--- a node more is a level more
+-- with the product's node, parts are one level deeper
 pub level_more : (above sum : ℕ) → level_behind above sum 1 ≡ suc (level_behind above sum 0)
 level_more above sum = omega arith
 
--- the marks of a term
+-- the marks of a term are those of its factors
 pub term_marks : (above sum : ℕ) (fs : Parts) (rest : Marks) → can_end fs ≡ true
     → bound_marks (level_behind above sum 0) (term_of fs) rest
     ≡ factors_marks (level_behind above sum (product_node fs)) Nothing fs rest
@@ -70,13 +70,13 @@ term_marks above sum (Part (PowerOf c e) NoParts) rest h = refl
 term_marks above sum (Part b (Part c cs)) rest h =
     ap (λ (k : ℕ). factors_marks k Nothing (Part b (Part c cs)) rest) (sym (level_more above sum))
 
--- the marks of terms and factors inside this many levels, with a sum's node and without
+-- the marks of terms and factors inside this many levels, where the sum's node counts or doesn't
 abbrev pub inside_marks : ℕ → ℕ → Parts → Parts → Marks → Marks
 inside_marks above sum ts fs rest =
     each_marks plus_between (level_behind above sum 0) ts
     (factors_marks (level_behind above sum (product_node fs)) Nothing fs rest)
 
--- the marks of the bound that terms and factors make
+-- the marks of a bound are those of its terms and factors
 pub bound_made_marks : (above : ℕ) (ts fs : Parts) (rest : Marks) → can_end fs ≡ true
     → bound_marks (suc above) (bound_of_parts ts fs) rest ≡ inside_marks above (node_of_any ts) ts fs rest
 bound_made_marks above NoParts fs rest h =
@@ -100,7 +100,7 @@ no_sum (Part (MaximumOf bs) NoParts) h e = cc
 no_sum (Part (PowerOf c d) NoParts) h e = cc
 no_sum (Part b (Part c cs)) h e = cc
 
--- the marks of a sum that a bracket counts already
+-- the marks of a sum in brackets, whose bracket counts the sum's node, are those of its terms and factors
 pub sum_made_marks : (above : ℕ) (ts fs : Parts) (rest : Marks) → can_end fs ≡ true
     → is_sum (bound_of_parts ts fs) ≡ true
     → bound_marks above (bound_of_parts ts fs) rest ≡ inside_marks above 0 ts fs rest
@@ -112,7 +112,7 @@ sum_made_marks above (Part b bs) fs rest h e =
     ∙ joined-with_part plus_between (level_behind above 0 0) (Part b bs) (term_of fs) rest
     ∙ ap (each_marks plus_between (level_behind above 0 0) (Part b bs)) (term_marks above 0 fs rest h)
 
--- the sum's node in a bracket
+-- 1 if the sum in a bracket counts as a node of its own
 abbrev pub sum_in : Bracket → Parts → ℕ
 sum_in (Arguments bs) ts = node_of_any ts
 sum_in (Exponent c) ts = node_of_any ts
@@ -151,7 +151,7 @@ item_other Factor (ProductOf bs) h = cc
 item_other Factor (MaximumOf bs) h = cc
 item_other Factor (PowerOf c e) h = cc
 
--- the product's node counts after an item if it did before its bracket
+-- after an item the product's node counts if it counted before its bracket
 pub item_node : (bracket : Bracket) (fs : Parts) (b : Bound) → can_close bracket b ≡ true
     → product_node (with_part fs (item_of bracket b)) ≡ product_node_round bracket fs
 item_node (Arguments bs) fs b h = product_node-with_part fs (MaximumOf (with_part bs b)) refl

@@ -1,4 +1,4 @@
--- The carried state, piece by piece.
+-- How the carried state changes, piece by piece.
 use Rattle.std.proofs.Common.{◌≡◌, ℕ, ◌<◌, ◌≤◌, ◌+◌, Bool, true, false, cond, List, [], ◌∷◌, length, map, Option, Some, None, refl, ap}
 use Rattle.std.proofs.Common.{sym, subst, ◌∙◌, arith, inl, inr}
 use Rattle.std.specs.Prelude.{IfSome, ◌||◌, is_some, slice_get}
@@ -19,12 +19,12 @@ use Rattle.cert_lexer.specs.declared.kind.ProofKind.TheVariants.{TooDeep}
 use Rattle.cert_lexer.specs.Bounds.{too_deep, as_cert_refusal, bounds_in, counted_from, bound_levels}
 use Rattle.cert_lexer.specs.BoundSteps.{or_refusal}
 use Rattle.cert_lexer.specs.Carried.{Agrees, refusal_with}
-use Rattle.cert_lexer.specs.Following.{IsStanding}
+use Rattle.cert_lexer.specs.Following.{PositionFollows}
 use Rattle.cert_lexer.specs.Levels.{has_deep, shallow}
 use Rattle.cert_lexer.proofs.BoundLaws.{counted_at}
 use Rattle.cert_lexer.proofs.DeepLaws.{one_found, deep_within, stays_deep}
 
--- the refusals so far are as good as those of the definition where those of parts that are too deep come besides
+-- the code's first refusal agrees with the definition's, if the refusals of parts that are too deep are added to both
 pub same_first : (n : ℕ) (f : Front) (first_refusal : Option (Fault ProofKind)) (best : Option (code_fault.Fault ProofKind)) (tree : Bool)
     → Agrees f first_refusal best tree → (xs : List Inner) → length xs ≡ length (front_marks f)
     → first_among (bounds_in n) (fault_of best) (too_deep f (counted_from 0 xs)) ≡ first_among (bounds_in n) first_refusal (too_deep f (counted_from 0 xs))
@@ -53,7 +53,7 @@ same_first n f first_refusal best false (inr h) xs l =
         let first : is_before (bounds_in n) (record { kind = TooDeep; at = t.at }) x ≡ true = grind (arith, nat_tests) in
         sym (ap (λ (v : Bool). Some (cond v (record { kind = TooDeep; at = t.at }) x)) first)
 
--- after a part that is too deep, one more refusal is after it
+-- if a part is too deep, the refusal of one more piece is after it
 refusal_behind : (m : ℕ) (first_refusal : Option (Fault ProofKind)) (kind : Option ProofKind) (at : ℕ) → m < at → IfSome first_refusal (λ x. m < x.at)
     → IfSome (or_refusal first_refusal kind at) (λ x. m < x.at)
 refusal_behind m None None at h k = tt
@@ -64,13 +64,13 @@ less_behind : (m k : ℕ) (first_refusal : Option (Fault ProofKind)) → k ≤ m
 less_behind m k None l h = tt
 less_behind m k (Some x) l h = omega (arith, l, h)
 
--- a refusal so far stays; without one, and with no new fault, there is none
+-- a refusal so far is kept; without one, and without a new fault, there is none
 refusal_stays : (best : Option (code_fault.Fault ProofKind)) (kind : Option ProofKind) (at : ℕ) → is_some best ≡ true
     → or_refusal (fault_of best) kind at ≡ fault_of best
 refusal_stays None kind at h = cc
 refusal_stays (Some x) kind at h = refl
 
--- whether there is one shows
+-- whether there is a plain refusal is whether the code has one
 pub some_fault : (best : Option (code_fault.Fault ProofKind)) → is_some (fault_of best) ≡ is_some best
 some_fault None = refl
 some_fault (Some x) = refl
@@ -83,9 +83,10 @@ not_some : (next : Option (code_fault.Fault ProofKind)) → fault_of next ≡ No
 not_some None h = refl
 not_some (Some x) h = cc
 
--- a piece that leads on, where there is a tree only while nothing is refused
+-- after an accepted piece the code's first refusal agrees with that of the definition, and there is a tree only if
+-- there is none
 pub agrees_on : (f g : Front) (piece : Piece) (first_refusal : Option (Fault ProofKind)) (best next : Option (code_fault.Fault ProofKind)) (kind : Option ProofKind) (at : ℕ)
-    (tree deep : Bool) → IsStanding f → limited_step f piece ≡ Some g → at ≡ length (front_marks f) → deep ≡ has_deep (front_marks g)
+    (tree deep : Bool) → PositionFollows f → limited_step f piece ≡ Some g → at ≡ length (front_marks f) → deep ≡ has_deep (front_marks g)
     → Agrees f first_refusal best tree → fault_of next ≡ or_refusal (fault_of best) (refusal_with tree kind) at
     → Agrees g (or_refusal first_refusal kind at) next (cond (is_some next || deep) false tree)
 agrees_on f g piece first_refusal best next kind at true deep s e l d h n = go (is_some next) refl deep refl

@@ -1,4 +1,4 @@
--- The bytes that a piece of a proof file was found in.
+-- The bytes that a piece of a proof file was cut from.
 use Rattle.std.proofs.Common.{◌≡◌, ℕ, zero, suc, ◌+◌, ◌-◌, ◌<◌, ◌≤◌, ◌^◌, min, Bool, true, false, cond, ◌&&◌, List, [], ◌∷◌}
 use Rattle.std.proofs.Common.{◌++◌, length, take, drop, Option, Some, None, refl, ap, sym, subst, ◌∙◌, arith, inl, inr}
 use Rattle.std.specs.Prelude.{◌==◌, ◌||◌, ◌⊎◌, ⊤, nat_le, nat_lt, not, codes}
@@ -79,7 +79,7 @@ sign_found b =
         inr (sign.Minus, refl, same 45 z)
     go false false false false false false false false false false false p q r s t u v w x y z = inl refl
 
--- the lexeme of bytes where no list or bound is open
+-- the possible lexemes of bytes where no list and no bound is open
 pub data Begins (symbols : List NameBytes) (b : ℕ) (bytes : List ℕ) : Type 0 where
   AName : begins_name b ≡ true
       → plain_lexeme symbols b bytes ≡ name_lexeme symbols (b ∷ prefix continues_name bytes) → Begins symbols b bytes
@@ -107,19 +107,19 @@ begins_so symbols b bytes = go (begins_name b) refl (is_ascii_digit b) refl (sig
     go false e false f (inl s) = ABreak (whole false false e f ∙ ap (λ (q : Piece). lexeme q 1) s)
     go false e false f (inr (k, s, same)) = AByte k same (whole false false e f ∙ ap (λ (q : Piece). lexeme q 1) s)
 
--- the piece and the length of a found lexeme
+-- equal lexemes have the same piece and length
 found_piece : {l m : Lexeme (Option Piece)} → l ≡ m → l.piece ≡ m.piece
 found_piece e = ap (λ (k : Lexeme (Option Piece)). k.piece) e
 
 found_len : {l m : Lexeme (Option Piece)} → l ≡ m → l.len ≡ m.len
 found_len e = ap (λ (k : Lexeme (Option Piece)). k.len) e
 
--- this many bytes after the first one belong to a piece
+-- the lexeme at byte b, where nothing is open, is this piece, with n bytes after the first
 abbrev pub Found : List NameBytes → ℕ → List ℕ → Piece → ℕ → Type 0
 Found symbols b bytes q some = plain_lexeme symbols b bytes ≡ record { piece = Some q; len = suc some }
 
 module _ (symbols : List NameBytes) (b : ℕ) (bytes : List ℕ) where
-  -- the piece of a sign's byte is that sign
+  -- a sign is cut from its byte alone
   pub plain_sign : (k : Sign) (some : ℕ) → Found symbols b bytes (ASign k) some → (b ≡ byte_of k) × (some ≡ 0)
   plain_sign k some h = go (begins_so symbols b bytes)
     where
@@ -139,7 +139,7 @@ module _ (symbols : List NameBytes) (b : ℕ) (bytes : List ℕ) where
           (same ∙ ap byte_of k', omega (arith, l))
       go (ABreak e) = let p = found_piece (sym e ∙ h) in cc
 
-  -- a name is the longest one
+  -- a name is cut from the longest name that the bytes begin with
   pub plain_name : (w : Word) (symbol some : ℕ) → Found symbols b bytes (Name w symbol) some
       → (word_of (b ∷ prefix continues_name bytes) ≡ w) × (symbol_of symbols (b ∷ prefix continues_name bytes) ≡ symbol)
       × (begins_name b ≡ true) × (b ∷ bytes ≡ (b ∷ prefix continues_name bytes) ++ drop some bytes)
@@ -171,7 +171,7 @@ module _ (symbols : List NameBytes) (b : ℕ) (bytes : List ℕ) where
       go (AByte j same e) = let p = found_piece (sym e ∙ h) in cc
       go (ABreak e) = let p = found_piece (sym e ∙ h) in cc
 
-  -- a number that isn't too large is written as its bytes
+  -- a number below 2^127 is cut from the bytes that write it
   pub plain_number : (n some : ℕ) → n < 2 ^ 127 → Found symbols b bytes (Number n) some
       → b ∷ bytes ≡ decimal n ++ drop some bytes
   plain_number n some small h = go (begins_so symbols b bytes)
@@ -198,7 +198,7 @@ module _ (symbols : List NameBytes) (b : ℕ) (bytes : List ℕ) where
       go (AByte j same e) = let p = found_piece (sym e ∙ h) in cc
       go (ABreak e) = let p = found_piece (sym e ∙ h) in cc
 
-  -- no piece of a bound, no place and no first word is found where nothing is open
+  -- where nothing is open, no piece of a bound, no place and no first word is cut
   pub plain_no_bound : (q : BoundPiece) (len : ℕ) (last : Bool) (some : ℕ)
       → Found symbols b bytes (InBound q len last) some → ⊥
   plain_no_bound q len last some h = go (begins_so symbols b bytes)
@@ -275,7 +275,7 @@ bytes_of_word word.Shut = codes "shut"
 bytes_of_word word.Kept = codes "kept"
 bytes_of_word word.Other = []
 
--- these words are listed
+-- each of these words is spelled by its bytes
 AllSpelled : List Spelled → Type 0
 AllSpelled [] = ⊤
 AllSpelled (w ∷ ws) = (bytes_of_word w.word ≡ w.bytes) × AllSpelled ws
@@ -292,7 +292,7 @@ among_spelled (w ∷ ws) other name h = go (is_same name w.bytes) refl (among_sp
     go true e ih = inr (same_equal name w.bytes e ∙ sym h.0)
     go false e ih = ih
 
--- a name is a word by its bytes, or no word
+-- a name is no word, or it is spelled by the bytes of its word
 pub word_bytes : (name : NameBytes) → (word_of name ≡ word.Other) ⊎ (name ≡ bytes_of_word (word_of name))
 unfolding AllSpelled
 word_bytes name =

@@ -1,4 +1,4 @@
--- Where the first part is that is too deep, and that it comes no later as more is read.
+-- The first part that is too deep comes no later as more is read.
 use Rattle.std.proofs.Common.{◌≡◌, ℕ, zero, suc, ◌<◌, ◌≤◌, Bool, true, false, cond, nat_lt, List, [], ◌∷◌, length}
 use Rattle.std.proofs.Common.{Option, Some, None, refl, ap, subst, ◌∙◌, arith, length-append}
 use Rattle.std.specs.Prelude.{◌||◌, slice_get}
@@ -8,12 +8,12 @@ use Rattle.bound_text.specs.Fronts.{Front}
 use Rattle.bound_text.specs.Inside.{Marks, deep_among, front_marks}
 use Rattle.bound_text.specs.Carrying.{limited_step}
 use Rattle.text_grammar.specs.text_core.Tokens.{Token}
-use Rattle.cert_lexer.specs.declared.outline.Lead.{Lead}
+use Rattle.cert_lexer.specs.declared.outline.OutlineStep.{OutlineStep}
 use Rattle.cert_lexer.specs.Bounds.{bound_levels}
 use Rattle.cert_lexer.specs.Levels.{has_deep, is_deep, raised, raised_from, shallow, raises, mark_of}
 use Rattle.cert_lexer.specs.Outlines.{frames_of, innermost_of, innermost_frame, lead}
-use Rattle.cert_lexer.specs.Following.{IsStanding, begun_in, Follows, FollowsWhere}
-use Rattle.cert_lexer.proofs.LeadLaws.{outlines_lead}
+use Rattle.cert_lexer.specs.Following.{PositionFollows, open_parts_in, Follows, FollowsWhere}
+use Rattle.cert_lexer.proofs.OutlineStepLaws.{outlines_agree}
 use Rattle.cert_lexer.proofs.ShallowLaws.{shallow_deep, has_both, from_shallow, from_has, or_true}
 
 -- if no part is too deep, none is refused
@@ -28,7 +28,7 @@ none_found (Some level ∷ ms) (t ∷ ts) e = go (nat_lt bound_levels level) e (
     go true e ih = cc
     go false e ih = ih e
 
--- if a part is too deep, the first one is refused where the marks before it end
+-- if some part is too deep, the first one is refused at the token after the marks before it
 pub one_found : (ms : Marks) (ts : List (Token Piece)) (t : Token Piece) → has_deep ms ≡ true
     → slice_get ts (length (shallow ms)) ≡ Some t → deep_among bound_levels ms ts ≡ record { kind = kinds.TooDeep; at = t.at } ∷ []
 one_found [] ts t e k = cc
@@ -44,7 +44,7 @@ one_found (Some level ∷ ms) (u ∷ ts) t e k = go (nat_lt bound_levels level) 
         ap (λ (x : Token Piece). record { kind = kinds.TooDeep; at = x.at } ∷ []) same
     go false e k ih = ih e k
 
--- at most as many marks as there are come before it, and fewer if there is one
+-- there are at most as many marks before the first part that is too deep as in all, and fewer if there is such a part
 pub shallow_within : (ms : Marks) → length (shallow ms) ≤ length ms
 shallow_within [] = omega arith
 shallow_within (m ∷ ms) = go (is_deep m) (shallow_within ms)
@@ -62,7 +62,7 @@ deep_within (m ∷ ms) e = go (is_deep m) e (λ k. deep_within ms k)
     go true e ih = omega arith
     go false e ih = let h = ih e in omega (arith, h)
 
--- raised marks are as many
+-- raising marks keeps their number
 raised_length : (ms : Marks) → length (raised ms) ≡ length ms
 raised_length [] = refl
 raised_length (m ∷ ms) = ap suc (raised_length ms)
@@ -72,12 +72,12 @@ from_length zero ms = raised_length ms
 from_length (suc n) [] = refl
 from_length (suc n) (m ∷ ms) = ap suc (from_length n ms)
 
--- raised or not
+-- raising marks from a piece on, or not, keeps their number
 pub either_length : (v : Bool) (n : ℕ) (ms : Marks) → length (cond v (raised_from n ms) ms) ≡ length ms
 either_length true n ms = from_length n ms
 either_length false n ms = refl
 
--- a part that is too deep stays so, and the first such part comes no later
+-- raising marks keeps a part too deep, and the first such part comes no later
 either_deep : (v : Bool) (n : ℕ) (ms : Marks) → has_deep ms ≡ true → has_deep (cond v (raised_from n ms) ms) ≡ true
 either_deep true n ms e = from_has n ms ∙ ap (λ (w : Bool). has_deep (raised_from n (shallow ms)) || w) e ∙ or_true (has_deep (raised_from n (shallow ms)))
 either_deep false n ms e = e
@@ -89,42 +89,42 @@ either_shallow true n ms =
     omega (arith, e, w, from_length n (shallow ms))
 either_shallow false n ms = omega arith
 
--- the state after a piece on, outline and levels follow
-leads_on : (f g : Front) (piece : Piece) (reached : Option Front) (l : Option Lead) → reached ≡ Some g → FollowsWhere f piece reached l
-    → (k : Lead) × (l ≡ Some k) × Follows f piece g k
+-- for an accepted piece there is a step of the outline, and the next state follows from it
+leads_on : (f g : Front) (piece : Piece) (reached : Option Front) (l : Option OutlineStep) → reached ≡ Some g → FollowsWhere f piece reached l
+    → (k : OutlineStep) × (l ≡ Some k) × Follows f piece g k
 leads_on f g piece None l e h = cc
 leads_on f g piece (Some x) None e h = absurd h
 leads_on f g piece (Some x) (Some k) e h = let same : x ≡ g = cc in (k, refl, subst (λ (y : Front). Follows f piece y k) same h)
 
-pub led_on : (f g : Front) (piece : Piece) → IsStanding f → limited_step f piece ≡ Some g
-    → (k : Lead) × (lead (innermost_frame (frames_of f.outer)) (innermost_of f) piece ≡ Some k) × Follows f piece g k
-led_on f g piece s e = leads_on f g piece (limited_step f piece) (lead (innermost_frame (frames_of f.outer)) (innermost_of f) piece) e (outlines_lead.each f piece s)
+pub accepted_on : (f g : Front) (piece : Piece) → PositionFollows f → limited_step f piece ≡ Some g
+    → (k : OutlineStep) × (lead (innermost_frame (frames_of f.outer)) (innermost_of f) piece ≡ Some k) × Follows f piece g k
+accepted_on f g piece s e = leads_on f g piece (limited_step f piece) (lead (innermost_frame (frames_of f.outer)) (innermost_of f) piece) e (outlines_agree.each f piece s)
 
--- a piece adds one mark
-pub one_more : (f g : Front) (piece : Piece) → IsStanding f → limited_step f piece ≡ Some g
+-- an accepted piece adds one mark
+pub one_more : (f g : Front) (piece : Piece) → PositionFollows f → limited_step f piece ≡ Some g
     → length (front_marks g) ≡ suc (length (front_marks f))
 one_more f g piece s e =
-    let t = led_on f g piece s e in
+    let t = accepted_on f g piece s e in
     let i = innermost_of f in
     let round = innermost_frame (frames_of f.outer) in
-    let marks = cond (raises round i piece) (raised_from (begun_in f).start (front_marks f)) (front_marks f) in
+    let marks = cond (raises round i piece) (raised_from (open_parts_in f).start (front_marks f)) (front_marks f) in
     let m = ap length t.2.marks in
-    let a = length-append marks (mark_of (begun_in f).above round i piece ∷ []) in
-    let b = either_length (raises round i piece) (begun_in f).start (front_marks f) in
+    let a = length-append marks (mark_of (open_parts_in f).above round i piece ∷ []) in
+    let b = either_length (raises round i piece) (open_parts_in f).start (front_marks f) in
     omega (arith, m, a, b)
 
--- after a piece, a part that is too deep stays so, and the first comes no later
-pub stays_deep : (f g : Front) (piece : Piece) → IsStanding f → limited_step f piece ≡ Some g → has_deep (front_marks f) ≡ true
+-- after an accepted piece a part that is too deep stays so, and the first one comes no later
+pub stays_deep : (f g : Front) (piece : Piece) → PositionFollows f → limited_step f piece ≡ Some g → has_deep (front_marks f) ≡ true
     → (has_deep (front_marks g) ≡ true) × (length (shallow (front_marks g)) ≤ length (shallow (front_marks f)))
 stays_deep f g piece s e deep =
-    let t = led_on f g piece s e in
+    let t = accepted_on f g piece s e in
     let i = innermost_of f in
     let round = innermost_frame (frames_of f.outer) in
-    let marks = cond (raises round i piece) (raised_from (begun_in f).start (front_marks f)) (front_marks f) in
-    let mark = mark_of (begun_in f).above round i piece ∷ [] in
-    let d = either_deep (raises round i piece) (begun_in f).start (front_marks f) deep in
+    let marks = cond (raises round i piece) (raised_from (open_parts_in f).start (front_marks f)) (front_marks f) in
+    let mark = mark_of (open_parts_in f).above round i piece ∷ [] in
+    let d = either_deep (raises round i piece) (open_parts_in f).start (front_marks f) deep in
     let k = ap (λ (ms : Marks). length (shallow ms)) t.2.marks ∙ ap length (shallow_deep marks mark d) in
-    let w = either_shallow (raises round i piece) (begun_in f).start (front_marks f) in (
+    let w = either_shallow (raises round i piece) (open_parts_in f).start (front_marks f) in (
       ap has_deep t.2.marks ∙ has_both marks mark ∙ ap (λ (v : Bool). v || has_deep mark) d,
       omega (arith, k, w),
     )

@@ -1,4 +1,4 @@
--- Outlines and levels follow what is carried, piece by piece.
+-- Outlines and levels represent the carried state, piece by piece.
 use Rattle.std.proofs.Common.{◌≡◌, ℕ, zero, suc, ◌≤◌, Bool, true, false, cond, not, nat_lt, [], ◌∷◌}
 use Rattle.std.proofs.Common.{◌++◌, length, Option, Some, None, refl, ap, sym, ◌∙◌, arith}
 use Rattle.std.specs.Prelude.{is_some}
@@ -24,25 +24,25 @@ use Rattle.bound_text.proofs.MarkLaws.{constant_behind, input_behind, copies_beh
 use Rattle.cert_lexer.specs.declared.outline.Shape.TheVariants as shape
 use Rattle.cert_lexer.specs.declared.outline.Stage.TheVariants as stage
 use Rattle.cert_lexer.specs.declared.outline.Change.TheVariants as change
-use Rattle.cert_lexer.specs.declared.outline.Lead.{Lead}
+use Rattle.cert_lexer.specs.declared.outline.OutlineStep.{OutlineStep}
 use Rattle.cert_lexer.specs.Outlines.{shape_of, last_of, is_last_input, innermost_of}
 use Rattle.cert_lexer.specs.Outlines.{frames_of, innermost_frame, lead_at}
-use Rattle.cert_lexer.specs.Levels.{raised_from, before_term, begun_of, factor_level, item_level, node_if}
+use Rattle.cert_lexer.specs.Levels.{raised_from, before_term, open_parts_of, factor_level, item_level, node_if}
 use Rattle.cert_lexer.specs.Following.{Follows, FollowsWhere}
 use Rattle.cert_lexer.proofs.MarkMoves.{factors_behind, star_behind, term_behind, term_raised}
 use Rattle.cert_lexer.proofs.OutlineLaws.{item_outlined, input_shown, any_shown}
 use Rattle.cert_lexer.proofs.OutlineLaws.{any_node, sum_shows}
 use Rattle.cert_lexer.proofs.BracketMarks.{other_behind, level_more}
 
--- tests that agree lead on together
-pub when_follows : (f : Front) (p : Piece) (v w : Bool) (g : Front) (l : Lead) → v ≡ w → (v ≡ true → Follows f p g l)
+-- a step that a test permits follows the state, if the outline's test is the same
+pub when_follows : (f : Front) (p : Piece) (v w : Bool) (g : Front) (l : OutlineStep) → v ≡ w → (v ≡ true → Follows f p g l)
     → FollowsWhere f p (when v g) (when w l)
 when_follows f p true true g l e h = h refl
 when_follows f p true false g l e h = cc
 when_follows f p false true g l e h = cc
 when_follows f p false false g l e h = tt
 
--- the marks after factors, and after a `*` between them
+-- the marks of factors, and of a `*` after them, when others follow
 pub factors_add : (o : Outer) (high low : ℕ) (ts fs : Parts) (rest ys : Marks)
     → outer_marks o (each_marks plus_between high ts (factors_marks low Nothing fs (rest ++ ys)))
     ≡ outer_marks o (each_marks plus_between high ts (factors_marks low Nothing fs rest)) ++ ys
@@ -58,7 +58,7 @@ star_add o high low ts fs rest ys =
     (star_behind ys fs rest)
     ∙ factors_add o high low ts fs (star_marks fs rest) ys
 
--- levels by the outline
+-- the level of the next item is that computed by the outline
 pub level_shown : (o : Outer) (ts fs : Parts) (position : Position) (product : Bool)
     → level_behind (levels_above o) (sum_node o ts) (node_if product)
     ≡ factor_level (levels_above o) (innermost_frame (frames_of o)) (innermost_of (front_at o ts fs position)) product
@@ -71,7 +71,7 @@ item_shown o ts fs position =
     ap (level_behind (levels_above o) (sum_node o ts)) (any_node fs ∙ ap node_if (sym (any_shown fs)))
     ∙ level_shown o ts fs position (is_some (last_of fs))
 
--- a leaf where an item begins
+-- after a leaf where an item begins, outline and levels represent the state
 leaf_follows : (o : Outer) (ts fs : Parts) (b : Bound) → product_node (with_part fs b) ≡ node_of_any fs
     → ((level : ℕ) → factors_marks level Nothing (with_part fs b) [] ≡ factors_marks level Nothing fs (star_marks fs (Some level ∷ [])))
     → front_marks (behind_factor o ts fs b)
@@ -86,7 +86,7 @@ leaf_follows o ts fs b e h =
     ∙ star_add o high low ts fs [] (Some low ∷ [])
     ∙ ap (λ (k : ℕ). front_marks (front_at o ts fs Begins) ++ Some k ∷ []) (item_shown o ts fs Begins)
 
--- where an item begins
+-- after a piece with which an item begins, outline and levels represent the state
 pub begin_follows : (o : Outer) (ts fs : Parts) (nodes : ℕ) (piece : Piece)
     → FollowsWhere (front_at o ts fs Begins) piece (step_at Begins o ts fs piece)
     (lead_at stage.Begins (innermost_frame (frames_of o)) (innermost_of (front_at o ts fs Begins)) piece)
@@ -119,7 +119,7 @@ begin_follows o ts fs nodes Maximum =
       marks = star_add o high low ts fs [] (Some low ∷ [])
           ∙ ap (λ (k : ℕ). front_marks (front_at o ts fs Begins) ++ Some k ∷ []) (item_shown o ts fs Begins);
       begun = ap (λ (k : ℕ). record { above = k; start = length (front_marks (inside (Arguments NoParts) o ts fs)) }
-          ∷ begun_of (front_at o ts fs Begins)) (e ∙ item_shown o ts fs Begins);
+          ∷ open_parts_of (front_at o ts fs Begins)) (e ∙ item_shown o ts fs Begins);
       standing = tt;
     }
 begin_follows o ts fs nodes Open =
@@ -131,11 +131,11 @@ begin_follows o ts fs nodes Open =
       marks = sum_begins fs
           ∙ ap (λ (k : ℕ). front_marks (front_at o ts fs Begins) ++ Some k ∷ []) (level_shown o ts fs Begins true);
       begun = ap (λ (k : ℕ). record { above = k; start = length (front_marks (inside Factor o ts fs)) }
-          ∷ begun_of (front_at o ts fs Begins)) (e ∙ level_shown o ts fs Begins true);
+          ∷ open_parts_of (front_at o ts fs Begins)) (e ∙ level_shown o ts fs Begins true);
       standing = tt;
     }
   where
-    -- the bracket of a sum begins a product
+    -- the bracket of a sum counts as the first factor of a product
     sum_begins : (fs : Parts)
         → front_marks (inside Factor o ts fs)
         ≡ front_marks (front_at o ts fs Begins) ++ Some (level_behind (levels_above o) (sum_node o ts) 1) ∷ []
@@ -147,7 +147,7 @@ begin_follows o ts fs nodes Open =
         ts (Part b bs) [] (Some (level_behind (levels_above o) (sum_node o ts) 1) ∷ [])
 begin_follows o ts fs nodes piece = tt
 
--- a run raises the term that it begins
+-- the number of a run that begins a term raises the marks of the term
 run_marks : (o : Outer) (ts fs : Parts) (i m : ℕ) → is_input i (last fs) ≡ false
     → front_marks (front_at o ts (with_copies (suc (suc m)) i fs) ItemRead)
     ≡ cond (not (is_some (last_of fs)))
@@ -185,7 +185,7 @@ run_marks o ts fs i m h =
         (raised_from (length (before_term o (sum_node o ts) ts)) (front_marks (front_at o ts (Part b bs) (RunCaret i))))
         (front_marks (front_at o ts (Part b bs) (RunCaret i))) ++ None ∷ []) (sym (any_shown (Part b bs)))
 
--- a run of two or more
+-- after a run of two or more copies, outline and levels represent the state
 copies_follow : (o : Outer) (ts fs : Parts) (i n k : ℕ) → is_input i (last fs) ≡ false → 2 ≤ k
     → Follows (front_at o ts fs (RunCaret i)) (Number n) (front_at o ts (with_copies k i fs) ItemRead)
     (record {
@@ -214,7 +214,7 @@ copies_follow o ts fs i n (suc (suc m)) h more = record {
   standing = is_empty-with_part (with_copies (suc m) i fs) (Input i);
 }
 
--- the step after the `^` of a run
+-- after the number of a run, outline and levels represent the state
 pub run_follows : (o : Outer) (ts fs : Parts) (i nodes : ℕ) (piece : Piece) → is_input i (last fs) ≡ false
     → FollowsWhere (front_at o ts fs (RunCaret i)) piece (step_at (RunCaret i) o ts fs (kept_at (RunCaret i) nodes piece))
     (lead_at (stage.Run i) (innermost_frame (frames_of o)) (innermost_of (front_at o ts fs (RunCaret i))) piece)
@@ -229,7 +229,7 @@ run_follows o ts fs i nodes (Number n) h =
     same false e = ap (nat_lt 1) (kept_few nodes n (are_few n e))
 run_follows o ts fs i nodes piece h = tt
 
--- an exponent that is a leaf
+-- after an exponent that is a leaf, outline and levels represent the state
 power_marks : (o : Outer) (ts fs : Parts) (c : ℕ) (e : Bound)
     → ((level : ℕ) → bound_marks level (PowerOf c e) [] ≡ Some level ∷ None ∷ Some (suc level) ∷ [])
     → front_marks (behind_factor o ts fs (PowerOf c e))
@@ -274,7 +274,7 @@ power_follows o ts fs c nodes Open =
       frames = refl;
       marks = star_add o high low ts fs (Some low ∷ None ∷ []) (None ∷ []);
       begun = ap (λ (k : ℕ). record { above = k; start = length (front_marks (inside (Exponent c) o ts fs)) }
-          ∷ begun_of (front_at o ts fs (PowerCaret c))) (e ∙ item_shown o ts fs (PowerCaret c));
+          ∷ open_parts_of (front_at o ts fs (PowerCaret c))) (e ∙ item_shown o ts fs (PowerCaret c));
       standing = tt;
     }
 power_follows o ts fs c nodes piece = tt

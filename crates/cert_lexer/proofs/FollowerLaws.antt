@@ -17,48 +17,48 @@ use Rattle.cert_lexer.specs.declared.levels.Levels.{Levels}
 use Rattle.cert_lexer.specs.declared.outline.Outline.{Outline}
 use Rattle.cert_lexer.specs.declared.outline.Frame.{Frame}
 use Rattle.cert_lexer.specs.declared.outline.Innermost.{Innermost}
-use Rattle.cert_lexer.specs.declared.outline.Lead.{Lead}
+use Rattle.cert_lexer.specs.declared.outline.OutlineStep.{OutlineStep}
 use Rattle.cert_lexer.specs.BoundSteps.{Steps}
 use Rattle.cert_lexer.specs.Carried.{IsTree, IsSettledTree, StepsOn, has_reader, refusal_with}
 use Rattle.cert_lexer.specs.Following.{Follows, FollowsWhere}
-use Rattle.cert_lexer.specs.Levels.{begun_of, marks_taken, begun_behind}
+use Rattle.cert_lexer.specs.Levels.{open_parts_of, marks_taken, open_parts_after}
 use Rattle.cert_lexer.specs.Outlines.{frames_of, frames_behind, innermost_of, innermost_frame, lead}
-use Rattle.cert_lexer.specs.Shadows.{Led, Shadows, ShowsLevels, frames_in}
-use Rattle.cert_lexer.proofs.LeadLaws.{outlines_lead}
-use Rattle.cert_lexer.proofs.LevelsLaws.{begun_length}
+use Rattle.cert_lexer.specs.Representation.{Accepted, Representation, ShowsLevels, frames_in}
+use Rattle.cert_lexer.proofs.OutlineStepLaws.{outlines_agree}
+use Rattle.cert_lexer.proofs.LevelsLaws.{open_parts_length}
 
 -- if the outline accepts a piece, so does the carried parser state; and if it rejects it, so does that
-front_led : (f : Front) (piece : Piece) (reached : Option Front) (l : Option Lead) (k : Lead) → Some k ≡ l → FollowsWhere f piece reached l
+state_accepted : (f : Front) (piece : Piece) (reached : Option Front) (l : Option OutlineStep) (k : OutlineStep) → Some k ≡ l → FollowsWhere f piece reached l
     → (g : Front) × (reached ≡ Some g) × Follows f piece g k
-front_led f piece None (Some l) k e h = absurd h
-front_led f piece None None k e h = cc
-front_led f piece (Some g) None k e h = cc
-front_led f piece (Some g) (Some l) k e h = let same : l ≡ k = cc in (g, refl, subst (Follows f piece g) same h)
+state_accepted f piece None (Some l) k e h = absurd h
+state_accepted f piece None None k e h = cc
+state_accepted f piece (Some g) None k e h = cc
+state_accepted f piece (Some g) (Some l) k e h = let same : l ≡ k = cc in (g, refl, subst (Follows f piece g) same h)
 
-front_left : (f : Front) (piece : Piece) (reached : Option Front) (l : Option Lead) → None ≡ l → FollowsWhere f piece reached l → reached ≡ None
-front_left f piece None l e h = refl
-front_left f piece (Some g) None e h = absurd h
-front_left f piece (Some g) (Some l) e h = cc
+state_rejected : (f : Front) (piece : Piece) (reached : Option Front) (l : Option OutlineStep) → None ≡ l → FollowsWhere f piece reached l → reached ≡ None
+state_rejected f piece None l e h = refl
+state_rejected f piece (Some g) None e h = absurd h
+state_rejected f piece (Some g) (Some l) e h = cc
 
 -- the step of the code's outline is that of the state's outline
-same_lead : (f : Front) (piece : Piece) (s : Follower) → Shadows f s
+same_lead : (f : Front) (piece : Piece) (s : Follower) → Representation f s
     → lead (innermost_frame (frames_in s.outline)) s.outline.innermost piece ≡ lead (innermost_frame (frames_of f.outer)) (innermost_of f) piece
 same_lead f piece s h =
     ap (λ (fs : List Frame). lead (innermost_frame fs) s.outline.innermost piece) h.frames
     ∙ ap (λ (i : Innermost). lead (innermost_frame (frames_of f.outer)) i piece) h.innermost
 
 -- after an accepted piece, outline and levels represent the new state
-pub shadows_on : (f : Front) (piece : Piece) (s : Follower) (outline : Outline) (levels : Levels) (round : Option Frame) (k : Lead) → Shadows f s
+pub represents_after_piece : (f : Front) (piece : Piece) (s : Follower) (outline : Outline) (levels : Levels) (round : Option Frame) (k : OutlineStep) → Representation f s
     → round ≡ innermost_frame (frames_in s.outline) → Some k ≡ lead round s.outline.innermost piece
     → frames_in outline ≡ frames_behind k.change (frames_in s.outline) → outline.innermost ≡ k.innermost
     → ((marks : Marks) (bs : List OpenPart) → length bs ≡ suc (length s.outline.frames.items) → ShowsLevels s.levels marks bs
     → ShowsLevels levels (marks_taken bs round s.outline.innermost piece marks)
-    (begun_behind k.change (length (marks_taken bs round s.outline.innermost piece marks)) round s.outline.innermost bs))
-    → Led f piece (record { outline = outline; levels = levels }) true
-shadows_on f piece s outline levels round k h r e frames inner taken =
-    let t = front_led f piece (limited_step f piece) (lead (innermost_frame (frames_of f.outer)) (innermost_of f) piece) k
+    (open_parts_after k.change (length (marks_taken bs round s.outline.innermost piece marks)) round s.outline.innermost bs))
+    → Accepted f piece (record { outline = outline; levels = levels }) true
+represents_after_piece f piece s outline levels round k h r e frames inner taken =
+    let t = state_accepted f piece (limited_step f piece) (lead (innermost_frame (frames_of f.outer)) (innermost_of f) piece) k
     (e ∙ ap (λ (o : Option Frame). lead o s.outline.innermost piece) r ∙ same_lead f piece s h)
-    (outlines_lead.each f piece h.standing) in (
+    (outlines_agree.each f piece h.standing) in (
       t.0,
       t.1,
       record {
@@ -72,55 +72,55 @@ shadows_on f piece s outline levels round k h r e frames inner taken =
     round_of : round ≡ innermost_frame (frames_of f.outer)
     round_of = r ∙ ap innermost_frame h.frames
 
-    shown : (g : Front) → Follows f piece g k → ShowsLevels levels (front_marks g) (begun_of g)
+    shown : (g : Front) → Follows f piece g k → ShowsLevels levels (front_marks g) (open_parts_of g)
     shown g l =
-        let a = taken (front_marks f) (begun_of f) (begun_length f s.outline h.frames) h.levels in
-        let b = subst (λ (o : Option Frame). ShowsLevels levels (marks_taken (begun_of f) o s.outline.innermost piece (front_marks f))
-        (begun_behind k.change (length (marks_taken (begun_of f) o s.outline.innermost piece (front_marks f))) o s.outline.innermost (begun_of f))) round_of a in
-        let c = subst (λ (i : Innermost). ShowsLevels levels (marks_taken (begun_of f) (innermost_frame (frames_of f.outer)) i piece (front_marks f))
-        (begun_behind k.change (length (marks_taken (begun_of f) (innermost_frame (frames_of f.outer)) i piece (front_marks f)))
-        (innermost_frame (frames_of f.outer)) i (begun_of f))) h.innermost b in
+        let a = taken (front_marks f) (open_parts_of f) (open_parts_length f s.outline h.frames) h.levels in
+        let b = subst (λ (o : Option Frame). ShowsLevels levels (marks_taken (open_parts_of f) o s.outline.innermost piece (front_marks f))
+        (open_parts_after k.change (length (marks_taken (open_parts_of f) o s.outline.innermost piece (front_marks f))) o s.outline.innermost (open_parts_of f))) round_of a in
+        let c = subst (λ (i : Innermost). ShowsLevels levels (marks_taken (open_parts_of f) (innermost_frame (frames_of f.outer)) i piece (front_marks f))
+        (open_parts_after k.change (length (marks_taken (open_parts_of f) (innermost_frame (frames_of f.outer)) i piece (front_marks f)))
+        (innermost_frame (frames_of f.outer)) i (open_parts_of f))) h.innermost b in
         let d = subst (λ (ms : Marks). ShowsLevels levels ms
-        (begun_behind k.change (length ms) (innermost_frame (frames_of f.outer)) (innermost_of f) (begun_of f))) (sym l.marks) c in
+        (open_parts_after k.change (length ms) (innermost_frame (frames_of f.outer)) (innermost_of f) (open_parts_of f))) (sym l.marks) c in
         subst (ShowsLevels levels (front_marks g)) (sym l.begun) d
 
 -- a rejected piece leaves the code's state as it is
-pub shadows_off : (f : Front) (piece : Piece) (s : Follower) (round : Option Frame) → Shadows f s
+pub state_kept_at_rejection : (f : Front) (piece : Piece) (s : Follower) (round : Option Frame) → Representation f s
     → round ≡ innermost_frame (frames_in s.outline) → None ≡ lead round s.outline.innermost piece → limited_step f piece ≡ None
-shadows_off f piece s round h r e =
-    front_left f piece (limited_step f piece) (lead (innermost_frame (frames_of f.outer)) (innermost_of f) piece)
+state_kept_at_rejection f piece s round h r e =
+    state_rejected f piece (limited_step f piece) (lead (innermost_frame (frames_of f.outer)) (innermost_of f) piece)
     (e ∙ ap (λ (o : Option Frame). lead o s.outline.innermost piece) r ∙ same_lead f piece s h)
-    (outlines_lead.each f piece h.standing)
+    (outlines_agree.each f piece h.standing)
 
--- the tree of what has been read is settled
+-- a settled reader's tree is that of the pieces read so far
 pub tree_settled : (f : Front) (o : Option Reader) → IsTree f o → IsSettledTree o
 tree_settled f None h = tt
 tree_settled f (Some r) h = h.1
 
--- the state reached is unique
-same_front : (x y : Front) → Some x ≡ Some y → x ≡ y
-same_front x y e = cc
+-- the state that is reached is unique
+state_unique : (x y : Front) → Some x ≡ Some y → x ≡ y
+state_unique x y e = cc
 
 no_front : (x : Front) → Some x ≡ None → ⊥
 no_front x e = cc
 
--- where the state accepts a piece, so does the code without the tree
+-- if the state accepts a piece, so does the code without the tree, and its state represents the next one
 pub steps_with : (n : ℕ) (f : Front) (piece : Piece) (behind : List Piece) (before : Option Reader) (r after : Reader) (follower : Follower) (step : StepResult)
-    → before ≡ Some r → IsTree f before → Led f piece follower true → Steps n (front_of r) piece behind after step
+    → before ≡ Some r → IsTree f before → Accepted f piece follower true → Steps n (front_of r) piece behind after step
     → StepsOn n f piece behind before (record { reader = Some after; follower = follower }) step
 steps_with n f piece behind before r after follower step e tree led steps = go step (subst (IsTree f) e tree).0 steps
   where
     go : (step : StepResult) → front_of r ≡ f → Steps n (front_of r) piece behind after step
         → StepsOn n f piece behind before (record { reader = Some after; follower = follower }) step
-    go (stepped.Led first_refusal) same steps =
-        let here = subst (λ (x : Front). Steps n x piece behind after (stepped.Led first_refusal)) same steps in
-        let next : led.0 ≡ front_of after = same_front led.0 (front_of after) (sym led.1 ∙ here.0) in (
+    go (stepped.Accepted first_refusal) same steps =
+        let here = subst (λ (x : Front). Steps n x piece behind after (stepped.Accepted first_refusal)) same steps in
+        let next : led.0 ≡ front_of after = state_unique led.0 (front_of after) (sym led.1 ∙ here.0) in (
           led.0,
           led.1,
-          record { shadows = led.2; tree = (sym next, here.1) },
+          record { represents = led.2; tree = (sym next, here.1) },
           sym (ap has_reader e),
           here.2 ∙ sym (ap (λ (v : Bool). refusal_with v (option_map kind_of (first_of (stands n f piece behind) other_kinds))) (ap has_reader e)),
         )
-    go stepped.Off same steps =
-        let here = subst (λ (x : Front). Steps n x piece behind after stepped.Off) same steps in
+    go stepped.Rejected same steps =
+        let here = subst (λ (x : Front). Steps n x piece behind after stepped.Rejected) same steps in
         absurd (no_front led.0 (sym led.1 ∙ here.0))

@@ -1,4 +1,4 @@
--- The bytes that a piece of a bound inside a proof file was found in.
+-- The bytes that a piece of a bound inside a proof file was cut from.
 use Rattle.std.proofs.Common.{◌≡◌, ℕ, zero, suc, ◌+◌, ◌-◌, ◌<◌, ◌≤◌, ◌^◌, min, nat_eq, Bool, true, false, cond, List, [], ◌∷◌}
 use Rattle.std.proofs.Common.{◌++◌, length, drop, Option, Some, refl, ap, sym, subst, ◌∙◌, arith}
 use Rattle.std.specs.Prelude.{nat_lt, codes}
@@ -30,7 +30,7 @@ use Rattle.cert_lexer.specs.declared.piece.Piece.TheVariants.{InBound}
 use Rattle.cert_lexer.specs.Lexing.{bound_lexeme, bound_piece, depth_behind, ends_before, ends_bound, lexeme_in, plain_lexeme}
 use Rattle.cert_lexer.proofs.CutBack.{plain_no_bound}
 
--- bytes that begin with one
+-- bytes that begin with c are c and other bytes
 begins_split : (c : ℕ) (bytes : List ℕ) → begins_with c bytes ≡ true → (rest : List ℕ) × (bytes ≡ c ∷ rest)
 begins_split c [] h = cc
 begins_split c (b ∷ bytes) h =
@@ -42,7 +42,7 @@ name_piece names w v u =
     cond {A = Lexeme Piece} v (cond u (record { piece = Maximum; len = length w + 1 })
     (record { piece = Wrong; len = length w })) (record { piece = Variable (position_of w names); len = length w })
 
--- the bytes of an accepted name
+-- a name that meets the conditions is spelled by its bytes
 word_spelled : (names : List Name) (w rest : List ℕ) → KeptPiece (length names) (word_at names w rest).piece
     → Spelled names (w ++ rest) (word_at names w rest)
 word_spelled names w rest kept = go (begins_with 40 rest) (is_same w (codes "max")) refl refl kept
@@ -61,7 +61,7 @@ word_spelled names w rest kept = go (begins_with 40 rest) (is_same w (codes "max
         let p = at_position names w kept in
         record { rest = rest; split = ap (λ (xs : List ℕ). xs ++ rest) (sym p); len = ap length p }
 
--- the bytes of an accepted number
+-- a number that meets the conditions is spelled by its bytes
 number_spelled : (names : List Name) (c : ℕ) (ds rest : List ℕ) → is_ascii_digit c ≡ true
     → list_all is_ascii_digit ds ≡ true → KeptPiece (length names) (number_at (c ∷ ds)).piece
     → Spelled names ((c ∷ ds) ++ rest) (number_at (c ∷ ds))
@@ -79,12 +79,12 @@ number_spelled names c ds rest d all kept = go (has_leading_zero (c ∷ ds)) ref
         ap decimal same ∙ numeral_of c ds d all e (omega (arith, small)) in
         record { rest = rest; split = ap (λ (xs : List ℕ). xs ++ rest) (sym n); len = ap length n }
 
--- the piece of any other byte
+-- the piece of a byte that begins neither a name nor a number, by comparisons with the marks
 abbrev mark_piece : Bool → Bool → Bool → Bool → Bool → Bool → Bool → Piece
 mark_piece a c d e f g h =
     cond a Open (cond c Close (cond d Times (cond e Caret (cond f Plus (cond g Blank (cond h Comma Wrong))))))
 
--- the bytes of any other accepted piece
+-- any other piece that meets the conditions is spelled by its bytes
 mark_spelled : (names : List Name) (b : ℕ) (rest : List ℕ) → KeptPiece (length names) (mark_at b)
     → Spelled names (b ∷ rest) (record { piece = mark_at b; len = 1 })
 mark_spelled names b rest kept =
@@ -106,13 +106,13 @@ mark_spelled names b rest kept =
     go false false false false false false true p q r s t u v kept = record { rest = rest; split = same 44 v; len = refl }
     go false false false false false false false p q r s t u v kept = absurd kept
 
--- the first piece of bytes
+-- the first piece of bytes, by whether a name or a number begins there
 abbrev first_piece : List Name → ℕ → List ℕ → Bool → Bool → Lexeme Piece
 first_piece names b bytes v w =
     cond {A = Lexeme Piece} v (word_at names (b ∷ prefix continues_name bytes) (the_rest continues_name bytes))
     (cond w (number_at (b ∷ prefix is_ascii_digit bytes)) (record { piece = mark_at b; len = 1 }))
 
--- a kept piece is written as the bytes that it was found in
+-- a lexeme whose piece meets the conditions is spelled by the bytes that it was cut from
 lexeme_spelled : (names : List Name) (b : ℕ) (bytes : List ℕ) → KeptPiece (length names) (lexeme_at names b bytes).piece
     → Spelled names (b ∷ bytes) (lexeme_at names b bytes)
 lexeme_spelled names b bytes kept = go (begins_name b) (is_ascii_digit b) refl kept
@@ -130,7 +130,7 @@ lexeme_spelled names b bytes kept = go (begins_name b) (is_ascii_digit b) refl k
         (all_prefix is_ascii_digit bytes) kept)
     go false false f kept = mark_spelled names b bytes kept
 
--- a piece of the code that is kept is that of a kept one
+-- if the piece of the code meets the conditions, it is the piece of the definition
 kept_back : (n before : ℕ) (q : Piece) → n < 2 ^ 32 → KeptPiece n (piece_of (bound_piece n before q))
     → KeptPiece n q × (piece_of (bound_piece n before q) ≡ q)
 kept_back n before (Variable i) small kept = go (nat_lt i n) refl kept
@@ -155,7 +155,7 @@ kept_back n before Blank small kept = (tt, refl)
 kept_back n before Comma small kept = (tt, refl)
 kept_back n before Wrong small kept = (kept, refl)
 
--- the bytes after those of a piece
+-- the bytes after those of the first piece
 behind_first : (b : ℕ) (bytes xs rest : List ℕ) (some : ℕ) → b ∷ bytes ≡ xs ++ rest → length xs ≡ suc some
     → drop some bytes ≡ rest
 behind_first b bytes xs rest some e h =
@@ -167,7 +167,7 @@ pub record IsInner (names : List Name) (depth b : ℕ) (bytes : List ℕ) (q : B
     pub ends : last ≡ ends_before (depth_behind depth q) (drop some bytes)
     pub spells : KeptPiece (length names) (piece_of q) → b ∷ bytes ≡ spelled names (piece_of q) ++ drop some bytes
 
--- a piece of a bound is found in the bytes that it is written as
+-- a piece of a bound that was cut has the properties of one, and is spelled by its bytes
 pub inner_back : (symbols names : List Name) (depth before b : ℕ) (bytes : List ℕ) (q : BoundPiece) (len : ℕ)
     (last : Bool) (some : ℕ) → length names < 2 ^ 32
     → lexeme_in symbols names (mode.InBound depth before) b bytes ≡ record { piece = Some (InBound q len last); len = suc some }
@@ -201,7 +201,7 @@ inner_back symbols names depth before b bytes q len last some small h = go (ends
               ∙ ap (λ (x : Piece). spelled names x ++ drop some bytes) (sym here);
         }
 
--- while a bound continues, no other piece is found
+-- while a bound is open, only pieces of bounds are cut
 pub inner_only : (symbols names : List Name) (depth before b : ℕ) (bytes : List ℕ) → ends_bound depth b ≡ false
     → (q : BoundPiece) × (len : ℕ) × (last : Bool)
     × ((lexeme_in symbols names (mode.InBound depth before) b bytes).piece ≡ Some (InBound q len last))

@@ -1,4 +1,4 @@
--- Outlines and levels follow the carried state after an item.
+-- Outlines and levels represent the carried state after a piece that follows an item.
 use Rattle.std.proofs.Common.{◌≡◌, ℕ, suc, ◌^◌, ◌-◌, Bool, true, false, cond, not, nat_lt, nat_le, [], ◌∷◌}
 use Rattle.std.proofs.Common.{◌++◌, length, Option, Some, None, refl, ap, sym, subst, ◌∙◌, arith}
 use Rattle.std.specs.Prelude.{◌&&◌, is_some}
@@ -37,10 +37,10 @@ use Rattle.cert_lexer.proofs.OutlineLaws.{item_outlined, input_shown, end_shown,
 use Rattle.cert_lexer.proofs.OutlineLaws.{maximum_shown, close_shown, arguments_shown, factor_shown}
 use Rattle.cert_lexer.proofs.BracketMarks.{other_behind, level_more, inside_marks}
 use Rattle.cert_lexer.proofs.BracketMarks.{sum_in, item_marks, item_other, item_node}
-use Rattle.cert_lexer.specs.Levels.{begun_round}
+use Rattle.cert_lexer.specs.Levels.{open_parts_around}
 use Rattle.cert_lexer.proofs.FollowLaws.{when_follows, factors_add, star_add}
 
--- a factor is one level deeper after its first `*`
+-- the first `*` of a term raises the marks of its factor by one level
 times_marks : (o : Outer) (ts fs : Parts) → is_empty fs ≡ false
     → front_marks (front_at o ts fs Begins)
     ≡ cond (not (is_product (before_last (last_of fs) (last_of (init fs))) (last_of fs)))
@@ -77,7 +77,7 @@ times_marks o ts fs some =
         ∙ ap (λ (p : ℕ). raised_from (length (before_term o (sum_node o ts) ts)) (outer_marks o (each_marks plus_between high ts
         (factors_marks (level_behind (levels_above o) (sum_node o ts) p) Nothing fs []))) ++ None ∷ []) (sym e)
 
--- a term is one level deeper after the first ` + `
+-- the first ` + ` of a bound raises the marks of its term by one level
 blank_marks : (o : Outer) (ts fs : Parts)
     → front_marks (front_at o ts fs BlankRead)
     ≡ cond (not (is_factor_frame (innermost_frame (frames_of o))) && not (not (is_empty ts)))
@@ -85,7 +85,7 @@ blank_marks : (o : Outer) (ts fs : Parts)
     (front_marks (front_at o ts fs ItemRead)) ++ None ∷ []
 blank_marks o ts fs = go (in_factor o) (is_factor_frame (innermost_frame (frames_of o))) ts (factor_shown o)
   where
-    -- terms and factors, where this many nodes of a sum count
+    -- the marks of terms and factors, where this many nodes of a sum count
     whole : ℕ → Parts → Marks → Marks
     whole sum ts rest =
         outer_marks o (each_marks plus_between (level_behind (levels_above o) sum 0) ts
@@ -114,12 +114,12 @@ blank_marks o ts fs = go (in_factor o) (is_factor_frame (innermost_frame (frames
         ∙ ap (λ (ms : Marks). ms ++ None ∷ [])
         (sym (term_raised o (level_behind (levels_above o) 0 0) NoParts (factors_marks level Nothing fs [])))
 
--- where a term begins doesn't depend on whether a sum's node counts
+-- the place where a term begins doesn't depend on whether the sum's node counts
 same_start : (o : Outer) (ts : Parts) → length (before_term o (sum_at BlankRead o ts) ts) ≡ length (before_term o (sum_node o ts) ts)
 same_start o NoParts = refl
 same_start o (Part b bs) = refl
 
--- the item that a `^` takes back
+-- after a `^`, which takes back the last item, outline and levels represent the state
 caret_follows : (o : Outer) (ts gs : Parts) (b : Bound)
     → FollowsWhere (front_at o ts (with_part gs b) ItemRead) Caret
     (cond (is_large_number (Some b)) (Some (front_at o ts gs (PowerCaret (2 ^ 64 - 1)))) (caret_behind o ts gs (Some b)))
@@ -210,7 +210,7 @@ caret_follows o ts gs (ProductOf bs) = tt
 caret_follows o ts gs (MaximumOf bs) = tt
 caret_follows o ts gs (PowerOf c e) = tt
 
--- a bracket closes
+-- the marks after a closing bracket are those of the bracket's item
 closed_marks : (bracket : Bracket) (o : Outer) (ts' fs' ts fs : Parts) → can_end fs ≡ true
     → can_close bracket (bound_of_parts ts fs) ≡ true
     → front_marks (behind_factor o ts' fs' (item_of bracket (bound_of_parts ts fs)))
@@ -253,7 +253,7 @@ closed_marks bracket o ts' fs' ts fs h k =
     sum_inside (Exponent c) = refl
     sum_inside Factor = refl
 
--- a sum in brackets is a sum
+-- the shape of a sum is `Sum`
 sum_behind : (b : Bound) → is_sum b ≡ true → shape_of b ≡ shape.Sum
 sum_behind (SumOf bs) e = refl
 sum_behind (Constant c) e = cc
@@ -262,21 +262,21 @@ sum_behind (ProductOf bs) e = cc
 sum_behind (MaximumOf bs) e = cc
 sum_behind (PowerOf c d) e = cc
 
--- the item of a bracket that closes, by its shape
+-- the shape of the item of a closing bracket is that of the bracket
 closed_shape : (bracket : Bracket) (b : Bound) → can_close bracket b ≡ true
     → shape_of (item_of bracket b) ≡ item_shape (opening_of bracket)
 closed_shape (Arguments bs) b e = refl
 closed_shape (Exponent c) b e = refl
 closed_shape Factor b e = sum_behind b e
 
--- after it only whether there is a factor before is known
+-- after the item of a bracket, the outline stores of the factors before only whether there are any
 coarse_item : (bracket : Bracket) (before : Option Shape)
     → before_last (Some (item_shape (opening_of bracket))) before ≡ any_factor (is_some before)
 coarse_item (Arguments bs) before = refl
 coarse_item (Exponent c) before = refl
 coarse_item Factor before = refl
 
--- the innermost bound after a bracket that closes
+-- the innermost bound after a closing bracket is that of the state
 closed_item : (bracket : Bracket) (o : Outer) (ts fs : Parts) (b : Bound) → can_close bracket b ≡ true
     → innermost_of (behind_factor o ts fs (item_of bracket b))
     ≡ behind_bracket (record { opening = opening_of bracket; terms = not (is_empty ts); factors = is_some (last_of fs) })
@@ -312,7 +312,7 @@ close_follows (Inside bracket ts' fs' o) ts fs =
       standing = is_empty-with_part fs' (item_of bracket b);
     })
 
--- the step from after an item
+-- after a piece that follows an item, outline and levels represent the state
 pub item_follows : (o : Outer) (ts fs : Parts) (nodes : ℕ) (piece : Piece) → is_empty fs ≡ false
     → FollowsWhere (front_at o ts fs ItemRead) piece
     (cond (has_large_base_at ItemRead fs piece) (Some (front_at o ts (init fs) (PowerCaret (2 ^ 64 - 1)))) (step_at ItemRead o ts fs piece))
@@ -342,7 +342,7 @@ item_follows o ts fs nodes Blank h =
       innermost = refl;
       frames = refl;
       marks = blank_marks o ts fs;
-      begun = ap (λ (k : ℕ). record { above = levels_above o; start = k } ∷ begun_round o) (same_start o ts);
+      begun = ap (λ (k : ℕ). record { above = levels_above o; start = k } ∷ open_parts_around o) (same_start o ts);
       standing = e;
     })
 item_follows o ts fs nodes Comma h =

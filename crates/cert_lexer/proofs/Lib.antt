@@ -1,4 +1,4 @@
--- the grammar can be read
+-- The grammar of proof files can be read.
 pub mod ReadableGrammar
 -- the position of a name among others
 mod Positions
@@ -7,9 +7,9 @@ pub mod BoundLaws
 pub mod StepLaws
 -- packed pieces
 pub mod PackedLaws
--- bounds within the limits are answered
+-- bounds within the limits are the answers to their pieces
 pub mod BoundTexts
--- bounds that are answered are spelled, and are within the limits
+-- a bound that is an answer is spelled by the pieces, and within the limits
 pub mod MarkDepths
 pub mod SpelledBounds
 -- pieces of a class, and the bytes of a piece
@@ -17,18 +17,18 @@ pub mod PieceClasses
 pub mod CutBack
 pub mod InnerBack
 pub mod PlaceBack
--- values that were worked out by hand
+-- worked values
 mod WorkedBounds
--- their pieces, and how these are found again
+-- the pieces of bounds, and how they are cut from their bytes again
 pub mod BoundCuts
 pub mod BoundBack
--- outlines and levels follow what has been read
+-- outlines and levels represent the pieces read so far
 pub mod MarkMoves
 pub mod OutlineLaws
 pub mod BracketMarks
 pub mod FollowLaws
 pub mod ItemLaws
-pub mod LeadLaws
+pub mod OutlineStepLaws
 pub mod ListLaws
 pub mod ShallowLaws
 pub mod DeepLaws

@@ -1,4 +1,4 @@
--- The marks of a bound reach as deep as its levels, and there are as many as pieces.
+-- The marks of a bound reach down to its deepest level, and there are as many as pieces.
 use Rattle.std.proofs.Common.{◌≡◌, ℕ, zero, suc, ◌+◌, ◌≤◌, max, Bool, true, false, cond, List, [], ◌∷◌, ◌++◌, length, Option}
 use Rattle.std.proofs.Common.{Some, None, refl, ap, sym, ◌∙◌, arith}
 use Rattle.std.specs.Prelude.{⊤, nat_lt, not}
@@ -22,7 +22,7 @@ use Rattle.text_grammar.specs.text_core.Tokens.{Token, pieces}
 use Rattle.text_grammar.specs.text_core.Readers.{Fault}
 use Rattle.cert_lexer.proofs.BoundTexts.{AtMost}
 
--- there are as many marks as pieces, if this holds of those after them
+-- there are as many marks as pieces
 abbrev AsMany : Marks → List Piece → Type 0
 AsMany marks ps = length marks ≡ length ps
 
@@ -66,7 +66,7 @@ exponent_long true marks text ms ps own h = own ms ps h
 exponent_long false marks text ms ps own h =
     ap (λ (k : ℕ). suc k) (own (None ∷ ms) (Close ∷ ps) (ap (λ (k : ℕ). suc k) h))
 
--- a variable continues a run or begins one
+-- factors that begin with a variable, which continues a run or begins one, have as many marks as pieces
 variable_long : (v : Bool) (level : ℕ) (before : Before) (ms ns : Marks) (ps qs : List Piece) → AsMany ms ps
     → AsMany ns qs
     → AsMany (cond v ms (ended_marks level before (times_marks before ns))) (cond v ps (ended_then before (times_then before qs)))
@@ -74,7 +74,7 @@ variable_long true level before ms ns ps qs h k = h
 variable_long false level before ms ns ps qs h k =
     ended_long level before (times_marks before ns) (times_then before qs) (times_long before ns qs k)
 
--- any other factor is a part of its own
+-- factors that begin with another factor have as many marks as pieces
 other_long : (level : ℕ) (before : Before) (v : Bool) (marks : Marks → Marks) (text : List Piece → List Piece) (ms : Marks)
     (ps : List Piece) → ((ns : Marks) (qs : List Piece) → AsMany ns qs → AsMany (marks ns) (text qs)) → AsMany ms ps
     → AsMany (ended_marks level before (times_marks before (factor_marks v level marks ms)))
@@ -138,7 +138,7 @@ mutual
       (factors_marks level Other bs ms) (factors_then Other bs ps)
       (λ ns qs k. bound_long level (PowerOf c e) ns qs k) (factors_long level Other bs ms ps h)
 
--- terms with a separator after each
+-- terms with a separator after each have as many marks as pieces
 each_long : (separator : List Piece) (level : ℕ) (bs : Parts) (ms : Marks) (ps : List Piece) → AsMany ms ps
     → AsMany (each_marks separator level bs ms) (each_then separator bs ps)
 each_long separator level NoParts ms ps h = h
@@ -146,7 +146,7 @@ each_long separator level (Part b bs) ms ps h =
     bound_long level b (unmarked separator (each_marks separator level bs ms)) (separator ++ each_then separator bs ps)
     (separator_long separator (each_marks separator level bs ms) (each_then separator bs ps) (each_long separator level bs ms ps h))
 
--- a limit on marks is one on the marks after others
+-- if marks with others before them are within a limit, so are they alone
 unmarked_back : (n : ℕ) (ps : List Piece) (rest : Marks) → AtMost n (unmarked ps rest) → AtMost n rest
 unmarked_back n [] rest h = h
 unmarked_back n (p ∷ ps) rest h = unmarked_back n ps rest h
@@ -165,31 +165,31 @@ times_back n Nothing rest h = h
 times_back n (Run i k) rest h = h
 times_back n Other rest h = h
 
--- a run that is open is at its level
-abbrev RunStands : ℕ → ℕ → Before → Type 0
-RunStands n level Nothing = ⊤
-RunStands n level (Run i k) = level ≤ n
-RunStands n level Other = ⊤
+-- the level of an open run, if there is one, is within the limit
+abbrev RunIsAtLevel : ℕ → ℕ → Before → Type 0
+RunIsAtLevel n level Nothing = ⊤
+RunIsAtLevel n level (Run i k) = level ≤ n
+RunIsAtLevel n level Other = ⊤
 
 ended_stands : (n level : ℕ) (before : Before) (rest : Marks) → AtMost n (ended_marks level before rest)
-    → RunStands n level before
+    → RunIsAtLevel n level before
 ended_stands n level Nothing rest h = tt
 ended_stands n level (Run i k) rest h = h.0
 ended_stands n level Other rest h = tt
 
--- the limit for a run that continues
-run_stands : (n level : ℕ) (before : Before) (i : ℕ) → goes_on before i ≡ true → RunStands n level (run_with before i)
+-- the level of a run that continues is within the limit if that of the longer run is
+run_stands : (n level : ℕ) (before : Before) (i : ℕ) → goes_on before i ≡ true → RunIsAtLevel n level (run_with before i)
     → level ≤ n
 run_stands n level Nothing i e h = cc
 run_stands n level (Run j k) i e h =
     go (goes_on (Run j k) i) e h
   where
-    go : (v : Bool) → v ≡ true → RunStands n level (cond v (Run j (suc k)) (Run i 1)) → level ≤ n
+    go : (v : Bool) → v ≡ true → RunIsAtLevel n level (cond v (Run j (suc k)) (Run i 1)) → level ≤ n
     go true e h = h
     go false e h = cc
 run_stands n level Other i e h = cc
 
--- the levels of parts, of which there may be none
+-- the levels of parts are within the limit, if there are parts
 abbrev Fits : ℕ → ℕ → ℕ → Type 0
 Fits n level depth = 1 ≤ depth → level + depth ≤ suc n
 
@@ -197,9 +197,9 @@ fits_both : (n level a b : ℕ) → level + a ≤ suc n → Fits n level b → l
 fits_both n level a zero h f = omega (arith, h)
 fits_both n level a (suc b) h f = let k = f (omega arith) in omega (arith, h, k)
 
--- the limits for factors after others
+-- if the marks of factors after others are within a limit, so are their levels and the marks after them
 abbrev Reaches : ℕ → ℕ → Before → ℕ → Marks → Type 0
-Reaches n level before depth rest = Fits n level depth × RunStands n level before × AtMost n rest
+Reaches n level before depth rest = Fits n level depth × RunIsAtLevel n level before × AtMost n rest
 
 variable_back : (v : Bool) (n level : ℕ) (before : Before) (i depth : ℕ) (ms ns rest : Marks)
     → goes_on before i ≡ v
@@ -212,7 +212,7 @@ variable_back true n level before i depth ms ns rest e on begun h =
     let l = run_stands n level before i e r.1 in
     ((λ some. fits_both n level 1 depth (omega (arith, l)) r.0), stays before e l, r.2)
   where
-    stays : (before : Before) → goes_on before i ≡ true → level ≤ n → RunStands n level before
+    stays : (before : Before) → goes_on before i ≡ true → level ≤ n → RunIsAtLevel n level before
     stays Nothing e l = tt
     stays (Run j k) e l = l
     stays Other e l = tt
@@ -221,7 +221,7 @@ variable_back false n level before i depth ms ns rest e on begun h =
     let l = r.1 in
     ((λ some. fits_both n level 1 depth (omega (arith, l)) r.0), ended_stands n level before (times_marks before ns) h, r.2)
 
--- the marks of a factor in brackets or not
+-- if the marks of a factor, in brackets or not, are within a limit, so are its levels
 factor_back : (v : Bool) (n level depth : ℕ) (marks : Marks → Marks) (rest : Marks)
     → ((ms : Marks) → AtMost n (marks ms) → (level + depth ≤ suc n) × AtMost n ms)
     → AtMost n (factor_marks v level marks rest) → (level + depth ≤ suc n) × AtMost n rest
@@ -249,7 +249,7 @@ exponent_back : (v : Bool) (n level depth : ℕ) (marks : Marks → Marks) (rest
 exponent_back true n level depth marks rest own h = own rest h
 exponent_back false n level depth marks rest own h = own (None ∷ rest) h
 
--- a bound has a level, and parts of which there are two have one
+-- every bound has at least one level, and two parts have at least one
 some_depth : (b : Bound) → 1 ≤ depth_of b
 some_depth (Constant c) = omega arith
 some_depth (Input i) = omega arith
@@ -263,7 +263,7 @@ parts_depth NoParts h = absurd (omega (arith, h))
 parts_depth (Part b bs) h = let some = some_depth b in omega (arith, some)
 
 mutual
-  -- where the marks of a bound are at most so large, its last level is
+  -- if the marks of a bound are within a limit, so is its deepest level
   bound_back : (n level : ℕ) (b : Bound) (rest : Marks) → IsShaped b → AtMost n (bound_marks level b rest)
       → (level + depth_of b ≤ suc n) × AtMost n rest
   bound_back n level (Constant c) rest s h = (let l = h.0 in omega (arith, l), h.1)
@@ -333,7 +333,7 @@ mutual
       (factors_marks level Other bs rest) rest (λ ms k. bound_back n level (PowerOf c e) ms s.0 k)
       (λ k. factors_back n level Other bs rest s.1 k) h
 
--- terms with a separator after each
+-- if the marks of terms with a separator after each are within a limit, so are their levels
 each_back : (n level : ℕ) (separator : List Piece) (bs : Parts) (rest : Marks) → AreShaped bs
     → AtMost n (each_marks separator level bs rest) → Fits n level (maximum_depth bs) × AtMost n rest
 each_back n level separator NoParts rest s h = ((λ some. absurd (omega (arith, some))), h)
@@ -343,7 +343,8 @@ each_back n level separator (Part b bs) rest s h =
     (unmarked_back n separator (each_marks separator level bs rest) f.1) in
     ((λ some. fits_both n level (depth_of b) (maximum_depth bs) f.0 r.0), r.1)
 
--- where no token with a mark is too deep, and there are as many tokens as marks, each mark is at most so large
+-- if no token begins a part that is too deep, and there are at least as many tokens as marks, each mark is within the
+-- limit
 none_back : (n : ℕ) (marks : Marks) (ts : List (Token Piece)) → length marks ≤ length ts → deep_among n marks ts ≡ []
     → AtMost n marks
 none_back n [] ts few h = tt
@@ -358,7 +359,7 @@ none_back n (Some level ∷ marks) (t ∷ ts) few h =
     go true e h ih = cc
     go false e h ih = (lt_false n level e, ih h)
 
--- the tree that ends a text in which no part is too deep has no more levels
+-- if no part is too deep, the tree that ends a text has no more levels than the limit
 pub ended_shallow : (n : ℕ) (f : Front) (b : Bound) (ts : List (Token Piece)) → IsFront f → finish f ≡ Some b
     → front_then f [] ≡ pieces ts → deep_among n (front_marks f) ts ≡ [] → levels_of f ≤ n
 ended_shallow n f b ts is fin same none =

@@ -1,4 +1,5 @@
--- Marks followed by others, or with all levels raised, are those of the tree.
+-- Functions of marks that apply to each mark and level alone, as appending others or raising all, act on the levels of
+-- a tree.
 use Rattle.std.proofs.Common.{◌≡◌, ℕ, suc, Bool, true, false, cond, nat_lt, List, [], ◌∷◌, ◌++◌, length}
 use Rattle.std.proofs.Common.{Some, None, refl, ap, sym, ◌∙◌}
 use Rattle.its_model.specs.model.Bounds.{Bound, Constant, Input, SumOf, ProductOf, MaximumOf, PowerOf, Parts, NoParts}
@@ -14,13 +15,13 @@ use Rattle.bound_text.specs.Inside.{outer_marks, level_behind}
 use Rattle.bound_text.proofs.MarkLaws.{other_factor}
 use Rattle.cert_lexer.specs.Levels.{raised, raised_from}
 
--- a function of marks that is computed mark by mark, and of levels
+-- the function changes marks one by one, and levels alike
 pub record Moves (up : ℕ → ℕ) (over : Marks → Marks) : Type 0 where
   pub none : (rest : Marks) → over (None ∷ rest) ≡ None ∷ over rest
   pub some : (level : ℕ) (rest : Marks) → over (Some level ∷ rest) ≡ Some (up level) ∷ over rest
   pub next : (level : ℕ) → up (suc level) ≡ suc (up level)
 
--- the marks of factors of which the first is a variable, by the test whether it continues a run
+-- the marks of factors that begin with a variable, by the test whether it continues a run
 input_factor : (level : ℕ) (w : Before) (j : ℕ) (bs : Parts) (rest : Marks) (v : Bool) → goes_on w j ≡ v
     → factors_marks level w (Part (Input j) bs) rest
     ≡ cond v (factors_marks level (run_with w j) bs rest)
@@ -29,14 +30,14 @@ input_factor level w j bs rest v e =
     ap (λ (u : Bool). cond u (factors_marks level (run_with w j) bs rest)
     (ended_marks level w (times_marks w (factors_marks level (Run j 1) bs rest)))) e
 
--- pieces with which no part begins
+-- the changed marks of a separator, with which no part begins
 moved_separator : (up : ℕ → ℕ) (over : Marks → Marks) → Moves up over → (separator : List Piece) (rest : Marks)
     → unmarked separator (over rest) ≡ over (unmarked separator rest)
 moved_separator up over m [] rest = refl
 moved_separator up over m (p ∷ ps) rest =
     ap (λ (ms : Marks). None ∷ ms) (moved_separator up over m ps rest) ∙ sym (m.none (unmarked ps rest))
 
--- a run
+-- the changed marks of a run are those of a run at the changed level
 moved_run : (up : ℕ → ℕ) (over : Marks → Marks) → Moves up over → (level : ℕ) (before : Before) (rest : Marks)
     → ended_marks (up level) before (over rest) ≡ over (ended_marks level before rest)
 moved_run up over m level Nothing rest = refl
@@ -52,7 +53,7 @@ moved_run up over m level (Run i n) rest = go (nat_lt 1 n)
     go false = sym (m.some level rest)
 moved_run up over m level Other rest = refl
 
--- a `*`
+-- the changed marks of a `*`
 moved_times : (up : ℕ → ℕ) (over : Marks → Marks) → Moves up over → (before : Before) (rest : Marks)
     → times_marks before (over rest) ≡ over (times_marks before rest)
 moved_times up over m Nothing rest = refl
@@ -65,7 +66,7 @@ moved_star : (up : ℕ → ℕ) (over : Marks → Marks) → Moves up over → (
 moved_star up over m NoParts rest = refl
 moved_star up over m (Part b bs) rest = sym (m.none rest)
 
--- a factor in brackets, or without
+-- the changed marks of a factor, in brackets or not, are those at the changed level
 moved_factor : (up : ℕ → ℕ) (over : Marks → Marks) → Moves up over → (v : Bool) (level : ℕ)
     (high low : Marks → Marks) → ((rest : Marks) → high (over rest) ≡ over (low rest)) → (rest : Marks)
     → factor_marks v (up level) high (over rest) ≡ over (factor_marks v level low rest)
@@ -74,7 +75,7 @@ moved_factor up over m true level high low h rest =
     ∙ sym (m.some level (low (None ∷ rest)))
 moved_factor up over m false level high low h rest = h rest
 
--- an exponent in brackets, or without
+-- the changed marks of an exponent, in brackets or not, are those at the changed level
 moved_exponent : (up : ℕ → ℕ) (over : Marks → Marks) → Moves up over → (v : Bool)
     (high low : Marks → Marks) → ((rest : Marks) → high (over rest) ≡ over (low rest)) → (rest : Marks)
     → exponent_marks v high (over rest) ≡ over (exponent_marks v low rest)
@@ -83,7 +84,7 @@ moved_exponent up over m false high low h rest =
     ap (λ (ms : Marks). None ∷ ms) (ap high (sym (m.none rest)) ∙ h (None ∷ rest)) ∙ sym (m.none (low (None ∷ rest)))
 
 mutual
-  -- a bound
+  -- the changed marks of a bound are those at the changed level
   pub moved_bound : (up : ℕ → ℕ) (over : Marks → Marks) → Moves up over → (level : ℕ) (b : Bound) (rest : Marks)
       → bound_marks (up level) b (over rest) ≡ over (bound_marks level b rest)
   moved_bound up over m level (Constant c) rest = sym (m.some level rest)
@@ -109,7 +110,7 @@ mutual
       (sym (m.none (exponent_marks (is_leaf e) (bound_marks (suc level) e) rest)))
       ∙ sym (m.some level (None ∷ exponent_marks (is_leaf e) (bound_marks (suc level) e) rest))
 
-  -- parts that a separator joins
+  -- the changed marks of parts that a separator joins are those at the changed level
   pub moved_joined : (up : ℕ → ℕ) (over : Marks → Marks) → Moves up over → (separator : List Piece) (level : ℕ)
       (bs : Parts) (rest : Marks)
       → joined_marks separator (up level) bs (over rest) ≡ over (joined_marks separator level bs rest)
@@ -128,7 +129,7 @@ mutual
       ∙ ap (unmarked separator) (moved_bound up over m level b (more_marks separator level bs rest))
       ∙ moved_separator up over m separator (bound_marks level b (more_marks separator level bs rest))
 
-  -- factors
+  -- the changed marks of factors are those at the changed level
   pub moved_factors : (up : ℕ → ℕ) (over : Marks → Marks) → Moves up over → (level : ℕ) (before : Before)
       (bs : Parts) (rest : Marks)
       → factors_marks (up level) before bs (over rest) ≡ over (factors_marks level before bs rest)
@@ -162,7 +163,7 @@ mutual
       ∙ moved_run up over m level before (times_marks before inner)
       ∙ ap over (sym (other_factor level before c cs rest refl))
 
--- parts with the separator after each
+-- the changed marks of parts with a separator after each are those at the changed level
 pub moved_each : (up : ℕ → ℕ) (over : Marks → Marks) → Moves up over → (separator : List Piece) (level : ℕ)
     (bs : Parts) (rest : Marks)
     → each_marks separator (up level) bs (over rest) ≡ over (each_marks separator level bs rest)
@@ -172,15 +173,15 @@ moved_each up over m separator level (Part b bs) rest =
     ∙ ap (bound_marks (up level) b) (moved_separator up over m separator (each_marks separator level bs rest))
     ∙ moved_bound up over m level b (unmarked separator (each_marks separator level bs rest))
 
--- marks followed by others
+-- appending other marks is such a function, which changes no level
 pub behind : (ys : Marks) → Moves (λ level. level) (λ ms. ms ++ ys)
 behind ys = record { none = λ rest. refl; some = λ level rest. refl; next = λ level. refl }
 
--- marks a level deeper
+-- raising marks by one level is such a function
 pub deeper : Moves suc raised
 deeper = record { none = λ rest. refl; some = λ level rest. refl; next = λ level. refl }
 
--- an open bracket with marks after it
+-- the marks of an open bracket, with others appended
 pub bracket_behind : (ys : Marks) (level : ℕ) (bracket : Bracket) (rest : Marks)
     → bracket_marks level bracket (rest ++ ys) ≡ bracket_marks level bracket rest ++ ys
 bracket_behind ys level (Arguments bs) rest =
@@ -188,7 +189,7 @@ bracket_behind ys level (Arguments bs) rest =
 bracket_behind ys level (Exponent c) rest = refl
 bracket_behind ys level Factor rest = refl
 
--- terms, factors and the marks after them
+-- the marks of terms and of factors, with others appended
 pub factors_behind : (ys : Marks) (level : ℕ) (fs : Parts) (rest : Marks)
     → factors_marks level Nothing fs (rest ++ ys) ≡ factors_marks level Nothing fs rest ++ ys
 factors_behind ys level fs rest = moved_factors (λ level. level) (λ ms. ms ++ ys) (behind ys) level Nothing fs rest
@@ -200,7 +201,7 @@ pub each_behind : (ys : Marks) (level : ℕ) (ts : Parts) (rest : Marks)
     → each_marks plus_between level ts (rest ++ ys) ≡ each_marks plus_between level ts rest ++ ys
 each_behind ys level ts rest = moved_each (λ level. level) (λ ms. ms ++ ys) (behind ys) plus_between level ts rest
 
--- the marks of the part around a bound
+-- the marks of the pieces around a bound, with others appended
 pub outer_behind : (ys : Marks) (outer : Outer) (rest : Marks) → outer_marks outer (rest ++ ys) ≡ outer_marks outer rest ++ ys
 outer_behind ys Whole rest = refl
 outer_behind ys (Inside bracket ts fs outer) rest =
@@ -219,17 +220,17 @@ outer_behind ys (Inside bracket ts fs outer) rest =
     low : ℕ
     low = level_behind (levels_above outer) (sum_node outer ts) (product_node_round bracket fs)
 
--- the marks before the current term, with other marks after them
+-- the marks before the current term, with others appended
 pub term_behind : (outer : Outer) (level : ℕ) (ts : Parts) (xs ys : Marks)
     → outer_marks outer (each_marks plus_between level ts (xs ++ ys)) ≡ outer_marks outer (each_marks plus_between level ts xs) ++ ys
 term_behind outer level ts xs ys = ap (outer_marks outer) (each_behind ys level ts xs) ∙ outer_behind ys outer (each_marks plus_between level ts xs)
 
--- marks from the last of some on
+-- raising marks from the end of a list on raises the marks appended to it
 raised_behind : (xs ys : Marks) → raised_from (length xs) (xs ++ ys) ≡ xs ++ raised ys
 raised_behind [] ys = refl
 raised_behind (x ∷ xs) ys = ap (λ (ms : Marks). x ∷ ms) (raised_behind xs ys)
 
--- the current term a level deeper
+-- raising the marks of the current term
 pub term_raised : (outer : Outer) (level : ℕ) (ts : Parts) (xs : Marks)
     → raised_from (length (outer_marks outer (each_marks plus_between level ts []))) (outer_marks outer (each_marks plus_between level ts xs))
     ≡ outer_marks outer (each_marks plus_between level ts (raised xs))

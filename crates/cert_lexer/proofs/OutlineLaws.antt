@@ -1,4 +1,4 @@
--- Outlines show what steps look at.
+-- Outlines determine the results of the tests that steps make of a state.
 use Rattle.std.proofs.Common.{◌≡◌, ℕ, Bool, true, false, not, cond, Option, Some, None, refl, ap}
 use Rattle.std.proofs.Common.{sym, ◌∙◌}
 use Rattle.std.specs.Prelude.{◌&&◌, is_some}
@@ -20,7 +20,7 @@ use Rattle.cert_lexer.specs.Outlines.{ends_term, term_shape, bound_shape, is_lea
 use Rattle.cert_lexer.specs.Outlines.{closes_behind, opening_of, in_maximum, innermost_frame, frames_of}
 use Rattle.cert_lexer.specs.Levels.{is_product, is_factor_frame, node_if}
 
--- an item that was read is the last factor, and what was last is before it
+-- after an item, the outline has it as the last factor, and the factor that was last before it
 pub item_outlined : (outer : Outer) (ts fs : Parts) (b : Bound) (i : Innermost) → i.terms ≡ not (is_empty ts)
     → i.last ≡ last_of fs → innermost_of (behind_factor outer ts fs b) ≡ with_item (shape_of b) i
 item_outlined outer ts fs b i terms end =
@@ -33,7 +33,7 @@ item_outlined outer ts fs b i terms end =
     at : Option Shape → Option Shape → Innermost
     at end before = record { terms = not (is_empty ts); before = before; last = end; stage = stage.Item }
 
--- whether the last factor is a variable shows in its shape
+-- whether the last factor is a given variable is determined by its shape
 pub input_shown : (i : ℕ) (b : Option Bound) → is_input i b ≡ is_last_input i (option_map shape_of b)
 input_shown i None = refl
 input_shown i (Some (Constant c)) = refl
@@ -43,7 +43,7 @@ input_shown i (Some (ProductOf bs)) = refl
 input_shown i (Some (MaximumOf bs)) = refl
 input_shown i (Some (PowerOf c e)) = refl
 
--- where there are factors, there is a last one
+-- factors that are not empty have a last one
 pub some_last : (b : Bound) (bs : Parts) → (c : Bound) × (last (Part b bs) ≡ Some c)
 some_last b NoParts = (b, refl)
 some_last b (Part c bs) = some_last c bs
@@ -53,7 +53,7 @@ pub any_shown : (fs : Parts) → is_some (last_of fs) ≡ not (is_empty fs)
 any_shown NoParts = refl
 any_shown (Part b bs) = let t = some_last b bs in ap (λ (o : Option Bound). is_some (option_map shape_of o)) t.1
 
--- before the last of two or more factors there is some factor
+-- before the last of at least two factors there is one in the outline
 more_before : (end some : Option Shape) → is_some end ≡ true → is_some some ≡ true → is_some (before_last end some) ≡ true
 more_before None some e k = cc
 more_before (Some (shape.Constant c)) some e k = k
@@ -62,11 +62,11 @@ more_before (Some shape.Sum) some e k = ap (λ (v : Bool). is_some (any_factor v
 more_before (Some shape.Maximum) some e k = ap (λ (v : Bool). is_some (any_factor v)) k
 more_before (Some shape.Other) some e k = ap (λ (v : Bool). is_some (any_factor v)) k
 
--- the factors before the last one, in the outline
+-- the outline's factor before the last one
 abbrev pub before_of : Parts → Option Shape
 before_of fs = before_last (last_of fs) (last_of (init fs))
 
--- with a factor before, factors end a term wherever there is a last one, and are a product
+-- with a factor before the last one, a term can end after the factors, and they count as a product
 ends_behind : (before : Option Shape) (item : Shape) → is_some before ≡ true → ends_term before (Some item) ≡ true
 ends_behind None item e = cc
 ends_behind (Some s) (shape.Constant c) e = refl
@@ -84,13 +84,13 @@ product_behind : (before end : Option Shape) → is_some before ≡ true → is_
 product_behind None end e = cc
 product_behind (Some s) end e = refl
 
--- with more than one factor, there is one before the last
+-- of at least two factors there is one before the last
 before_more : (b c : Bound) (bs : Parts) → is_some (before_of (Part b (Part c bs))) ≡ true
 before_more b c bs =
     more_before (last_of (Part c bs)) (last_of (Part b (init (Part c bs)))) (any_shown (Part c bs))
     (any_shown (Part b (init (Part c bs))))
 
--- whether factors can end a term shows
+-- the outline determines whether a term can end
 pub end_shown : (fs : Parts) → can_end fs ≡ ends_term (before_of fs) (last_of fs)
 end_shown NoParts = refl
 end_shown (Part (Constant c) NoParts) = refl
@@ -104,7 +104,7 @@ end_shown (Part b (Part c bs)) =
     sym (ap (λ (o : Option Bound). ends_term (before_of (Part b (Part c bs))) (option_map shape_of o)) t.1
     ∙ ends_behind (before_of (Part b (Part c bs))) (shape_of t.0) (before_more b c bs))
 
--- whether they are a product shows
+-- the outline determines whether the factors count as a product
 pub product_shown : (fs : Parts) → product_node fs ≡ node_if (is_product (before_of fs) (last_of fs))
 product_shown NoParts = refl
 product_shown (Part (Constant c) NoParts) = refl
@@ -116,7 +116,7 @@ product_shown (Part (PowerOf c e) NoParts) = refl
 product_shown (Part b (Part c bs)) =
     sym (ap node_if (product_behind (before_of (Part b (Part c bs))) (last_of (Part c bs)) (before_more b c bs)))
 
--- the outline shows the shape of the term, and of the bound
+-- the outline determines the shape of the term, and that of the bound
 term_shown : (fs : Parts) → shape_of (term_of fs) ≡ term_shape (before_of fs) (last_of fs)
 term_shown NoParts = refl
 term_shown (Part (Constant c) NoParts) = refl
@@ -134,7 +134,7 @@ bound_shown outer NoParts fs = term_shown fs
 bound_shown outer (Part b NoParts) fs = refl
 bound_shown outer (Part b (Part c bs)) fs = refl
 
--- tests of a bound, by its shape
+-- the shape of a bound determines the results of tests
 pub maximum_shown : (b : Bound) → is_maximum b ≡ is_maximum_shape (shape_of b)
 maximum_shown (Constant c) = refl
 maximum_shown (Input i) = refl
@@ -159,13 +159,14 @@ sum_shown (ProductOf bs) = refl
 sum_shown (MaximumOf bs) = refl
 sum_shown (PowerOf c e) = refl
 
--- whether a bracket can close shows
+-- the outline determines whether a bracket can close
 pub close_shown : (bracket : Bracket) (b : Bound) → can_close bracket b ≡ closes_behind (opening_of bracket) (shape_of b)
 close_shown (Arguments bs) b = ap (λ (v : Bool). not (is_empty bs) && not v) (maximum_shown b)
 close_shown (Exponent c) b = ap not (leaf_shown b)
 close_shown Factor b = sum_shown b
 
--- the outline shows whether a bound is in the brackets of a maximum, and whether in those of a sum as a factor
+-- the outline determines whether a bound is in the brackets of a maximum, and whether it is in those of a sum as a
+-- factor
 pub arguments_shown : (outer : Outer) → in_arguments outer ≡ in_maximum (innermost_frame (frames_of outer))
 arguments_shown Whole = refl
 arguments_shown (Inside (Arguments bs) ts fs outer) = refl
@@ -178,12 +179,12 @@ factor_shown (Inside (Arguments bs) ts fs outer) = refl
 factor_shown (Inside (Exponent c) ts fs outer) = refl
 factor_shown (Inside Factor ts fs outer) = refl
 
--- one node where there are parts
+-- parts count as one node exactly if they are not empty
 pub any_node : (fs : Parts) → node_of_any fs ≡ node_if (not (is_empty fs))
 any_node NoParts = refl
 any_node (Part b bs) = refl
 
--- the node of a sum, by the outline
+-- the outline determines whether the sum's node counts
 pub sum_shows : (outer : Outer) (ts : Parts)
     → sum_node outer ts ≡ node_if (not (is_factor_frame (innermost_frame (frames_of outer))) && not (is_empty ts))
 sum_shows outer ts = go (in_factor outer) (is_factor_frame (innermost_frame (frames_of outer))) (factor_shown outer)

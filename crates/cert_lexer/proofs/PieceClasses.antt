@@ -11,7 +11,7 @@ use Rattle.cert_lexer.specs.declared.piece.Piece.{Piece}
 use Rattle.cert_lexer.specs.declared.piece.Piece.TheVariants.{First, Name, Number, Sign as ASign, Place, InBound, Wrong}
 use Rattle.cert_lexer.specs.Grammar.{class_of, class_of_number, class_of_sign, class_of_word, signs, words}
 
--- the word of a class, and the byte of a sign's class
+-- the word of a word's class, and the byte of a sign's class
 word_of_class : ℕ → Word
 word_of_class c = slice_index_or words (c - 1) word.Other
 
@@ -126,7 +126,7 @@ class_sign (Place symbol b) k e = let r = sign_range k in let h = r.1 in absurd 
 class_sign (InBound p len last) k e = let r = sign_range k in let h = r.1 in absurd (omega (arith, e, h))
 class_sign Wrong k e = let r = sign_range k in let h = r.1 in absurd (omega (arith, e, h))
 
--- one of the class of a word is that word
+-- a piece of the class of a word is that word
 pub class_word : (q : Piece) (w : Word) → class_of q ≡ class_of_word w → (symbol : ℕ) × (q ≡ Name w symbol)
 class_word First w e = let r = word_range w in let l = r.0 in absurd (omega (arith, e, l))
 class_word (Name v symbol) w e =
@@ -139,7 +139,7 @@ class_word (Place symbol b) w e = let r = word_range w in let h = r.1 in absurd 
 class_word (InBound p len last) w e = let r = word_range w in let h = r.1 in absurd (omega (arith, e, h))
 class_word Wrong w e = let r = word_range w in let h = r.1 in absurd (omega (arith, e, h))
 
--- one of the class of a number is a number
+-- a piece of the class of a number is a number of that class
 pub class_number : (q : Piece) (n : ℕ) → class_of q ≡ class_of_number n
     → (m : ℕ) × (q ≡ Number m) × (class_of_number m ≡ class_of_number n)
 class_number First n e = let r = number_range n in let l = r.0 in absurd (omega (arith, e, l))
@@ -152,7 +152,7 @@ class_number (Place symbol b) n e = let r = number_range n in let h = r.1 in abs
 class_number (InBound p len last) n e = let r = number_range n in let h = r.1 in absurd (omega (arith, e, h))
 class_number Wrong n e = let r = number_range n in let h = r.1 in absurd (omega (arith, e, h))
 
--- one of class 43 is a place, and one of class 44 a piece of a bound
+-- a piece of class 43 is a place, and a piece of class 44 one of a bound
 pub class_place : (q : Piece) → class_of q ≡ 43 → (symbol : ℕ) × (b : Behind) × (q ≡ Place symbol b)
 class_place First e = absurd (omega (arith, e))
 class_place (Name w symbol) e = let v = word_range w in let h = v.1 in absurd (omega (arith, e, h))
@@ -171,7 +171,7 @@ class_bound (Place symbol b) e = absurd (omega (arith, e))
 class_bound (InBound p len last) e = (p, len, last, refl)
 class_bound Wrong e = absurd (omega (arith, e))
 
--- class 0 is that of the first word
+-- a piece of class 0 is the first word
 pub class_first : (q : Piece) → class_of q ≡ 0 → q ≡ First
 class_first First e = refl
 class_first (Name w symbol) e = let v = word_range w in let l = v.0 in absurd (omega (arith, e, l))

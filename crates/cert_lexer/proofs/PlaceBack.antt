@@ -1,4 +1,4 @@
--- The bytes that a place of a symbol, or the first word, was found in.
+-- The bytes that a place of a symbol, or the first word, was cut from.
 use Rattle.std.proofs.Common.{◌≡◌, ℕ, zero, suc, ◌+◌, ◌-◌, ◌<◌, ◌≤◌, ◌^◌, min, Bool, true, false, cond, ◌&&◌, List, [], ◌∷◌}
 use Rattle.std.proofs.Common.{◌++◌, length, length-append, take, drop, Option, Some, None, refl, ap, sym, ◌∙◌, arith}
 use Rattle.std.proofs.Common.{inl, inr}
@@ -27,7 +27,7 @@ use Rattle.cert_lexer.specs.Lexing.{behind_dot, behind_last_dot, goes_on, is_fir
 use Rattle.cert_lexer.specs.Lexing.{plain_lexeme, symbol_of}
 use Rattle.cert_lexer.proofs.CutBack.{plain_no_first, plain_no_place}
 
--- the bytes before the last dot, the dot, and the bytes after it
+-- a run of bytes is the bytes before its last dot, the dot, and the bytes after it
 before_dot : (o : Option (List ℕ)) (run after : List ℕ) → behind_last_dot o run ≡ Some after
     → ((front : List ℕ) × (run ≡ front ++ 46 ∷ after)) ⊎ (o ≡ Some after)
 before_dot o [] after h = inr h
@@ -44,13 +44,13 @@ before_dot o (b ∷ run) after h =
         inl ([], ap (λ (c : ℕ). c ∷ run) dot ∙ ap (λ (xs : List ℕ). 46 ∷ xs) same)
     go false e (inr s) = inr s
 
--- a name, a dot and a number
+-- the run of bytes is the name of a symbol, a dot and a number
 pub record IsPlaceText (symbols : List NameBytes) (symbol n : ℕ) (run : List ℕ) : Type 0 where
   pub front : List ℕ
   pub run_is : run ≡ front ++ 46 ∷ decimal n
   pub found : symbol_of symbols front ≡ symbol
 
--- the digits of a number that isn't too large
+-- digits that denote a number below 2^127 write that number
 number_text : (after : List ℕ) (n : ℕ) → n < 2 ^ 127 → list_all is_ascii_digit after ≡ true
     → behind_dot after ≡ behind.Number n → decimal n ≡ after
 number_text [] n small all h = cc
@@ -67,7 +67,7 @@ number_text (b ∷ bytes) n small all h = go (has_leading_zero (b ∷ bytes)) re
         let low : digits_value 10 (b ∷ bytes) < 10 ^ 64 = omega (arith, same, small) in
         ap decimal (sym same) ∙ numeral_of b bytes t.0 t.1 e low
 
--- the text of a place with a number
+-- a place with a number below 2^127 is written as its symbol's name, a dot and the number
 pub place_written : (symbols : List NameBytes) (run : List ℕ) (symbol n : ℕ) → n < 2 ^ 127
     → place_in symbols run (behind_last_dot None run) ≡ Place symbol (behind.Number n) → IsPlaceText symbols symbol n run
 place_written symbols run symbol n small h = go (behind_last_dot None run) refl h
@@ -98,7 +98,7 @@ place_written symbols run symbol n small h = go (behind_last_dot None run) refl 
               found = ap (symbol_of symbols) (sym taken) ∙ found;
             }
 
--- a place is found in the longest name that bytes begin with
+-- a place is cut from the longest name that the bytes begin with
 pub place_back : (symbols names : List NameBytes) (b : ℕ) (bytes : List ℕ) (symbol n some : ℕ) → n < 2 ^ 127
     → lexeme_in symbols names mode.InShut b bytes ≡ record { piece = Some (Place symbol (behind.Number n)); len = suc some }
     → IsPlaceText symbols symbol n (b ∷ prefix continues_name bytes)
@@ -122,13 +122,13 @@ place_back symbols names b bytes symbol n some small h = go (begins_name b) h
               ∙ ap (λ (k : ℕ). drop k bytes) long)),
         )
 
--- the first of some bytes, and the rest
+-- a prefix of a list and the rest make the list
 taken_and_rest : (n : ℕ) (bytes : List ℕ) → take n bytes ++ drop n bytes ≡ bytes
 taken_and_rest zero bytes = refl
 taken_and_rest (suc n) [] = refl
 taken_and_rest (suc n) (b ∷ bytes) = ap (λ (bs : List ℕ). b ∷ bs) (taken_and_rest n bytes)
 
--- the first word is found in its bytes
+-- the first word is cut from its bytes
 pub first_back : (symbols names : List NameBytes) (b : ℕ) (bytes : List ℕ) (some : ℕ)
     → lexeme_in symbols names mode.Beginning b bytes ≡ record { piece = Some First; len = suc some }
     → b ∷ bytes ≡ codes "koat-proof" ++ drop some bytes

@@ -1,15 +1,16 @@
--- The grammar of proof files can be read: the test holds at each class of pieces, and so it holds as a whole.
+-- The grammar of proof files can be read: the test holds for each class of pieces, and so as a whole.
 use Rattle.std.proofs.Common.{◌≡◌, ℕ, true, refl}
 use Rattle.std.specs.Prelude.{◌==◌}
 use Rattle.text_grammar.specs.Sounding.{each_below, is_flagged, follows, completed, agrees, is_readable}
 use Rattle.text_grammar.proofs.ReadableParts.{Below, readable_by}
 use Rattle.cert_lexer.specs.Grammar.{proof_grammar}
 
--- the test holds at a class
+-- the test holds for a class
 abbrev At : ℕ → Type 0
 At c = agrees proof_grammar c ≡ true
 
--- it holds at each class and at the end of the text, one by one, since the test of all at once is too long to compute
+-- the test holds for each class and for the end of the text, proved one by one, since the whole is too long to compute
+-- at once
 up_to_0 : Below 0 At
 up_to_0 = tt
 

@@ -1,4 +1,4 @@
--- The marks before the first part that is too deep, with others after them or one level deeper.
+-- The marks before the first part that is too deep, with others appended or raised by one level.
 use Rattle.std.proofs.Common.{◌≡◌, ℕ, zero, suc, ◌<◌, ◌≤◌, ◌-◌, ◌^◌, min, Bool, true, false, cond, nat_lt, [], ◌∷◌, ◌++◌}
 use Rattle.std.proofs.Common.{length, take, drop, Option, Some, None, refl, ap, sym, ◌∙◌, arith}
 use Rattle.std.specs.Prelude.{◌||◌}
@@ -6,7 +6,7 @@ use Rattle.std.specs.Option.{option_map}
 use Rattle.std.proofs.lemmas.Bool.Decides.{nat_tests}
 use Rattle.bound_text.specs.Inside.{Marks}
 use Rattle.cert_lexer.specs.Levels.{capped, has_deep, is_deep, raised, raised_from, shallow}
-use Rattle.cert_lexer.specs.Shadows.{Held}
+use Rattle.cert_lexer.specs.Representation.{Held}
 
 -- no mark after a part that is too deep is stored
 pub shallow_deep : (ms ys : Marks) → has_deep ms ≡ true → shallow (ms ++ ys) ≡ shallow ms
@@ -18,7 +18,7 @@ shallow_deep (m ∷ ms) ys e = go (is_deep m) e (λ k. shallow_deep ms ys k)
     go true e ih = refl
     go false e ih = ap (λ (xs : Marks). m ∷ xs) (ih e)
 
--- all marks before one are stored
+-- before other marks, all marks are stored if none is too deep
 shallow_all : (ms ys : Marks) → has_deep ms ≡ false → shallow (ms ++ ys) ≡ shallow ms ++ shallow ys
 shallow_all [] ys e = refl
 shallow_all (m ∷ ms) ys e = go (is_deep m) e (λ k. shallow_all ms ys k)
@@ -37,7 +37,7 @@ has_both (m ∷ ms) ys = go (is_deep m) (has_both ms ys)
     go true ih = refl
     go false ih = ih
 
--- a mark after one that is too deep
+-- a mark after one that is too deep isn't stored
 pub held_skip : (kept : Marks) (marks : Marks) (m : Option ℕ) (deep : Bool) → deep ≡ true → Held kept deep marks
     → Held kept deep (marks ++ m ∷ [])
 held_skip kept marks m deep e h = record {
@@ -45,7 +45,7 @@ held_skip kept marks m deep e h = record {
   deep = e ∙ sym (has_both marks (m ∷ []) ∙ ap (λ (v : Bool). v || has_deep (m ∷ [])) (sym h.deep ∙ e));
 }
 
--- one that is too deep itself
+-- a mark that is too deep itself isn't stored, and the first such one is noted
 pub held_deep : (kept : Marks) (marks : Marks) (m : Option ℕ) (deep : Bool) → deep ≡ false → is_deep m ≡ true
     → Held kept deep marks → Held kept true (marks ++ m ∷ [])
 held_deep kept marks m deep e d h = record {
@@ -59,7 +59,7 @@ held_deep kept marks m deep e d h = record {
     append_none [] = refl
     append_none (x ∷ xs) = ap (λ (ys : Marks). x ∷ ys) (append_none xs)
 
--- a mark that isn't too deep
+-- a mark that isn't too deep is stored
 pub held_more : (kept new : Marks) (marks : Marks) (m : Option ℕ) (deep : Bool) → deep ≡ false → is_deep m ≡ false
     → new ≡ kept ++ m ∷ [] → Held kept deep marks → Held new deep (marks ++ m ∷ [])
 held_more kept new marks m deep e d n h = record {
@@ -70,7 +70,7 @@ held_more kept new marks m deep e d n h = record {
       ∙ ap (λ (v : Bool). v || false) d);
 }
 
--- whether a mark is too deep, as the code tests it
+-- the code's test whether a mark is too deep is right
 pub capped_deep : (k : ℕ) (m : Option ℕ) → Some k ≡ option_map capped m → 200 < k → is_deep m ≡ true
 capped_deep k None e h = cc
 capped_deep k (Some level) e h =
@@ -88,12 +88,12 @@ pub capped_none : (m : Option ℕ) → None ≡ option_map capped m → (is_deep
 capped_none None e = (refl, refl)
 capped_none (Some level) e = cc
 
--- a part that is too deep stays so one level deeper
+-- a mark that is too deep stays so one level deeper
 deeper_stays : (m : Option ℕ) → is_deep m ≡ true → is_deep (option_map suc m) ≡ true
 deeper_stays None e = cc
 deeper_stays (Some level) e = let t : nat_lt 200 (suc level) ≡ true = grind (arith, nat_tests) in t
 
--- a level deeper, the marks before the first that is too deep are found among those that were
+-- of raised marks, those before the first that is too deep are found among those before it was
 raised_shallow : (ms : Marks) → shallow (raised ms) ≡ shallow (raised (shallow ms))
 raised_shallow [] = refl
 raised_shallow (m ∷ ms) = go (is_deep m) refl (raised_shallow ms)
@@ -162,7 +162,7 @@ kept_none (suc k) (m ∷ ms) = go (is_deep m) refl (kept_none k ms)
     go true e ih = refl
     go false e ih = ap (λ (w : Bool). w || has_deep (take k (shallow ms))) e ∙ ih
 
--- from a piece on marks are a level deeper
+-- raising marks from a piece on keeps the marks before it and raises those after it
 from_parts : (n : ℕ) (ms : Marks) → raised_from n ms ≡ take (min (length ms) n) ms ++ raised (drop (min (length ms) n) ms)
 from_parts zero ms = let e : min (length ms) 0 ≡ 0 = omega arith in ap (λ (k : ℕ). take k ms ++ raised (drop k ms)) (sym e)
 from_parts (suc n) [] = let e : min 0 (suc n) ≡ 0 = omega arith in ap (λ (k : ℕ). take k [] ++ raised (drop k [])) (sym e)
@@ -170,16 +170,16 @@ from_parts (suc n) (m ∷ ms) =
     let e : min (suc (length ms)) (suc n) ≡ suc (min (length ms) n) = omega arith in
     ap (λ (xs : Marks). m ∷ xs) (from_parts n ms) ∙ ap (λ (k : ℕ). take k (m ∷ ms) ++ raised (drop k (m ∷ ms))) (sym e)
 
--- the stored marks before a piece
-pub held_front : (old front : Marks) (deep : Bool) (marks : Marks) (k : ℕ) → Held old deep marks → front ≡ take k old → Held front false front
-held_front old front deep marks k h e =
+-- the stored marks before a piece are those of the marks before it
+pub held_prefix : (old front : Marks) (deep : Bool) (marks : Marks) (k : ℕ) → Held old deep marks → front ≡ take k old → Held front false front
+held_prefix old front deep marks k h e =
     let same : front ≡ take k (shallow marks) = e ∙ ap (take k) h.kept in
     record {
       kept = same ∙ sym (kept_shallow k marks) ∙ ap shallow (sym same);
       deep = sym (ap has_deep same ∙ kept_none k marks);
     }
 
--- with the marks after it raised by one level they are those of all
+-- with the marks after a piece raised, the stored marks are those of all marks
 pub held_raised : (old front tail new : Marks) (deep now : Bool) (marks : Marks) (start at : ℕ) → length old < 2 ^ 64 → start ≡ capped at
     → Held old deep marks → front ≡ take (min (length old) start) old → tail ≡ drop (min (length old) start) old
     → Held new now (front ++ raised tail) → Held new (now || deep) (raised_from at marks)
@@ -194,12 +194,12 @@ held_raised old front tail new deep now marks start at l s h f t n =
           ∙ ap (λ (v : Bool). has_deep (raised_from at (shallow marks)) || v) h.deep ∙ sym (from_has at marks);
     }
 
--- a mark as the code counts it, a level deeper
+-- capping and raising a mark is raising it and capping it
 pub capped_deeper : (m : Option ℕ) → option_map (λ level. capped (suc level)) m ≡ option_map capped (option_map suc m)
 capped_deeper None = refl
 capped_deeper (Some level) = refl
 
--- one more mark a level deeper
+-- raising marks with one more at the end raises that one, too
 raised_push : (done : Marks) (m : Option ℕ) → raised (done ++ m ∷ []) ≡ raised done ++ option_map suc m ∷ []
 raised_push [] m = refl
 raised_push (x ∷ xs) m = ap (λ (ms : Marks). option_map suc x ∷ ms) (raised_push xs m)

@@ -1,4 +1,4 @@
--- A bound that is the answer to pieces is the one that they spell, tidy and within the limits.
+-- A bound that is the answer to pieces is tidy, within the limits and spelled by them.
 use Rattle.std.proofs.Common.{◌≡◌, ℕ, suc, ◌≤◌, ◌^◌, Bool, true, false, cond, List, [], ◌∷◌, ◌++◌, map, length, Option, Some}
 use Rattle.std.proofs.Common.{None, refl, ap, sym, subst, ◌∙◌, arith, append-nil, ◌&&◌}
 use Rattle.std.specs.Prelude.{⊤, ◌||◌}
@@ -41,7 +41,7 @@ use Rattle.cert_lexer.specs.BoundSteps.{pieces_in}
 use Rattle.cert_lexer.proofs.BoundLaws.{counted_pieces}
 use Rattle.cert_lexer.proofs.MarkDepths.{ended_shallow}
 
--- carrying pieces back and forth leaves them unchanged
+-- reversing a reversed list gives the list
 onto_onto : {X : Type 0} (xs ys rest : List X) → onto (onto xs ys) rest ≡ onto ys (xs ++ rest)
 onto_onto [] ys rest = refl
 onto_onto (x ∷ xs) ys rest = onto_onto xs (x ∷ ys) rest
@@ -49,12 +49,12 @@ onto_onto (x ∷ xs) ys rest = onto_onto xs (x ∷ ys) rest
 onto_twice : {X : Type 0} (xs : List X) → onto (onto xs []) [] ≡ xs
 onto_twice xs = onto_onto xs [] [] ∙ append-nil xs
 
--- the pieces of tokens that are carried are carried too
+-- the pieces of reversed tokens are the reversed pieces
 pieces_onto : (xs ys : List (Token Piece)) → pieces (onto xs ys) ≡ onto (pieces xs) (pieces ys)
 pieces_onto [] ys = refl
 pieces_onto (x ∷ xs) ys = pieces_onto xs (x ∷ ys)
 
--- if none of some kinds is the first fault, there is a fault of none of them
+-- if the first kind that passes a test is none, no kind passes it
 first_none : (test : Kind → Bool) (k : Kind) (ks : List Kind) → first_of test (k ∷ ks) ≡ None
     → (test k ≡ false) × (first_of test ks ≡ None)
 first_none test k ks h = go (test k) refl h
@@ -76,7 +76,7 @@ wrong_none f g h = go f.position h
     go PlusRead h = cc
     go CommaRead h = cc
 
--- a piece that is `^`
+-- a piece that passes the test of `^` is `^`
 caret_piece : (piece : Piece) → is_caret piece ≡ true → piece ≡ Caret
 caret_piece Caret h = refl
 caret_piece (Variable i) h = cc
@@ -90,13 +90,13 @@ caret_piece Blank h = cc
 caret_piece Comma h = cc
 caret_piece Wrong h = cc
 
--- the conditions that reading keeps, apart from levels
+-- the conditions that reading keeps, apart from those on levels
 record Holds (n : ℕ) (f : Front) (ps : List Piece) : Type 0 where
   pub kept : KeptFront n f
   pub nodes : nodes_of f ≤ node_limit
   pub bases : caret_next ps ≡ true → has_large_base f Caret ≡ false
 
--- how a text ends whose tokens, the last one first, are these
+-- how a text ends that has these tokens, the last one first
 record Ended (n : ℕ) (b : Bound) (done : List (Token Piece)) : Type 0 where
   pub front : Front
   pub reaches : reached (bounds n) (pieces done) ≡ Some front
@@ -105,7 +105,7 @@ record Ended (n : ℕ) (b : Bound) (done : List (Token Piece)) : Type 0 where
   pub shallow : deep_among bound_levels (front_marks front) (onto done []) ≡ []
 
 module _ (n len : ℕ) (b : Bound) where
-  -- a refusal stays
+  -- with one refusal, there is a first refusal
   some_among : (x : Fault ProofKind) (xs : List (Fault ProofKind))
       → (y : Fault ProofKind) × (first_among (bounds_in n) (Some x) xs ≡ Some y)
   some_among x [] = (x, refl)
@@ -145,7 +145,7 @@ module _ (n len : ℕ) (b : Bound) where
           ih g w.0
           (sym (ap (λ (k : Option (Fault ProofKind)). run (bounds_in n) len (Going k (t ∷ done) g) ts) w.1) ∙ h)
 
-  -- the piece that is taken is kept, and so is what it leads to
+  -- laws for an accepted piece without faults: it meets the conditions, and so does the next state
   module _ (f g : Front) (piece : Piece) (behind : List Piece) (led : step f piece ≡ Some g) where
     kept_piece : stands n f piece behind kinds.NumberTooLarge ≡ false → stands n f piece behind kinds.UnknownName ≡ false
         → KeptPiece n piece
@@ -177,7 +177,7 @@ module _ (n len : ℕ) (b : Bound) where
         with_caret true b h = h
         with_caret false b h = refl
 
-  -- a piece without faults is accepted as in a bound alone
+  -- a piece without faults inside a proof file is accepted as in a bound alone
   took : (t : Token Piece) (ts done : List (Token Piece)) (f g : Front) → reached (bounds n) (pieces done) ≡ Some f
       → Holds n f (t.piece ∷ pieces ts) → limited_step f t.piece ≡ Some g
       → first_of (stands n f t.piece (pieces ts)) other_kinds ≡ None
@@ -202,7 +202,7 @@ module _ (n len : ℕ) (b : Bound) where
         kept,
       )
 
-  -- the law above along all pieces
+  -- along all pieces without faults, the state meets the conditions
   comes : (ts done : List (Token Piece)) (f : Front) → reached (bounds n) (pieces done) ≡ Some f
       → Holds n f (pieces ts) → run (bounds_in n) len (Going None done f) ts ≡ Stands b
       → AllPiecesKept n (pieces ts) × Ended n b (onto ts done)

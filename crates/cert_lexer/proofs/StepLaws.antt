@@ -18,7 +18,7 @@ use Rattle.bound_text.specs.declared.fault.Fault.{Fault}
 use Rattle.bound_text.specs.declared.fault.Fault.TheVariants as faults
 use Rattle.bound_text.proofs.CarryingLaws.{carried_fronts_are_marked}
 use Rattle.cert_lexer.specs.declared.kind.ProofKind.{ProofKind}
-use Rattle.cert_lexer.specs.declared.bound_reading.StepResult.TheVariants.{Led, Off}
+use Rattle.cert_lexer.specs.declared.bound_reading.StepResult.TheVariants.{Accepted, Rejected}
 use Rattle.cert_lexer.specs.Bounds.{kind_of}
 use Rattle.cert_lexer.specs.BoundSteps.{Steps, kind_from, with_size}
 
@@ -41,7 +41,7 @@ pub early_none : (o : Option Kind) (found : Option Fault) → found ≡ None →
 early_none None found s e = refl
 early_none (Some k) found s e = cc
 
--- the first kind of fault among all is one that is known before a piece is taken, or else that of too many nodes
+-- the first kind of fault is one that is known before a piece is taken, or else that there are too many nodes
 first_kind_of : (a b c d : Bool)
     → option_map kind_of (cond a (Some kinds.Syntax) (cond b (Some kinds.NumberTooLarge) (cond c (Some kinds.UnknownName) (cond d (Some kinds.TooLarge) None))))
     ≡ with_size (option_map kind_of (cond a (Some kinds.Syntax) (cond b (Some kinds.NumberTooLarge) (cond c (Some kinds.UnknownName) None)))) d
@@ -51,11 +51,11 @@ first_kind_of false false true d = refl
 first_kind_of false false false true = refl
 first_kind_of false false false false = refl
 
--- a piece led on
-pub steps_led : (n : ℕ) (f : Front) (p : Piece) (behind : List Piece) (r : Reader) (result : Result (Unit {0}) Fault) (u : Unit {0}) (first_refusal early : Option ProofKind) (large : Bool)
+-- the result of a step in which the piece is accepted
+pub steps_accepted : (n : ℕ) (f : Front) (p : Piece) (behind : List Piece) (r : Reader) (result : Result (Unit {0}) Fault) (u : Unit {0}) (first_refusal early : Option ProofKind) (large : Bool)
     → result ≡ Ok u → Follows (limited_step f p) r result → first_refusal ≡ with_size early large
-    → early ≡ option_map kind_of (first_of (stands n f p behind) early_kinds) → large ≡ has_many (Some (front_of r)) → Steps n f p behind r (Led first_refusal)
-steps_led n f p behind r result u first_refusal early large is follows t e l =
+    → early ≡ option_map kind_of (first_of (stands n f p behind) early_kinds) → large ≡ has_many (Some (front_of r)) → Steps n f p behind r (Accepted first_refusal)
+steps_accepted n f p behind r result u first_refusal early large is follows t e l =
     let led : Follows (limited_step f p) r (Ok u) = subst (Follows (limited_step f p) r) is follows in
     let many : large ≡ has_many (step f p) = l ∙ ap has_many (sym led.0) ∙ carried_fronts_are_marked.many f p in (
       led.0,
@@ -64,14 +64,14 @@ steps_led n f p behind r result u first_refusal early large is follows t e l =
           ∙ sym (first_kind_of (stands n f p behind kinds.Syntax) (stands n f p behind kinds.NumberTooLarge) (stands n f p behind kinds.UnknownName) (has_many (step f p))),
     )
 
--- a piece that can't follow
+-- the result of a step in which the piece can't follow
 pub steps_off : (n : ℕ) (f : Front) (p : Piece) (behind : List Piece) (r : Reader) (result : Result (Unit {0}) Fault) → result ≡ Err faults.Syntax
-    → Follows (limited_step f p) r result → Keeps f r result → Steps n f p behind r Off
+    → Follows (limited_step f p) r result → Keeps f r result → Steps n f p behind r Rejected
 steps_off n f p behind r result is follows keeps =
     let kept : Keeps f r (Err faults.Syntax) = subst (Keeps f r) is keeps in
     (subst (Follows (limited_step f p) r) is follows, kept.0, kept.1)
 
--- a reader that is settled is fresh
+-- in the state of a settled reader one can look for a part that is too deep
 fresh_at : (position : Position) (fs : Parts) → is_settled_at position fs ≡ true → is_fresh_at position fs ≡ true
 fresh_at at.Begins fs h = refl
 fresh_at (at.Number c) fs h = refl

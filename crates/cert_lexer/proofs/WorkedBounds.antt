@@ -1,14 +1,14 @@
--- Bounds inside proof files at the limit of levels, and the order of refusals.
+-- The worked values of bounds inside proof files.
 use Rattle.std.proofs.Common.{refl}
 use Rattle.text_grammar.specs.text_core.Faults.{faults_at}
 use Rattle.cert_lexer.specs.WorkedBounds.{LevelsAreWorkedOut, OrderIsWorkedOut, KindsAreWorkedOut, BoundsAreWorkedOut}
 
--- 200 levels, and one more
+-- the worked values at 200 levels and at one more hold
 levels : LevelsAreWorkedOut
 unfolding faults_at
 levels = record { deepest = refl; one_deeper = refl; pushed_down = refl; unlisted = refl; twice = refl }
 
--- which of two refusals is reported
+-- the worked order of two refusals holds
 order : OrderIsWorkedOut
 order = record {
   position = refl;
@@ -21,10 +21,10 @@ order = record {
   same = refl;
 }
 
--- names of kinds
+-- the worked kinds of refusals hold
 kinds : KindsAreWorkedOut
 kinds = record { name = refl; size = refl; levels = refl; number = refl; syntax = refl }
 
--- all of it
+-- all worked values of bounds inside proof files hold
 pub bounds_worked_out : BoundsAreWorkedOut
 bounds_worked_out = record { levels = levels; order = order; kinds = kinds }

@@ -1,4 +1,4 @@
--- The effects of one step of reading a bound, and of its end.
+-- The results of one step of reading a bound, and of its end.
 use Rattle.std.specs.Prelude.{◌≡◌, ℕ, ◌<◌, Bool, List, map, length, Option, Some, None, IsTrue, IfSome}
 use Rattle.std.specs.Option.{option_map}
 use Rattle.its_model.specs.model.Bounds.{Bound}
@@ -23,7 +23,7 @@ use Rattle.cert_lexer.specs.declared.inner.Inner.{Inner}
 use Rattle.cert_lexer.specs.declared.inner.BoundRead as code
 use Rattle.cert_lexer.specs.declared.inner.BoundRead.TheVariants as read
 use Rattle.cert_lexer.specs.declared.bound_reading.StepResult.{StepResult}
-use Rattle.cert_lexer.specs.declared.bound_reading.StepResult.TheVariants.{Led, Off}
+use Rattle.cert_lexer.specs.declared.bound_reading.StepResult.TheVariants.{Accepted, Rejected}
 use Rattle.cert_lexer.specs.declared.kind.ProofKind.{ProofKind}
 use Rattle.cert_lexer.specs.declared.kind.ProofKind.TheVariants as kind
 use Rattle.cert_lexer.specs.Bounds.{kind_of, too_deep, bounds_in, counted_from}
@@ -37,20 +37,21 @@ answer_of (read.Refused x) = Refused (refusal_of x)
 abbrev pub pieces_in : List Inner → List Piece
 pieces_in xs = map (λ x. piece_of x.piece) xs
 
--- a piece was accepted, and this is its first fault; or it can't follow
+-- the result of a step: the piece was accepted, with its first fault; or it can't follow
 abbrev pub Steps : ℕ → Front → Piece → List Piece → Reader → StepResult → Type 0
-Steps n f piece behind r (Led first_refusal) =
+Steps n f piece behind r (Accepted first_refusal) =
     (limited_step f piece ≡ Some (front_of r)) × IsTrue (is_settled r)
     × (first_refusal ≡ option_map kind_of (first_of (stands n f piece behind) other_kinds))
-Steps n f piece behind r Off = (limited_step f piece ≡ None) × (front_of r ≡ f) × IsTrue (is_fresh r)
+Steps n f piece behind r Rejected = (limited_step f piece ≡ None) × (front_of r ≡ f) × IsTrue (is_fresh r)
 
--- the first of a refusal so far and of those of the parts that are too deep, after this many pieces
-pub record TellsDeep (f : Front) (best : Option (code_fault.Fault ProofKind)) (count : ℕ)
+-- the code's refusal is the first of the refusal so far and of those of the parts that are too deep, after this many
+-- pieces
+pub record FirstIsDeep (f : Front) (best : Option (code_fault.Fault ProofKind)) (count : ℕ)
     (first_refusal : Option (code_fault.Fault ProofKind)) : Type 0 where
   pub each : (n : ℕ) (xs : List Inner) → length xs ≡ count
       → fault_of first_refusal ≡ first_among (bounds_in n) (fault_of best) (too_deep f (counted_from 0 xs))
 
--- a refusal is before a position
+-- the refusal, if there is one, is before a position
 abbrev pub IsBefore : ℕ → Option (code_fault.Fault ProofKind) → Type 0
 IsBefore count first_refusal = IfSome first_refusal (λ x. x.at < count)
 
@@ -63,23 +64,23 @@ kind_from faults.TooDeep = Some kind.TooDeep
 kind_from faults.TooLarge = Some kind.Limit
 kind_from faults.Memory = None
 
--- the first fault of a piece, where this is the one that is known before it is taken
+-- the fault of a piece that is known before it is taken, or else that the bound is too large with it
 abbrev pub with_size : Option ProofKind → Bool → Option ProofKind
 with_size None large = when large kind.Limit
 with_size (Some k) large = Some k
 
--- a refusal so far, or else one of this kind at a position
+-- the refusal so far, or else one of this kind at a position
 abbrev pub or_refusal : Option (Fault ProofKind) → Option ProofKind → ℕ → Option (Fault ProofKind)
 or_refusal (Some x) first_refusal at = Some x
 or_refusal None None at = None
 or_refusal None (Some k) at = Some (record { kind = k; at = at })
 
--- a refusal so far, or else `Syntax` at a position
+-- the refusal so far, or else `Syntax` at a position
 abbrev pub or_syntax : Option (Fault ProofKind) → ℕ → Fault ProofKind
 or_syntax None at = record { kind = kind.Syntax; at = at }
 or_syntax (Some x) at = x
 
--- the answer to a bound that ends at a position, where this is its first refusal
+-- the answer to a bound that ends at a position, given its first refusal
 abbrev pub ended_with : Option (Fault ProofKind) → Option Bound → ℕ → Answer Bound ProofKind
 ended_with None (Some b) at = Stands b
 ended_with None None at = Refused (or_syntax None at)
@@ -90,14 +91,14 @@ ended_with (Some x) b at = Refused x
 pub record BreaksOff (f : Front) (best : Option (code_fault.Fault ProofKind)) (count : ℕ) (result : code.BoundRead)
     : Type 0 where
   pub first_refusal : Option (code_fault.Fault ProofKind)
-  pub first : TellsDeep f best count first_refusal
+  pub first : FirstIsDeep f best count first_refusal
   pub before : IsBefore count first_refusal
   pub is : answer_of result ≡ Refused (or_syntax (fault_of first_refusal) count)
 
--- the answer to a bound that ends there
+-- the answer to a bound that ends after this many pieces
 pub record Ends (f : Front) (best : Option (code_fault.Fault ProofKind)) (count : ℕ) (result : code.BoundRead)
     : Type 0 where
   pub first_refusal : Option (code_fault.Fault ProofKind)
-  pub first : TellsDeep f best count first_refusal
+  pub first : FirstIsDeep f best count first_refusal
   pub before : IsBefore count first_refusal
   pub is : answer_of result ≡ ended_with (fault_of first_refusal) (finish f) count

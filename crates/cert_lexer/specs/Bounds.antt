@@ -1,4 +1,4 @@
--- Bounds inside a proof file: the pieces of one as a text of its own, and its first refusal.
+-- Bounds inside a proof file: the pieces of a bound as a text of its own, and its first refusal.
 use Rattle.std.specs.Prelude.{◌≡◌, ℕ, suc, List, [], ◌∷◌, ◌++◌, map, length, Option, Some, None}
 use Rattle.std.specs.Option.{option_map}
 use Rattle.its_model.specs.model.Bounds.{Bound}
@@ -23,7 +23,7 @@ use Rattle.cert_lexer.specs.declared.inner.Inner.{Inner}
 use Rattle.cert_lexer.specs.declared.kind.ProofKind.{ProofKind}
 use Rattle.cert_lexer.specs.declared.kind.ProofKind.TheVariants.{Syntax, NumberTooLarge, TooDeep, BadReference, Limit}
 
--- the number of a kind: of two at one position the one with the lesser number comes first
+-- the number of a kind: of two refusals at one position that with the lesser number comes first
 abbrev pub number_of : ProofKind → ℕ
 number_of Syntax = 1
 number_of NumberTooLarge = 2
@@ -47,11 +47,11 @@ kind_of kinds.TooLarge = Limit
 abbrev pub as_cert_refusal : Fault Kind → Fault ProofKind
 as_cert_refusal x = record { kind = kind_of x.kind; at = x.at }
 
--- the parts that are too deep in the tree so far: the first of the pieces with which one begins is refused
+-- the refusals of parts that are too deep in the tree so far: that of the first piece with which such a part begins
 abbrev pub too_deep : Front → List (Token Piece) → List (Fault ProofKind)
 too_deep f ts = map as_cert_refusal (deep_among bound_levels (front_marks f) ts)
 
--- where the next piece leads, if there is one
+-- the state after the next piece, if there is a next piece and it can follow
 abbrev pub led : Front → List (Token Piece) → Option Front
 led f [] = None
 led f (t ∷ rest) = limited_step f t.piece
@@ -61,14 +61,14 @@ abbrev pub refusals_at_end : Option Front → List (Fault ProofKind) → List (F
 refusals_at_end None deep = deep
 refusals_at_end (Some g) deep = []
 
--- the first of the other faults of the next piece, over n start arguments
+-- the faults of the next piece, over n start arguments, except for too many levels
 abbrev pub against_next : ℕ → Front → List (Token Piece) → List (Fault ProofKind)
 against_next n f [] = []
 against_next n f (t ∷ rest) =
     refusals (option_map kind_of (first_of (stands n f t.piece (pieces rest)) other_kinds)) t.at
 
--- bounds over n start arguments inside a proof. After a number that is too large it is read on with a smaller one, as
--- `limited_step` has it, which leads on where it does, with parts as deep
+-- the reader of bounds over n start arguments inside a proof file. A number that is too large is carried as a smaller
+-- one, as in `limited_step`; the pieces that can follow and the levels of parts are the same with it
 abbrev pub bounds_in : ℕ → Reader Piece Bound Front ProofKind
 bounds_in n = record {
   Writes = Writes;
@@ -85,16 +85,16 @@ abbrev pub counted_from : ℕ → List Inner → List (Token Piece)
 counted_from i [] = []
 counted_from i (x ∷ xs) = record { piece = piece_of x.piece; at = i; upto = suc i } ∷ counted_from (suc i) xs
 
--- a whole bound as a text
+-- the answer to the pieces of a whole bound
 abbrev pub bound_answer : ℕ → List Inner → Answer Bound ProofKind
 bound_answer n xs = answer (bounds_in n) (length xs) (counted_from 0 xs)
 
--- pieces that spell a tidy bound within the limits, over n start arguments, are answered as that bound
-pub record BoundsStand : Type 0 where
+-- the answer to pieces that spell a tidy bound within the limits, over n start arguments, is that bound
+pub record BoundsAreAnswered : Type 0 where
   pub each : (n : ℕ) (b : Bound) (xs : List Inner) → IsTidy b → ReadsBelow n b → IsWithin b
       → map (λ x. piece_of x.piece) xs ≡ pieces_of b → bound_answer n xs ≡ Stands b
 
--- a bound that is the answer to pieces is tidy, within the limits, over n start arguments, and spelled by them
+-- the bound is tidy, within the limits, over n start arguments, and spelled by these pieces
 pub record IsSpelled (n : ℕ) (b : Bound) (xs : List Inner) : Type 0 where
   pub tidy : IsTidy b
   pub listed : ReadsBelow n b

@@ -1,4 +1,4 @@
--- The state that the code carries of a bound while its pieces are read, and the effect of a piece.
+-- The state that the code carries while the pieces of a bound are read, and how a piece changes it.
 use Rattle.std.specs.Prelude.{◌≡◌, ℕ, ◌<◌, Bool, true, false, List, Option, Some, None, IsTrue, IfSome, ◌⊎◌, ⊤}
 use Rattle.std.specs.Prelude.{is_some, length}
 use Rattle.std.specs.Option.{option_map}
@@ -14,19 +14,19 @@ use Rattle.text_grammar.specs.text_core.Readers.{Fault}
 use Rattle.text_grammar.specs.Marks.{fault_of}
 use Rattle.cert_lexer.specs.declared.reading.Reading.{Reading}
 use Rattle.cert_lexer.specs.declared.bound_reading.StepResult.{StepResult}
-use Rattle.cert_lexer.specs.declared.bound_reading.StepResult.TheVariants.{Led, Off}
+use Rattle.cert_lexer.specs.declared.bound_reading.StepResult.TheVariants.{Accepted, Rejected}
 use Rattle.cert_lexer.specs.declared.kind.ProofKind.{ProofKind}
 use Rattle.cert_lexer.specs.Bounds.{kind_of}
-use Rattle.cert_lexer.specs.BoundSteps.{TellsDeep}
+use Rattle.cert_lexer.specs.BoundSteps.{FirstIsDeep}
 use Rattle.cert_lexer.specs.Levels.{has_deep, shallow}
-use Rattle.cert_lexer.specs.Shadows.{Shadows}
+use Rattle.cert_lexer.specs.Representation.{Representation}
 
 -- whether there is a tree
 abbrev pub has_reader : Option Reader → Bool
 has_reader None = false
 has_reader (Some r) = true
 
--- the tree, where there is one, is what has been read
+-- the tree, if there is one, is that of the pieces read so far
 abbrev pub IsTree : Front → Option Reader → Type 0
 IsTree f None = ⊤
 IsTree f (Some r) = (front_of r ≡ f) × IsTrue (is_settled r)
@@ -38,34 +38,34 @@ IsSettledTree (Some r) = IsTrue (is_settled r)
 
 -- the code's state represents the pieces read so far
 pub record Carries (f : Front) (s : Reading) : Type 0 where
-  pub shadows : Shadows f s.follower
+  pub represents : Representation f s.follower
   pub tree : IsTree f s.reader
 
--- the first fault of a piece is reported where there was a tree
+-- the first fault of a piece, if there is a tree
 abbrev pub refusal_with : Bool → Option ProofKind → Option ProofKind
 refusal_with false first_refusal = None
 refusal_with true first_refusal = first_refusal
 
--- the state after a piece, and its fault, if this was the tree
+-- the code's result of a step with a piece: the state after it, and its fault, if there is a tree
 abbrev pub StepsOn : ℕ → Front → Piece → List Piece → Option Reader → Reading → StepResult → Type 0
-StepsOn n f piece behind before s (Led first_refusal) =
+StepsOn n f piece behind before s (Accepted first_refusal) =
     (g : Front) × (limited_step f piece ≡ Some g) × Carries g s × (has_reader s.reader ≡ has_reader before)
     × (first_refusal ≡ refusal_with (has_reader before) (option_map kind_of (first_of (stands n f piece behind) other_kinds)))
-StepsOn n f piece behind before s Off = (limited_step f piece ≡ None) × Shadows f s.follower
+StepsOn n f piece behind before s Rejected = (limited_step f piece ≡ None) × Representation f s.follower
 
--- where there is no tree any more, a piece is refused among this many
-abbrev pub IsToldWithout : Front → Option (code_fault.Fault ProofKind) → ℕ → Reading → Type 0
-IsToldWithout f best count s =
-    has_reader s.reader ≡ false → (first_refusal : Option (code_fault.Fault ProofKind)) → TellsDeep f best count first_refusal
+-- if there is no tree any more, there is a first refusal after this many pieces, also counting parts that are too deep
+abbrev pub IsRefusedWithout : Front → Option (code_fault.Fault ProofKind) → ℕ → Reading → Type 0
+IsRefusedWithout f best count s =
+    has_reader s.reader ≡ false → (first_refusal : Option (code_fault.Fault ProofKind)) → FirstIsDeep f best count first_refusal
     → is_some first_refusal ≡ true
 
--- after a part that is too deep every other refusal is after it
+-- if a part is too deep, every other refusal is after its piece
 pub record IsBehindDeep (f : Front) (first_refusal : Option (Fault ProofKind)) : Type 0 where
   pub deep : has_deep (front_marks f) ≡ true
   pub behind : IfSome first_refusal (λ x. length (shallow (front_marks f)) < x.at)
 
--- the first refusal so far in the code, by whether there is a tree: none, that of the definition, or none after a part
--- that is too deep
+-- the code's first refusal so far agrees with that of the definition: there is none as long as there is a tree; else it
+-- is the definition's, or it is left out after a part that is too deep
 abbrev pub Agrees : Front → Option (Fault ProofKind) → Option (code_fault.Fault ProofKind) → Bool → Type 0
 Agrees f first_refusal best true = (first_refusal ≡ None) × (best ≡ None)
 Agrees f first_refusal best false =

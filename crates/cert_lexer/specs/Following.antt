@@ -8,50 +8,52 @@ use Rattle.bound_text.specs.Fronts.{can_end, levels_above}
 use Rattle.bound_text.specs.Inside.{front_marks}
 use Rattle.bound_text.specs.Carrying.{limited_step}
 use Rattle.cert_lexer.specs.declared.levels.OpenPart.{OpenPart}
-use Rattle.cert_lexer.specs.declared.outline.Lead.{Lead}
+use Rattle.cert_lexer.specs.declared.outline.OutlineStep.{OutlineStep}
 use Rattle.cert_lexer.specs.Outlines.{frames_of, innermost_of, innermost_frame, frames_behind, lead}
-use Rattle.cert_lexer.specs.Levels.{begun_of, before_term, marks_behind, begun_behind}
+use Rattle.cert_lexer.specs.Levels.{open_parts_of, before_term, marks_behind, open_parts_after}
 use Rattle.bound_text.specs.Fronts.{sum_at}
 
 -- the position can come after these factors
-abbrev pub Stands : Position → Parts → Type 0
-Stands (RunCaret i) fs = is_input i (last fs) ≡ false
-Stands ItemRead fs = is_empty fs ≡ false
-Stands BlankRead fs = can_end fs ≡ true
-Stands PlusRead fs = can_end fs ≡ true
-Stands CommaRead fs = can_end fs ≡ true
-Stands position fs = ⊤
+abbrev pub MayFollow : Position → Parts → Type 0
+MayFollow (RunCaret i) fs = is_input i (last fs) ≡ false
+MayFollow ItemRead fs = is_empty fs ≡ false
+MayFollow BlankRead fs = can_end fs ≡ true
+MayFollow PlusRead fs = can_end fs ≡ true
+MayFollow CommaRead fs = can_end fs ≡ true
+MayFollow position fs = ⊤
 
-abbrev pub IsStanding : Front → Type 0
-IsStanding f = Stands f.position f.factors
+abbrev pub PositionFollows : Front → Type 0
+PositionFollows f = MayFollow f.position f.factors
 
--- the innermost bound that isn't done
-abbrev pub begun_in : Front → OpenPart
-begun_in f = record {
+-- the innermost unfinished bound
+abbrev pub open_parts_in : Front → OpenPart
+open_parts_in f = record {
   above = levels_above f.outer;
   start = length (before_term f.outer (sum_at f.position f.outer f.terms) f.terms);
 }
 
--- a piece leads from one state to another, whose outline, marks and unfinished bounds are those of a lead
-pub record Follows (f : Front) (piece : Piece) (g : Front) (l : Lead) : Type 0 where
+-- a piece leads from one state to another, whose outline, marks and unfinished bounds are those of a step of the
+-- outline
+pub record Follows (f : Front) (piece : Piece) (g : Front) (l : OutlineStep) : Type 0 where
   pub innermost : innermost_of g ≡ l.innermost
   pub frames : frames_of g.outer ≡ frames_behind l.change (frames_of f.outer)
   pub marks : front_marks g
-      ≡ marks_behind (begun_in f) (innermost_frame (frames_of f.outer)) (innermost_of f) piece (front_marks f)
-  pub begun : begun_of g
-      ≡ begun_behind l.change (length (front_marks g)) (innermost_frame (frames_of f.outer)) (innermost_of f)
-      (begun_of f)
-  pub standing : IsStanding g
+      ≡ marks_behind (open_parts_in f) (innermost_frame (frames_of f.outer)) (innermost_of f) piece (front_marks f)
+  pub begun : open_parts_of g
+      ≡ open_parts_after l.change (length (front_marks g)) (innermost_frame (frames_of f.outer)) (innermost_of f)
+      (open_parts_of f)
+  pub standing : PositionFollows g
 
 -- a state and an outline both accept a piece, or both reject it
-abbrev pub FollowsWhere : Front → Piece → Option Front → Option Lead → Type 0
+abbrev pub FollowsWhere : Front → Piece → Option Front → Option OutlineStep → Type 0
 FollowsWhere f piece None None = ⊤
 FollowsWhere f piece (Some g) (Some l) = Follows f piece g l
 FollowsWhere f piece None (Some l) = ⊥
 FollowsWhere f piece (Some g) None = ⊥
 
--- a state accepts the pieces that its outline accepts, and outline, marks and unfinished bounds follow it
-pub record OutlinesLead : Type 0 where
-  pub each : (f : Front) (piece : Piece) → IsStanding f
+-- a state accepts exactly the pieces that its outline accepts, and the outline, marks and unfinished bounds after them
+-- are those of the next state
+pub record OutlinesAgree : Type 0 where
+  pub each : (f : Front) (piece : Piece) → PositionFollows f
       → FollowsWhere f piece (limited_step f piece)
       (lead (innermost_frame (frames_of f.outer)) (innermost_of f) piece)

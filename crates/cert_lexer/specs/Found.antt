@@ -1,4 +1,4 @@
--- The contents of the code's tables.
+-- The tables of the code as plain data.
 use Rattle.std.specs.Prelude.{List, map}
 use Rattle.its_model.specs.model.Programs.{Name}
 use Rattle.text_grammar.specs.text_core.NameIndex.{names_in}
@@ -13,6 +13,6 @@ use Rattle.cert_lexer.specs.Lexing.{lexer_with}
 abbrev pub symbols_in : Symbols → List Name
 symbols_in l = map (λ k. k.now) l.names.keys
 
--- how the code cuts
+-- how the code's lexer cuts
 abbrev pub lexer_in : ProofLexer → Lexer Piece Mode
 lexer_in l = lexer_with (symbols_in l.symbols) (names_in l.arguments)

@@ -70,7 +70,7 @@ class_of (Place symbol b) = 43
 class_of (InBound piece len last) = 44
 class_of Wrong = 45
 
--- the words, and the signs
+-- the words of proof files, in the order of their classes, and the signs
 abbrev pub words : List Word
 words =
     word.Lemma ∷ word.Gap ∷ word.End ∷ word.Cite ∷ word.Start ∷ word.Empty ∷ word.Unreached ∷ word.Never ∷
@@ -83,7 +83,7 @@ signs =
     sign.Blank ∷ sign.LineFeed ∷ sign.OpenSquare ∷ sign.CloseSquare ∷ sign.OpenBrace ∷ sign.CloseBrace ∷
     sign.Open ∷ sign.Close ∷ sign.Semicolon ∷ sign.Dot ∷ sign.Minus ∷ []
 
--- a piece of each class, in their order
+-- a sample piece of each class, in their order
 abbrev pub samples : List Piece
 samples =
     First ∷ (map (λ w. Name w 0) words ++ (Number 0 ∷ Number 1 ∷ Number 2 ∷ Number 3 ∷ (map ASign signs

@@ -1,5 +1,6 @@
--- The levels of the parts of a bound that has been read, piece by piece, and how a piece changes them: it adds its own,
--- and where with it a node begins to count above what the current term has so far, each part of that is a level deeper.
+-- The levels of the parts of a bound that has been read, piece by piece, and how a piece changes them: it adds its own
+-- level, and if with it a node begins to count that is above the current term, each part of that term is one level
+-- deeper.
 use Rattle.std.specs.Prelude.{ℕ, zero, suc, ◌+◌, Bool, true, false, if◌then◌else◌, not, ◌&&◌, ◌||◌, nat_lt, is_some}
 use Rattle.std.specs.Prelude.{List, [], ◌∷◌, ◌++◌, length, map, min, ◌^◌, ◌-◌, Option, Some, None}
 use Rattle.std.specs.Option.{option_map}
@@ -21,37 +22,37 @@ use Rattle.cert_lexer.specs.declared.outline.Innermost.{Innermost}
 use Rattle.cert_lexer.specs.declared.outline.Change.{Change}
 use Rattle.cert_lexer.specs.declared.outline.Change.TheVariants as change
 
--- marks that are each a level deeper
+-- marks, each raised by one level
 abbrev pub raised : Marks → Marks
 raised marks = map (option_map suc) marks
 
--- the marks from a piece on, one level deeper
+-- the marks from a piece on raised by one level
 abbrev pub raised_from : ℕ → Marks → Marks
 raised_from zero marks = raised marks
 raised_from (suc n) [] = []
 raised_from (suc n) (mark ∷ marks) = mark ∷ raised_from n marks
 
--- the marks before the current term of a bound in brackets
+-- the marks of the pieces before the current term of a bound in brackets
 abbrev pub before_term : Outer → ℕ → Parts → Marks
 before_term outer sum ts = outer_marks outer (each_marks plus_between (level_behind (levels_above outer) sum 0) ts [])
 
--- the bounds around the innermost one
-abbrev pub begun_round : Outer → List OpenPart
-begun_round Whole = []
-begun_round (Inside bracket ts fs outer) =
+-- the unfinished bounds around the innermost one, the innermost first
+abbrev pub open_parts_around : Outer → List OpenPart
+open_parts_around Whole = []
+open_parts_around (Inside bracket ts fs outer) =
     record { above = levels_above outer; start = length (before_term outer (sum_node outer ts) ts) }
-    ∷ begun_round outer
+    ∷ open_parts_around outer
 
--- the bounds that aren't done, the innermost first
-abbrev pub begun_of : Front → List OpenPart
-begun_of f =
+-- the unfinished bounds of a state, the innermost first
+abbrev pub open_parts_of : Front → List OpenPart
+open_parts_of f =
     record {
       above = levels_above f.outer;
       start = length (before_term f.outer (sum_at f.position f.outer f.terms) f.terms);
     }
-    ∷ begun_round f.outer
+    ∷ open_parts_around f.outer
 
--- one node, or none
+-- 1 if a test passes, else 0
 abbrev pub node_if : Bool → ℕ
 node_if counts = if counts then 1 else 0
 
@@ -71,7 +72,7 @@ is_product (Some before) last = true
 is_product None (Some shape.Sum) = true
 is_product None last = false
 
--- the level of a factor of the current term, inside this many levels, where a product's node counts or doesn't
+-- the level of a factor of the current term inside this many levels, with the product's node or without it
 abbrev pub factor_level : ℕ → Option Frame → Innermost → Bool → ℕ
 factor_level above round i product =
     suc (above + node_if (not (is_factor_frame round) && i.terms) + node_if product)
@@ -80,7 +81,7 @@ factor_level above round i product =
 abbrev pub item_level : ℕ → Option Frame → Innermost → ℕ
 item_level above round i = factor_level above round i (is_some i.last)
 
--- the mark of a piece, by the part that was read last
+-- the mark of a piece, by the part of the bound that was read last
 abbrev pub mark_at : Stage → ℕ → Option Frame → Innermost → Piece → Option ℕ
 mark_at stage.Begins above round i Open = Some (factor_level above round i true)
 mark_at stage.Begins above round i piece = Some (item_level above round i)
@@ -91,7 +92,7 @@ mark_at s above round i piece = None
 abbrev pub mark_of : ℕ → Option Frame → Innermost → Piece → Option ℕ
 mark_of above round i piece = mark_at i.stage above round i piece
 
--- whether with a piece a node begins to count above the current term so far: that of a product with its first `*`, or
+-- whether, with this piece, a node begins to count above the current term: that of a product with its first `*`, or
 -- with the number of a run that begins the term; that of a sum with its first ` + `
 abbrev pub raises_at : Stage → Option Frame → Innermost → Piece → Bool
 raises_at stage.Item round i Times = not (is_product i.before i.last)
@@ -108,29 +109,29 @@ above_in opening.Factor above round i = factor_level above round i true
 above_in (opening.Maximum some) above round i = item_level above round i
 above_in opening.Exponent above round i = item_level above round i
 
--- the innermost of the bounds that aren't done
-abbrev pub first_begun : List OpenPart → OpenPart
-first_begun [] = record { above = 0; start = 0 }
-first_begun (b ∷ bs) = b
+-- the innermost of the unfinished bounds
+abbrev pub first_open_part : List OpenPart → OpenPart
+first_open_part [] = record { above = 0; start = 0 }
+first_open_part (b ∷ bs) = b
 
--- a term begins at a piece
+-- the unfinished bounds where a term of the innermost one begins at this piece
 abbrev pub term_begins : ℕ → List OpenPart → List OpenPart
 term_begins at [] = []
 term_begins at (b ∷ bs) = record b { start = at } ∷ bs
 
--- the bounds that aren't done, with one in a bracket that opens
-abbrev pub begun_inside : Opening → ℕ → Option Frame → Innermost → List OpenPart → List OpenPart
-begun_inside belongs next round i bs =
-    record { above = above_in belongs (first_begun bs).above round i; start = next } ∷ bs
+-- the unfinished bounds and one in a bracket that opens
+abbrev pub open_parts_inside : Opening → ℕ → Option Frame → Innermost → List OpenPart → List OpenPart
+open_parts_inside belongs next round i bs =
+    record { above = above_in belongs (first_open_part bs).above round i; start = next } ∷ bs
 
--- the unfinished bounds after a change, if the next piece has this number
-abbrev pub begun_behind : Change → ℕ → Option Frame → Innermost → List OpenPart → List OpenPart
-begun_behind change.Keep next round i bs = bs
-begun_behind change.Term next round i bs = term_begins next bs
-begun_behind (change.Open frame) next round i bs = begun_inside frame.opening next round i bs
-begun_behind change.Close next round i [] = []
-begun_behind change.Close next round i (b ∷ bs) = bs
-begun_behind change.Argue next round i bs = term_begins next bs
+-- the unfinished bounds after a change, where the next piece has this number
+abbrev pub open_parts_after : Change → ℕ → Option Frame → Innermost → List OpenPart → List OpenPart
+open_parts_after change.Keep next round i bs = bs
+open_parts_after change.Term next round i bs = term_begins next bs
+open_parts_after (change.Open frame) next round i bs = open_parts_inside frame.opening next round i bs
+open_parts_after change.Close next round i [] = []
+open_parts_after change.Close next round i (b ∷ bs) = bs
+open_parts_after change.Argue next round i bs = term_begins next bs
 
 -- whether a bracket opens
 abbrev pub opens : Change → Bool
@@ -146,14 +147,14 @@ marks_behind b round i piece marks =
     (if raises round i piece then raised_from b.start marks else marks) ++ mark_of b.above round i piece ∷ []
 
 abbrev pub marks_taken : List OpenPart → Option Frame → Innermost → Piece → Marks → Marks
-marks_taken bs round i piece marks = marks_behind (first_begun bs) round i piece marks
+marks_taken bs round i piece marks = marks_behind (first_open_part bs) round i piece marks
 
--- whether a part that begins with a piece is too deep
+-- whether a mark is deeper than the limit
 abbrev pub is_deep : Option ℕ → Bool
 is_deep None = false
 is_deep (Some level) = nat_lt bound_levels level
 
--- whether one of the pieces begins such a part, and the marks before the first that does
+-- whether some mark is deeper than the limit; and the marks before the first such one
 abbrev pub has_deep : Marks → Bool
 has_deep [] = false
 has_deep (mark ∷ marks) = is_deep mark || has_deep marks

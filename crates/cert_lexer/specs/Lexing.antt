@@ -25,7 +25,7 @@ use Rattle.cert_lexer.specs.declared.piece.Piece.TheVariants.{Wrong}
 use Rattle.cert_lexer.specs.declared.piece.Mode.{Mode}
 use Rattle.cert_lexer.specs.declared.piece.Mode.TheVariants as mode
 
--- a word and its bytes
+-- a word, and the bytes that spell it
 pub record Spelled : Type 0 where
   pub bytes : NameBytes
   pub word : Word
@@ -33,7 +33,7 @@ pub record Spelled : Type 0 where
 abbrev pub spelled : NameBytes → Word → Spelled
 spelled bytes w = record { bytes = bytes; word = w }
 
--- the words of proof files: those that begin lines and nodes, those within nodes, and those of gaps
+-- the words of proof files: those that begin lines and nodes, those inside nodes, and those of gaps
 abbrev pub node_words : List Spelled
 node_words =
     spelled (codes "lemma") word.Lemma ∷
@@ -68,7 +68,7 @@ other_words =
     spelled (codes "kept") word.Kept ∷
     []
 
--- the word among these that a name is, if it is one, or else the other
+-- the word in the list that a name is, if it is one, or else the other word
 abbrev pub word_among : List Spelled → Word → NameBytes → Word
 word_among [] other name = other
 word_among (w ∷ ws) other name = if is_same name w.bytes then w.word else word_among ws other name
@@ -94,7 +94,7 @@ abbrev pub digits_lexeme : List ℕ → Lexeme (Option Piece)
 digits_lexeme digits =
     lexeme (if has_leading_zero digits then Wrong else Number (value_up_to cap digits)) (length digits)
 
--- the lexeme of any other byte
+-- the piece of a byte that begins neither a name nor a number
 abbrev pub sign_at : ℕ → Piece
 sign_at b =
     if b == 32 then ASign sign.Blank
@@ -110,8 +110,7 @@ sign_at b =
     else if b == 45 then ASign sign.Minus
     else Wrong
 
--- the piece that begins with the first byte where nothing is open; the longest name and the longest row of digits is
--- taken
+-- the lexeme that begins with byte b where nothing is open; it takes the longest name, or the longest row of digits
 abbrev pub plain_lexeme : List NameBytes → ℕ → List ℕ → Lexeme (Option Piece)
 plain_lexeme symbols b bytes =
     if begins_name b then name_lexeme symbols (b ∷ prefix continues_name bytes)
@@ -123,7 +122,7 @@ abbrev pub goes_on : List ℕ → Bool
 goes_on [] = false
 goes_on (b ∷ bytes) = continues_name b
 
--- bytes begin with `koat-proof`, which isn't the beginning of a longer word
+-- bytes begin with `koat-proof`, and not with a longer word
 abbrev pub is_first : List ℕ → Bool
 is_first bytes =
     nat_le 10 (length bytes) && is_same (take 10 bytes) (codes "koat-proof") && not (goes_on (drop 10 bytes))
@@ -139,8 +138,8 @@ behind_dot [] = behind.Nothing
 behind_dot (b ∷ bytes) =
     if has_leading_zero (b ∷ bytes) then behind.LeadingZero else behind.Number (value_up_to cap (b ∷ bytes))
 
--- the place that a run denotes: the symbol before its last dot and the digits after it; a run without a dot, or with
--- other bytes after it, is a name
+-- the piece of a run of bytes in a list of shut places: the symbol before its last dot and the number after it; a run
+-- without a dot, or whose last dot is followed by other bytes than digits, is a name
 abbrev pub place_in : List NameBytes → List ℕ → Option (List ℕ) → Piece
 place_in symbols run None = Place (symbol_of symbols run) behind.NoNumber
 place_in symbols run (Some after) =
@@ -151,9 +150,8 @@ place_in symbols run (Some after) =
 abbrev pub place_lexeme : List NameBytes → List ℕ → Lexeme (Option Piece)
 place_lexeme symbols run = lexeme (place_in symbols run (behind_last_dot None run)) (length run)
 
--- the variable of a name at a position among n start arguments; each occurrence of a name that is none of them is a
--- variable of its own, as far after the last of them as the number of pieces of the bound before it; variables from
--- 2^32-1 on count as that one
+-- the variable of a name at a position among n start arguments. Each occurrence of a name that is none of them is a
+-- variable of its own: n plus the number of the bound's pieces before it; variables from 2^32-1 on count as that one
 abbrev pub variable_at : ℕ → ℕ → ℕ → ℕ
 variable_at n before i = min (if nat_lt i n then i else i + before) (2 ^ 32 - 1)
 
@@ -187,12 +185,12 @@ depth_behind depth bound.Maximum = min (depth + 1) (2 ^ 64 - 1)
 depth_behind depth bound.Close = depth - 1
 depth_behind depth piece = depth
 
--- the number of pieces of a bound before the next one, after a piece that is the last or isn't, at most 2^64-1
+-- the number of pieces of a bound before the next piece, at most 2^64-1; 0 after the bound's last piece
 abbrev pub pieces_behind : ℕ → Bool → ℕ
 pieces_behind before true = 0
 pieces_behind before false = min (before + 1) (2 ^ 64 - 1)
 
--- a piece of a bound with this many open brackets, before these bytes
+-- the lexeme of a piece of a bound with this many open brackets, before these bytes
 abbrev pub inner_lexeme : ℕ → List ℕ → BoundPiece → ℕ → Lexeme (Option Piece)
 inner_lexeme depth behind piece len = lexeme (InBound piece len (ends_before (depth_behind depth piece) behind)) len
 
@@ -218,7 +216,7 @@ lexeme_in symbols arguments mode.Closed b bytes = plain_lexeme symbols b bytes
 lexeme_in symbols arguments mode.ClosedBlank b bytes = plain_lexeme symbols b bytes
 lexeme_in symbols arguments mode.To b bytes = plain_lexeme symbols b bytes
 
--- the mode after a piece, where no list or bound is open
+-- the mode after a piece, if no list and no bound is open before it
 abbrev pub plain_behind : Piece → Mode
 plain_behind (Name word.Shut symbol) = mode.InShut
 plain_behind (ASign sign.Close) = mode.Closed
@@ -239,11 +237,11 @@ abbrev pub mode_behind : Mode → Option Piece → Mode
 mode_behind m None = m
 mode_behind m (Some piece) = mode_with m piece
 
--- how proof files are cut, by the names of symbols and of start arguments
+-- the lexer of proof files, given the names of symbols and of start arguments
 abbrev pub lexer_with : List NameBytes → List NameBytes → Lexer Piece Mode
 lexer_with symbols arguments = record { lexeme_in = lexeme_in symbols arguments; mode_behind = mode_behind }
 
--- how the proof files of a program are cut, and their tokens
+-- the lexer of a program's proof files, and their tokens
 abbrev pub lexer_of : Program → Lexer Piece Mode
 lexer_of p = lexer_with (symbol_names p) p.start_names
 

@@ -4,18 +4,18 @@ pub mod Lexing
 pub mod Found
 pub mod Within
 pub mod Bounds
--- values that were worked out by hand
+-- worked values
 pub mod WorkedBounds
--- pieces of a bound in few bytes each
+-- packed pieces of a bound
 pub mod Packing
 pub mod Packed
--- the machinery of the functions inside
+-- further definitions, for internal contracts
 pub mod BoundSteps
 -- outlines, and how levels change
 pub mod Outlines
 pub mod Levels
 pub mod Following
-pub mod Shadows
+pub mod Representation
 pub mod Carried
 -- the crates below, which callers name through this one
 pub use Rattle.bound_text.specs as bound_text

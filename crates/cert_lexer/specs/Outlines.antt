@@ -1,4 +1,4 @@
--- Outlines: what steps look at of the part of a bound that has been read, in constant size and without a tree.
+-- Outlines: the data that steps depend on, of the pieces of a bound read so far, in constant size and without a tree.
 use Rattle.std.specs.Prelude.{ℕ, Bool, true, false, not, ◌&&◌, ◌==◌, nat_lt, if◌then◌else◌, is_some, List, [], ◌∷◌}
 use Rattle.std.specs.Prelude.{Option, Some, None}
 use Rattle.std.specs.Option.{option_map}
@@ -19,7 +19,7 @@ use Rattle.cert_lexer.specs.declared.outline.Stage.TheVariants as stage
 use Rattle.cert_lexer.specs.declared.outline.Innermost.{Innermost}
 use Rattle.cert_lexer.specs.declared.outline.Change.{Change}
 use Rattle.cert_lexer.specs.declared.outline.Change.TheVariants as change
-use Rattle.cert_lexer.specs.declared.outline.Lead.{Lead}
+use Rattle.cert_lexer.specs.declared.outline.OutlineStep.{OutlineStep}
 
 -- the shape of a part: of a constant whether it can be a base, of a variable which one, and of others the kind alone
 abbrev pub shape_of : Bound → Shape
@@ -34,12 +34,12 @@ shape_of (PowerOf c e) = shape.Other
 abbrev pub last_of : Parts → Option Shape
 last_of fs = option_map shape_of (last fs)
 
--- whether it is variable i
+-- the shape is that of variable i
 abbrev pub is_last_input : ℕ → Option Shape → Bool
 is_last_input i (Some (shape.Input j)) = j == i
 is_last_input i item = false
 
--- some factor, where there is one
+-- the shape of some factor, if there is one
 abbrev pub any_factor : Bool → Option Shape
 any_factor false = None
 any_factor true = Some shape.Other
@@ -57,7 +57,7 @@ abbrev pub before_at : Position → Parts → Option Shape
 before_at ItemRead fs = before_last (last_of fs) (last_of (init fs))
 before_at position fs = None
 
--- the part that was read last
+-- the stage of a position
 abbrev pub stage_of : Position → Stage
 stage_of Begins = stage.Begins
 stage_of (RunCaret i) = stage.Run i
@@ -89,71 +89,71 @@ innermost_of f = record {
   stage = stage_of f.position;
 }
 
--- the innermost bound with an item as its last factor, and the one that was last before it
+-- the innermost bound with an item as its last factor; the factor that was last comes before it
 abbrev pub with_item : Shape → Innermost → Innermost
 with_item item i = record i { before = before_last (Some item) i.last; last = Some item; stage = stage.Item }
 
--- the innermost bound after a part that is no item
+-- the innermost bound after a piece that completes no item
 abbrev pub at_stage : Stage → Innermost → Innermost
 at_stage s i = record i { before = None; stage = s }
 
--- a bound begins
+-- an innermost bound of which nothing has been read
 abbrev pub begun : Innermost
 begun = record { terms = false; before = None; last = None; stage = stage.Begins }
 
--- a piece leads there with the same open brackets
-abbrev pub stays : Innermost → Lead
+-- the step that leads to this innermost bound and keeps the open brackets
+abbrev pub stays : Innermost → OutlineStep
 stays i = record { innermost = i; change = change.Keep }
 
--- a bracket opens
-abbrev pub opens : Opening → Innermost → Lead
+-- the step with which a bracket opens
+abbrev pub opens : Opening → Innermost → OutlineStep
 opens belongs i = record {
   innermost = begun;
   change = change.Open (record { opening = belongs; terms = i.terms; factors = is_some i.last });
 }
 
--- an item begins
-abbrev pub begins_item : Innermost → Piece → Option Lead
+-- the step of a piece with which an item begins
+abbrev pub begins_item : Innermost → Piece → Option OutlineStep
 begins_item i (Variable v) = when (not (is_last_input v i.last)) (stays (with_item (shape.Input v) i))
 begins_item i (Number c) = Some (stays (with_item (shape.Constant (nat_lt 1 c)) i))
 begins_item i Maximum = Some (opens (opening.Maximum false) i)
 begins_item i Open = Some (opens opening.Factor i)
 begins_item i piece = None
 
--- a run ends with its number
-abbrev pub ends_run : ℕ → Innermost → Piece → Option Lead
+-- the step of the number of a run
+abbrev pub ends_run : ℕ → Innermost → Piece → Option OutlineStep
 ends_run v i (Number n) =
     when (nat_lt 1 n)
     (stays (record i { before = Some (shape.Input v); last = Some (shape.Input v); stage = stage.Item }))
 ends_run v i piece = None
 
--- an exponent begins
-abbrev pub begins_exponent : Innermost → Piece → Option Lead
+-- the step of a piece with which an exponent begins
+abbrev pub begins_exponent : Innermost → Piece → Option OutlineStep
 begins_exponent i (Number n) = Some (stays (with_item shape.Other i))
 begins_exponent i (Variable v) = Some (stays (with_item shape.Other i))
 begins_exponent i Open = Some (opens opening.Exponent i)
 begins_exponent i piece = None
 
--- `^` takes the last factor back, which is a base or the variable of a run
-abbrev pub takes_back : Option Shape → Innermost → Option Lead
+-- the step of `^` after an item, which takes back the last factor, a base or the variable of a run
+abbrev pub takes_back : Option Shape → Innermost → Option OutlineStep
 takes_back (Some (shape.Constant base)) i =
     when base (stays (record i { before = None; last = i.before; stage = stage.Power }))
 takes_back (Some (shape.Input v)) i =
     when (not (is_last_input v i.before)) (stays (record i { before = None; last = i.before; stage = stage.Run v }))
 takes_back item i = None
 
--- whether factors can be all of a term: a lone sum in brackets can't
+-- whether a term can end after the factors: not after a lone sum in brackets
 abbrev pub ends_term : Option Shape → Option Shape → Bool
 ends_term before None = false
 ends_term None (Some shape.Sum) = false
 ends_term before (Some item) = true
 
--- the shape of the term that they make
+-- the shape of the term that factors make
 abbrev pub term_shape : Option Shape → Option Shape → Shape
 term_shape None (Some item) = item
 term_shape before last = shape.Other
 
--- the shape of the bound that it makes with the terms before
+-- the shape of the bound that the factors make with the terms before
 abbrev pub bound_shape : Innermost → Shape
 bound_shape i = if i.terms then shape.Sum else term_shape i.before i.last
 
@@ -177,7 +177,7 @@ closes_behind (opening.Maximum some) item = some && not (is_maximum_shape item)
 closes_behind opening.Exponent item = not (is_leaf_shape item)
 closes_behind opening.Factor item = is_sum_shape item
 
--- the shape of the item that it makes
+-- the shape of the item that a bracket makes of its bound
 abbrev pub item_shape : Opening → Shape
 item_shape (opening.Maximum some) = shape.Maximum
 item_shape opening.Exponent = shape.Other
@@ -192,8 +192,8 @@ behind_bracket frame = record {
   stage = stage.Item;
 }
 
--- a bracket closes
-abbrev pub closes : Option Frame → Innermost → Option Lead
+-- the step of a closing bracket
+abbrev pub closes : Option Frame → Innermost → Option OutlineStep
 closes None i = None
 closes (Some frame) i =
     when (ends_term i.before i.last && closes_behind frame.opening (bound_shape i))
@@ -213,8 +213,8 @@ abbrev pub ends_argument : Option Frame → Innermost → Bool
 ends_argument round i =
     in_maximum round && (ends_term i.before i.last && not (is_maximum_shape (bound_shape i)))
 
--- the lead of a piece that follows an item
-abbrev pub follows_item : Option Frame → Innermost → Piece → Option Lead
+-- the step of a piece that follows an item
+abbrev pub follows_item : Option Frame → Innermost → Piece → Option OutlineStep
 follows_item round i Times = Some (stays (at_stage stage.Begins i))
 follows_item round i Caret = takes_back i.last i
 follows_item round i Blank = when (ends_term i.before i.last) (stays (at_stage stage.Blank i))
@@ -222,17 +222,17 @@ follows_item round i Comma = when (ends_argument round i) (stays (at_stage stage
 follows_item round i Close = closes round i
 follows_item round i piece = None
 
--- a term ends, and an argument
-abbrev pub ends_plus : Piece → Option Lead
+-- the step of a piece after the `+` of ` + `, and after the `,` of `, `
+abbrev pub ends_plus : Piece → Option OutlineStep
 ends_plus Blank = Some (record { innermost = record begun { terms = true }; change = change.Term })
 ends_plus piece = None
 
-abbrev pub ends_comma : Option Frame → Piece → Option Lead
+abbrev pub ends_comma : Option Frame → Piece → Option OutlineStep
 ends_comma round Blank = when (in_maximum round) (record { innermost = begun; change = change.Argue })
 ends_comma round piece = None
 
--- the state after a piece, inside the innermost open bracket, if one is open
-abbrev pub lead_at : Stage → Option Frame → Innermost → Piece → Option Lead
+-- the step of a piece, inside the innermost open bracket, if one is open
+abbrev pub lead_at : Stage → Option Frame → Innermost → Piece → Option OutlineStep
 lead_at stage.Begins round i piece = begins_item i piece
 lead_at (stage.Run v) round i piece = ends_run v i piece
 lead_at stage.Power round i piece = begins_exponent i piece
@@ -242,7 +242,7 @@ lead_at stage.Plus round i piece = ends_plus piece
 lead_at stage.Comma round i piece = ends_comma round piece
 lead_at s round i piece = None
 
-abbrev pub lead : Option Frame → Innermost → Piece → Option Lead
+abbrev pub lead : Option Frame → Innermost → Piece → Option OutlineStep
 lead round i piece = lead_at i.stage round i piece
 
 -- the innermost open bracket

@@ -1,11 +1,11 @@
--- The pieces that the code keeps packed.
+-- The packed pieces of the code as plain data.
 use Rattle.std.specs.Prelude.{List}
 use Rattle.cert_lexer.specs.declared.inner.Inner.{Inner}
 use Rattle.cert_lexer.specs.declared.packed.Packed as code
 use Rattle.cert_lexer.specs.declared.packed.PackedRest as code_rest
 use Rattle.cert_lexer.specs.Packing.{unpacked}
 
--- all of them, and those that are left
+-- all packed pieces, and those that are left
 abbrev pub inners_of : code.Packed → List Inner
 inners_of p = unpacked p.marks.items p.shorts.items p.longs.items
 

@@ -1,4 +1,5 @@
--- Pieces of a bound in few bytes each: marks, in order, and the values of those that have one in a list of their own.
+-- Packed pieces of a bound: a mark for each, in order, and lists of the values of those that their marks don't
+-- determine.
 use Rattle.std.specs.Prelude.{ℕ, ◌+◌, List, [], ◌∷◌}
 use Rattle.bound_text.specs.declared.piece.Piece.{Piece}
 use Rattle.bound_text.specs.declared.piece.Piece.TheVariants as bound
@@ -15,7 +16,7 @@ use Rattle.cert_lexer.specs.declared.marks.Source.TheVariants as source
 abbrev pub inner_with : Piece → ℕ → Inner
 inner_with piece len = record { piece = piece; len = len }
 
--- where the piece of a mark is found: it is known by the mark, or it is the next of the short ones or of the long ones
+-- where the piece of a mark is found: the mark determines it, or it is the next of the short pieces or of the long ones
 abbrev pub mark_source : Mark → Source
 mark_source mark.Maximum = source.Known (inner_with bound.Maximum 4)
 mark_source mark.Open = source.Known (inner_with bound.Open 1)
@@ -29,7 +30,7 @@ mark_source mark.Wrong = source.Known (inner_with bound.Wrong 1)
 mark_source mark.Short = source.Shorts
 mark_source mark.Long = source.Longs
 
--- a short piece as a piece
+-- the piece of a short form
 abbrev pub short_piece : ShortKind → ℕ → Piece
 short_piece short.Variable value = bound.Variable value
 short_piece short.Number value = bound.Number value
@@ -38,7 +39,7 @@ short_piece short.Wrong value = bound.Wrong
 abbrev pub short_inner : Short → Inner
 short_inner s = inner_with (short_piece s.kind s.value) s.len
 
--- the next short piece and the next long one; if there is none, a piece of no bytes takes its place
+-- the next short piece and the next long one; if there is none, a piece of no bytes replaces it
 abbrev pub missing : Inner
 missing = inner_with bound.Wrong 0
 
@@ -70,13 +71,13 @@ longs_behind (source.Known inner) ls = ls
 longs_behind source.Shorts ls = ls
 longs_behind source.Longs ls = tail_of ls
 
--- the pieces of marks, with these short and these long ones
+-- the pieces of these marks, with these short and long pieces
 abbrev pub unpacked : List Mark → List Short → List Inner → List Inner
 unpacked [] ss ls = []
 unpacked (m ∷ ms) ss ls =
     next_at (mark_source m) ss ls ∷ unpacked ms (shorts_behind (mark_source m) ss) (longs_behind (mark_source m) ls)
 
--- how many short and how many long ones marks take
+-- the number of short pieces, and of long ones, that marks take
 abbrev pub shorts_at : Source → ℕ
 shorts_at (source.Known inner) = 0
 shorts_at source.Shorts = 1

@@ -16,7 +16,7 @@ use Rattle.cert_lexer.specs.declared.piece.Mode.TheVariants as mode
 use Rattle.cert_lexer.specs.declared.piece.Piece.TheVariants.{First}
 use Rattle.cert_lexer.specs.Lexing.{lexeme, plain_lexeme, goes_on, is_first, ends_bound, lexeme_in}
 
--- a lexeme has a byte at least, and no more than this many
+-- a lexeme has at least one byte, and at most this many
 abbrev Fits : ℕ → Lexeme (Option Piece) → Type 0
 Fits most l = (0 < l.len) × (l.len ≤ most)
 
@@ -38,7 +38,7 @@ plain_fits symbols b bytes =
     (either_fits (length (b ∷ bytes)) (is_ascii_digit b) _ _
     (omega arith, (let h = prefix_fits is_ascii_digit bytes in omega (arith, h))) (omega arith, omega arith))
 
--- where bytes begin with the first word, there are at least 10
+-- bytes that begin with the first word are at least 10
 ten : (bytes : List ℕ) → is_first bytes ≡ true → 10 ≤ length bytes
 ten bytes h = go (nat_le 10 (length bytes)) refl h
   where

@@ -21,26 +21,26 @@ abbrev pub tower : ℕ → Bound
 tower zero = Input 0
 tower (suc n) = PowerOf 2 (tower n)
 
--- a bound that was read, with nothing around it
+-- the state after the pieces of a bound that nothing surrounds
 abbrev pub alone : Bound → Front
 alone b = front_at Whole NoParts (Part b NoParts) ItemRead
 
--- this many pieces as tokens whose positions are their numbers
+-- n copies of a piece as tokens whose positions are their numbers
 abbrev pub counted : ℕ → ℕ → List (Token Plain)
 counted at zero = []
 counted at (suc n) = record { piece = PlainBlank; at = at; upto = suc at } ∷ counted (suc at) n
 
--- each piece with one byte
+-- each piece with a length of one byte
 abbrev pub each_alone : List Piece → List Inner
 each_alone [] = []
 each_alone (x ∷ xs) = record { piece = x; len = 1 } ∷ each_alone xs
 
--- these pieces this many times, and then the rest
+-- n times these pieces, and then the rest
 abbrev pub times_then : ℕ → List Piece → List Piece → List Piece
 times_then zero xs rest = rest
 times_then (suc n) xs rest = xs ++ times_then n xs rest
 
--- a bound over `A` and `B` in this many brackets of exponents
+-- a bound over `A` and `B` inside n brackets of exponents
 abbrev pub in_exponents : ℕ → List Piece → List Inner
 in_exponents n xs = each_alone (times_then n (Number 2 ∷ Caret ∷ Open ∷ []) (xs ++ times_then n (Close ∷ []) []))
 
@@ -53,18 +53,18 @@ pushed i j =
 abbrev pub refusal : ProofKind → ℕ → Fault ProofKind
 refusal kind at = record { kind = kind; at = at }
 
--- 200 levels, and one more
+-- bounds of 200 levels are read, and those of one more are refused
 pub record LevelsAreWorkedOut : Type 0 where
   pub deepest : too_deep (alone (tower 199)) (counted 0 1000) ≡ []
   pub one_deeper : too_deep (alone (tower 200)) (counted 0 1000) ≡ refusal TooDeep 599 ∷ []
-  -- a part is refused at its beginning, as the pieces after it show
+  -- a part is refused at its beginning if later pieces push it too deep
   pub pushed_down : bound_answer 2 (in_exponents 198 (pushed 0 1)) ≡ Refused (refusal TooDeep 595)
   -- two names that aren't listed are two variables
   pub unlisted : bound_answer 2 (in_exponents 198 (pushed 600 602)) ≡ Refused (refusal TooDeep 595)
-  -- a part after a variable can't follow, so the pieces after it aren't examined
+  -- a variable can't follow itself, so the pieces after that aren't examined
   pub twice : bound_answer 2 (in_exponents 198 (pushed 1 1)) ≡ Refused (refusal TooDeep 598)
 
--- of two refusals, the one at the lesser position comes first, and of two at one position the one that is listed first
+-- of two refusals the one at the lesser position comes first, and of two at one position the one that is listed first
 -- here
 pub record OrderIsWorkedOut : Type 0 where
   pub position : is_before (bounds_in 1) (refusal Limit 4) (refusal Syntax 5) ≡ true
@@ -76,7 +76,7 @@ pub record OrderIsWorkedOut : Type 0 where
   pub limit : is_before (bounds_in 1) (refusal Limit 5) (refusal BadReference 5) ≡ false
   pub same : is_before (bounds_in 1) (refusal Limit 5) (refusal Limit 5) ≡ false
 
--- the names of a bound's refusals in a proof file
+-- the kinds of a bound's refusals as those of a proof file
 pub record KindsAreWorkedOut : Type 0 where
   pub name : kind_of kinds.UnknownName ≡ BadReference
   pub size : kind_of kinds.TooLarge ≡ Limit
@@ -84,7 +84,7 @@ pub record KindsAreWorkedOut : Type 0 where
   pub number : kind_of kinds.NumberTooLarge ≡ NumberTooLarge
   pub syntax : kind_of kinds.Syntax ≡ Syntax
 
--- all of it
+-- all worked values of bounds inside proof files
 pub record BoundsAreWorkedOut : Type 0 where
   pub levels : LevelsAreWorkedOut
   pub order : OrderIsWorkedOut

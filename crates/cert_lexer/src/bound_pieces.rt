@@ -8,7 +8,7 @@ ghost use Rattle.text_grammar.specs.text_core.Names.{position_of};
 ghost use Rattle.bound_text.specs.Lexing.{word_at, number_at, mark_at, lexeme_at};
 ghost use Rattle.cert_lexer.specs.Lexing.{bound_piece, variable_at};
 
-use crate::names::{front_digits, front_name, number_of};
+use crate::names::{leading_digits, leading_name, number_of};
 use bound_expr::CAP;
 use bound_text::Piece as BoundPiece;
 use text_core::{NameIndex, begins_name, begins_with, has_leading_zero, value_up_to};
@@ -20,7 +20,7 @@ pub struct BoundLexeme {
     pub len: usize,
 }
 
-// A number and another one, or the greatest that a `u32` holds.
+// The sum of two numbers, or the greatest number that a `u32` holds.
 fn sum_of(position: usize, before: u64) -> u32
     ensures { result ≡ min (position + before) (2 ^ 32 - 1) }
 {
@@ -28,7 +28,8 @@ fn sum_of(position: usize, before: u64) -> u32
     sum.min(u64::from(u32::MAX)) as u32
 }
 
-// The variable of a name after this many pieces: each occurrence of a name that isn't listed is a variable of its own.
+// The variable of a name after this many pieces of the bound. Each occurrence of a name that isn't listed is a variable
+// of its own.
 fn variable(names: &NameIndex<'_>, before: u64, name: &[u8]) -> u32
     ensures { result ≡ variable_at (length (names_in names.now)) before (position_of name.now (names_in names.now)) }
 {
@@ -38,7 +39,7 @@ fn variable(names: &NameIndex<'_>, before: u64, name: &[u8]) -> u32
     }
 }
 
-// The piece of a name with the bytes `behind` after it, after this many pieces.
+// The piece of a name that is followed by the bytes `behind`, after this many pieces of the bound.
 fn word(names: &NameIndex<'_>, before: u64, name: &[u8], behind: &[u8]) -> BoundLexeme
     ensures piece { result.piece
         ≡ bound_piece (length (names_in names.now)) before (word_at (names_in names.now) name.now behind.now).piece }
@@ -82,7 +83,7 @@ fn number(digits: &[u8]) -> BoundLexeme
     }
 }
 
-// The piece of any other byte.
+// The piece of a byte that begins neither a name nor a number.
 fn mark(byte: u8) -> BoundPiece
     ensures { (n before : ℕ) → result ≡ bound_piece n before (mark_at byte) }
 {
@@ -98,8 +99,8 @@ fn mark(byte: u8) -> BoundPiece
     }
 }
 
-/// The first piece of a bound in bytes (the first byte is passed separately, too), over arguments with these names,
-/// and after this many pieces.
+/// The first piece of a bound in bytes (whose first byte is passed separately, too), over arguments with these names,
+/// after this many pieces of the bound.
 pub fn bound_lexeme(
     names: &NameIndex<'_>,
     before: u64,
@@ -113,10 +114,10 @@ pub fn bound_lexeme(
     ensures len { result.len ≡ (lexeme_at (names_in names.now) first others.now).len }
 {
     if begins_name(first) {
-        let (name, behind) = front_name(bytes, first, others);
+        let (name, behind) = leading_name(bytes, first, others);
         word(names, before, name, behind)
     } else if first.is_ascii_digit() {
-        number(front_digits(bytes, first, others))
+        number(leading_digits(bytes, first, others))
     } else {
         BoundLexeme {
             piece: mark(first),

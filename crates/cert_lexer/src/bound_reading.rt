@@ -10,13 +10,13 @@ ghost use Rattle.bound_text.specs.Carrying.{early_kinds, first_of};
 ghost use Rattle.bound_text.specs.Fronts.{Front};
 ghost use Rattle.bound_text.specs.Steps.{finish};
 ghost use Rattle.bound_text.specs.Views.{front_of, is_settled};
-ghost use Rattle.cert_lexer.specs.Carried.{Carries, IsToldWithout};
-ghost use Rattle.cert_lexer.specs.Shadows.{Shadows};
+ghost use Rattle.cert_lexer.specs.Carried.{Carries, IsRefusedWithout};
+ghost use Rattle.cert_lexer.specs.Representation.{Representation};
 ghost use Rattle.bound_expr.specs.Views.{bound_of};
 ghost use Rattle.text_grammar.specs.text_core.Reading.{first_of as first_at, is_before};
 ghost use Rattle.text_grammar.specs.Marks.{fault_of, refusal_of};
 ghost use Rattle.cert_lexer.specs.Bounds.{bound_answer, bounds_in, kind_of};
-ghost use Rattle.cert_lexer.specs.BoundSteps.{BreaksOff, Ends, Steps, TellsDeep, IsBefore, answer_of, pieces_in};
+ghost use Rattle.cert_lexer.specs.BoundSteps.{BreaksOff, Ends, Steps, FirstIsDeep, IsBefore, answer_of, pieces_in};
 ghost use Rattle.cert_lexer.specs.Packed.{inners_in};
 ghost use Rattle.cert_lexer.specs.BoundSteps.{ended_with, or_refusal, or_syntax as or_syntax_at};
 ghost use Rattle.cert_lexer.specs.declared.kind.ProofKind.TheVariants.{TooDeep};
@@ -35,13 +35,13 @@ use text_grammar::Fault;
 /// The greatest number of levels of a bound inside a proof file.
 pub const BOUND_LEVELS: u64 = 200;
 
-/// The effect of a piece.
+/// The result of a step with a piece.
 #[derive(Clone, Copy, Debug, PartialEq, Eq)]
 pub(crate) enum StepResult {
-    /// The piece was accepted; its first fault, if it has any.
-    Led(Option<ProofKind>),
-    /// It can't follow.
-    Off,
+    /// The piece was accepted, with its first fault, if it has one.
+    Accepted(Option<ProofKind>),
+    /// The piece can't follow.
+    Rejected,
 }
 
 /// Reads the bound that pieces spell, over this many start arguments.
@@ -65,8 +65,12 @@ pub fn read_bound(
     while let Some((inner, behind)) = rest.split_first() {
         let at = pieces.len() - rest.len();
         match reading.step(alloc, names, inner.piece, behind)? {
-            StepResult::Led(first_refusal) => best = or_refusal_at(best, first_refusal, at as u64),
-            StepResult::Off => return Ok(off(&reading.follower, best, at)),
+            StepResult::Accepted(first_refusal) => best = or_refusal_at(
+                best,
+                first_refusal,
+                at as u64,
+            ),
+            StepResult::Rejected => return Ok(off(&reading.follower, best, at)),
         }
         reading.settle(best.is_some());
         rest = behind;
@@ -77,7 +81,7 @@ pub fn read_bound(
 // The refusal of a bound that breaks off after this many pieces.
 fn off(follower: &Follower, best: Option<Fault<ProofKind>>, count: usize) -> BoundRead
     requires before { IsBefore count best }
-    ensures { (f : Front) → Shadows f follower.now → BreaksOff f best count result }
+    ensures { (f : Front) → Representation f follower.now → BreaksOff f best count result }
 {
     let first_refusal = refusals_at_end(follower, best, count);
     BoundRead::Refused(or_syntax(first_refusal, count as u64))
@@ -90,7 +94,7 @@ fn ended(
     count: usize,
 ) -> Result<BoundRead, AllocError>
     requires before { IsBefore count best }
-    ensures { (f : Front) → Carries f reading → IsToldWithout f best count reading
+    ensures { (f : Front) → Carries f reading → IsRefusedWithout f best count reading
         → IfOk result (λ read. Ends f best count read) }
 {
     let Reading { reader, follower } = reading;
@@ -117,7 +121,7 @@ fn finished(
     }
 }
 
-// A bound, unless it is refused.
+// The bound, unless there is a refusal.
 fn bound_or(first_refusal: Option<Fault<ProofKind>>, bound: Bound) -> BoundRead
     ensures { (at : ℕ) → answer_of result ≡ ended_with (fault_of first_refusal) (Some (bound_of bound)) at }
 {
@@ -127,7 +131,7 @@ fn bound_or(first_refusal: Option<Fault<ProofKind>>, bound: Bound) -> BoundRead
     }
 }
 
-// A refusal, or else `Syntax` at a position.
+// The refusal so far, or else `Syntax` at a position.
 fn or_syntax(first_refusal: Option<Fault<ProofKind>>, at: u64) -> Fault<ProofKind>
     ensures { refusal_of result ≡ or_syntax_at (fault_of first_refusal) at }
 {
@@ -140,14 +144,14 @@ fn or_syntax(first_refusal: Option<Fault<ProofKind>>, at: u64) -> Fault<ProofKin
     }
 }
 
-// The first of a refusal so far and of those of the parts that are too deep, after this many pieces.
+// The first of the refusal so far and of that of the first part that is too deep, after this many pieces.
 fn refusals_at_end(
     follower: &Follower,
     best: Option<Fault<ProofKind>>,
     count: usize,
 ) -> Option<Fault<ProofKind>>
     requires before { IsBefore count best }
-    ensures first { (f : Front) → Shadows f follower.now → TellsDeep f best count result }
+    ensures first { (f : Front) → Representation f follower.now → FirstIsDeep f best count result }
     ensures before { IsBefore count result }
 {
     match follower.deep_part() {
@@ -156,7 +160,7 @@ fn refusals_at_end(
     }
 }
 
-// The first of a refusal so far and of a part that is too deep.
+// The first of the refusal so far and of that of a part that is too deep.
 fn first_with_deep(best: Option<Fault<ProofKind>>, at: u64) -> Fault<ProofKind>
     ensures { (n : ℕ) → refusal_of result ≡ first_at (bounds_in n) (fault_of best)
         (record { kind = TooDeep; at = at }) }
@@ -179,7 +183,7 @@ fn comes_behind(fault: Fault<ProofKind>, at: u64) -> bool
     at < fault.at || (at == fault.at && last)
 }
 
-/// Where a piece leads the tree, before these.
+/// Takes a piece into the tree, with these pieces after it.
 pub(crate) fn step(
     alloc: Global,
     names: usize,
@@ -193,8 +197,8 @@ pub(crate) fn step(
 {
     let first_refusal = refusal_before(reader, names, is_caret_next(behind), piece);
     match reader.step(alloc, piece) {
-        Ok(()) => Ok(StepResult::Led(with_size(first_refusal, reader.is_too_large()))),
-        Err(BoundFault::Syntax) => Ok(StepResult::Off),
+        Ok(()) => Ok(StepResult::Accepted(with_size(first_refusal, reader.is_too_large()))),
+        Err(BoundFault::Syntax) => Ok(StepResult::Rejected),
         Err(_) => Err(AllocError),
     }
 }
@@ -229,7 +233,7 @@ fn kind_from(fault: BoundFault) -> Option<ProofKind>
     }
 }
 
-// The first fault of a piece with which a bound may become too large.
+// The fault of a piece by itself, or else that the bound is too large with it, if it is.
 fn with_size(first_refusal: Option<ProofKind>, large: bool) -> Option<ProofKind>
     ensures { result ≡ with_size_of first_refusal large }
 {
@@ -240,7 +244,7 @@ fn with_size(first_refusal: Option<ProofKind>, large: bool) -> Option<ProofKind>
     }
 }
 
-// A refusal so far, or else one of this kind at a position.
+// The refusal so far, or else one of this kind at a position.
 fn or_refusal_at(
     best: Option<Fault<ProofKind>>,
     first_refusal: Option<ProofKind>,

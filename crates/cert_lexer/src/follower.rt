@@ -1,4 +1,4 @@
-//! Keeps the outline and the levels of the part of a bound that has been read.
+//! The outline and the levels of the pieces of a bound read so far, kept without the tree.
 
 ghost use Rattle.std.specs.Prelude.{IfOk};
 ghost use Rattle.bound_text.specs.Depths.{FindsDeep};
@@ -6,14 +6,15 @@ ghost use Rattle.bound_text.specs.Fronts.{Front};
 ghost use Rattle.bound_text.specs.Steps.{beginning};
 ghost use Rattle.bound_text.specs.Printing.{piece_of};
 ghost use Rattle.cert_lexer.specs.Bounds.{bound_levels};
-ghost use Rattle.cert_lexer.specs.Shadows.{Shadows, Led};
+ghost use Rattle.cert_lexer.specs.Representation.{Representation, Accepted};
 
 use crate::levels::Levels;
 use crate::outline::Outline;
 use bound_text::Piece as BoundPiece;
 use std::alloc::{AllocError, Global};
 
-/// The state that is kept without the tree: whether a piece can follow, and where the first part is that is too deep.
+/// The parser state that is kept without the tree: the outline decides whether a piece can follow, and the levels where
+/// the first part is that is too deep.
 #[derive(Drop)]
 pub(crate) struct Follower {
     pub outline: Outline,
@@ -21,13 +22,13 @@ pub(crate) struct Follower {
 }
 
 impl Follower {
-    /// Nothing has been read.
+    /// The state in which nothing has been read.
     ///
     /// # Errors
     ///
     /// `AllocError` where an allocation fails.
     pub(crate) fn new(alloc: Global) -> Result<Follower, AllocError>
-        ensures { IfOk result (Shadows beginning) }
+        ensures { IfOk result (Representation beginning) }
     {
         Ok(Follower {
             outline: Outline::new(alloc),
@@ -41,7 +42,7 @@ impl Follower {
     ///
     /// `AllocError` where an allocation fails; the follower is then unusable.
     pub(crate) fn take(&mut self, piece: BoundPiece) -> Result<bool, AllocError>
-        ensures { (f : Front) → Shadows f self.old → IfOk result (Led f (piece_of piece) self.new) }
+        ensures { (f : Front) → Representation f self.old → IfOk result (Accepted f (piece_of piece) self.new) }
     {
         let round = self.outline.round();
         let innermost = self.outline.innermost;
@@ -55,9 +56,9 @@ impl Follower {
         }
     }
 
-    /// With which piece the first part begins that is too deep, where there is one.
+    /// The number of the piece with which the first part that is too deep begins, if there is one.
     pub(crate) fn deep_part(&self) -> Option<usize>
-        ensures { (f : Front) → Shadows f self.now → FindsDeep bound_levels f result }
+        ensures { (f : Front) → Representation f self.now → FindsDeep bound_levels f result }
     {
         if self.levels.marked.deep {
             Some(self.levels.marked.levels.len())

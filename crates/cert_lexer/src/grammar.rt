@@ -15,13 +15,13 @@ use made::{
 };
 use text_grammar::Item::{self, AMade, AMark, APiece, End, Or};
 
-/// How many classes of pieces there are.
+/// The number of classes of pieces.
 pub const CLASSES: u32 = 46;
 /// The number of rounds after which the entries of the table no longer change.
 pub const ROUNDS: u32 = 5;
 
 // The classes of pieces: the first word, the other words, other names, numbers, blanks and line feeds, brackets and
-// separators, places of symbols, the pieces of bounds, and, last, what is no piece of a proof file.
+// separators, places of symbols, the pieces of bounds, and, last, bytes that are no piece of a proof file.
 #[rattlefmt::skip]
 pub mod class {
     pub const KOAT: u32 = 0; pub const LEMMA: u32 = 1; pub const GAP: u32 = 2; pub const END: u32 = 3;
@@ -106,66 +106,66 @@ pub const PROOF_GRAMMAR: [Item; 436] = [
     AMark(mark::NODE_BEGINS), APiece(WEAKEN), APiece(BLANK), APiece(OPEN), AMade(PROOF), APiece(CLOSE), APiece(BLANK),
     APiece(TO), APiece(BLANK), APiece(IN_BOUND), AMade(BOUND), AMark(mark::WEAKEN_READ), Or, AMark(mark::NODE_BEGINS),
     APiece(COST), APiece(BLANK), AMade(RULE), APiece(BLANK), AMade(BY), AMade(RESTS), AMark(mark::COST_READ), End,
-    // rests
+    // premises
     APiece(BLANK), APiece(USES), APiece(BLANK), APiece(OPEN_BRACE), AMark(mark::USES_BEGIN), AMade(USED),
     AMark(mark::USES_READ), End,
-    // used
+    // the premises in braces
     APiece(CLOSE_BRACE), Or, AMade(PROOF), AMark(mark::USED_READ), AMade(MORE_USED), End,
-    // more used
+    // further premises
     APiece(CLOSE_BRACE), Or, APiece(SEMICOLON), APiece(BLANK), AMade(PROOF), AMark(mark::USED_READ), AMade(MORE_USED),
     End,
-    // number
+    // any number
     APiece(ZERO), Or, APiece(ONE), Or, APiece(TWO), Or, APiece(MORE), End,
-    // rule
+    // number of a rule
     AMark(mark::RULE_COMES), AMade(NUMBER), AMark(mark::RULE_READ), End,
-    // plain
+    // denominator
     AMark(mark::NUMBER_COMES), AMade(NUMBER), AMark(mark::NUMBER_READ), End,
-    // rules
+    // set of rules
     APiece(OPEN_SQUARE), AMade(SOME_RULES), End,
     // some rules
     APiece(CLOSE_SQUARE), Or, AMade(SET_RULE), AMade(MORE_RULES), End,
-    // set rule
+    // number of a rule in a set
     AMark(mark::RULE_COMES), AMade(NUMBER), AMark(mark::RULE_LISTED), End,
     // more rules
     APiece(CLOSE_SQUARE), Or, APiece(BLANK), AMade(SET_RULE), AMade(MORE_RULES), End,
-    // numbers
+    // list of natural numbers
     APiece(OPEN_SQUARE), AMark(mark::LIST_BEGINS), AMade(SOME_NUMBERS), End,
     // some numbers
     APiece(CLOSE_SQUARE), Or, AMade(LIST_NUMBER), AMade(MORE_NUMBERS), End,
-    // list number
+    // natural number in a list
     AMark(mark::NUMBER_COMES), AMade(NUMBER), AMark(mark::LISTED), End,
     // more numbers
     APiece(CLOSE_SQUARE), Or, APiece(BLANK), AMade(LIST_NUMBER), AMade(MORE_NUMBERS), End,
-    // integer
+    // number that may have a sign
     AMark(mark::INTEGER_COMES), AMade(NUMBER), AMark(mark::INTEGER_READ), Or, AMark(mark::INTEGER_COMES),
     APiece(MINUS), AMade(POSITIVE), AMark(mark::INTEGER_READ), End,
-    // positive
+    // number from 1 on
     APiece(ONE), Or, APiece(TWO), Or, APiece(MORE), End,
-    // integers
+    // list of coefficients and a constant
     APiece(OPEN_SQUARE), AMark(mark::LIST_BEGINS), AMade(INTEGER), AMade(MORE_INTEGERS), End,
     // more integers
     APiece(CLOSE_SQUARE), Or, APiece(BLANK), AMade(INTEGER), AMade(MORE_INTEGERS), End,
-    // form list
+    // forms
     APiece(OPEN_SQUARE), AMade(FORM), AMade(MORE_FORMS), End,
     // form
     AMark(mark::NAME_COMES), AMade(NAME), APiece(BLANK), AMade(INTEGERS), AMark(mark::FORM_READ), End,
     // more forms
     APiece(CLOSE_SQUARE), Or, APiece(SEMICOLON), APiece(BLANK), AMade(FORM), AMade(MORE_FORMS), End,
-    // move list
+    // lists of multipliers
     APiece(OPEN_SQUARE), AMade(NUMBERS), AMark(mark::MOVE_READ), AMade(MORE_MOVES), End,
     // more moves
     APiece(CLOSE_SQUARE), Or, APiece(SEMICOLON), APiece(BLANK), AMade(NUMBERS), AMark(mark::MOVE_READ),
     AMade(MORE_MOVES), End,
-    // member
+    // place with its local bound
     AMade(RULE), APiece(DOT), AMark(mark::PLACE_COMES), AMade(NUMBER), AMark(mark::SPOT_READ), APiece(BLANK),
     APiece(UP), APiece(BLANK), AMade(ARM), AMark(mark::UP_READ), APiece(BLANK), APiece(LOW), APiece(BLANK),
     AMade(ARM), AMark(mark::LOW_READ), End,
-    // members
+    // further places with their local bounds
     APiece(CLOSE_SQUARE), Or, APiece(SEMICOLON), APiece(BLANK), AMade(MEMBER), AMade(MEMBERS), End,
-    // arm
+    // side bound
     APiece(POLY), AMark(mark::POLY_READ), Or, APiece(LIN), APiece(BLANK), AMade(PLAIN), APiece(BLANK),
     AMade(INTEGERS), AMark(mark::ARM_FORM_READ), APiece(BLANK), AMade(NUMBERS), AMark(mark::ARM_READ), End,
-    // by
+    // how a cost is shown
     APiece(EMPTY), APiece(BLANK), AMade(NUMBERS), AMark(mark::BY_EMPTY_READ), Or, APiece(NEVER),
     AMark(mark::BY_NEVER_READ), Or, AMade(ARM), AMark(mark::BY_ARM_READ), End,
     // gap parts
@@ -177,17 +177,17 @@ pub const PROOF_GRAMMAR: [Item; 436] = [
     APiece(CLOSE_SQUARE), Or, APiece(PLACE), AMade(MORE_PLACES), End,
     // more places
     APiece(CLOSE_SQUARE), Or, APiece(BLANK), APiece(PLACE), AMade(MORE_PLACES), End,
-    // points
+    // scaled points
     APiece(OPEN_SQUARE), AMade(POINT), AMade(MORE_POINTS), End,
     // more points
     APiece(CLOSE_SQUARE), Or, APiece(SEMICOLON), APiece(BLANK), AMade(POINT), AMade(MORE_POINTS), End,
     // point
     APiece(OPEN_SQUARE), AMark(mark::LIST_BEGINS), AMade(PARTS), AMark(mark::POINT_READ), End,
-    // parts
+    // parts of a point, and its denominator
     AMark(mark::INTEGER_COMES), AMade(NUMBER), AMark(mark::INTEGER_READ), AMade(BEHIND_NUMBER), Or,
     AMark(mark::INTEGER_COMES), APiece(MINUS), AMade(POSITIVE), AMark(mark::INTEGER_READ), APiece(BLANK),
     AMade(PARTS), End,
-    // after number
+    // the end of a point, or its further parts
     APiece(CLOSE_SQUARE), Or, APiece(BLANK), AMade(PARTS), End,
     // bound
     APiece(IN_BOUND), AMade(BOUND), Or, End,

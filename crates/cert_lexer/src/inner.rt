@@ -15,7 +15,7 @@ pub struct Inner {
 /// The result of reading a bound.
 #[derive(Debug, Drop)]
 pub enum BoundRead {
-    /// The bound that its pieces spell.
+    /// The bound that the pieces spell.
     Stands(Bound),
     /// The first refusal, at the number of a piece, counted from 0, or after the last one.
     Refused(Fault<ProofKind>),

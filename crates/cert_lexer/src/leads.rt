@@ -7,10 +7,10 @@ ghost use Rattle.cert_lexer.specs.Outlines as plain;
 ghost use Rattle.cert_lexer.specs.declared.outline.Shape.TheVariants as shapes;
 ghost use Rattle.cert_lexer.specs.declared.outline.Stage.TheVariants as stages;
 
-use crate::outline::{BEGUN, Change, Frame, Innermost, Lead, Opening, Shape, Stage};
+use crate::outline::{BEGUN, Change, Frame, Innermost, Opening, OutlineStep, Shape, Stage};
 use bound_text::Piece as BoundPiece;
 
-// Whether it is this variable.
+// Whether the shape is that of this variable.
 fn is_input(variable: u32, shape: Option<Shape>) -> bool
     ensures { result ≡ plain.is_last_input variable shape }
 {
@@ -20,7 +20,7 @@ fn is_input(variable: u32, shape: Option<Shape>) -> bool
     }
 }
 
-// Some factor, where there is one.
+// The shape of some factor, if there is one.
 fn any_factor(some: bool) -> Option<Shape>
     ensures { result ≡ plain.any_factor some }
 {
@@ -38,7 +38,7 @@ fn before_last(last: Option<Shape>, before: Option<Shape>) -> Option<Shape>
     }
 }
 
-// Whether factors can be all of a term.
+// Whether a term can end after the factors.
 fn ends_term(before: Option<Shape>, last: Option<Shape>) -> bool
     ensures { result ≡ plain.ends_term before last }
 {
@@ -58,7 +58,7 @@ fn term_shape(before: Option<Shape>, last: Option<Shape>) -> Shape
     }
 }
 
-// Whether a bracket can close after a bound of a shape.
+// Whether a bracket can close after a bound of this shape.
 fn closes_behind(opening: Opening, shape: Shape) -> bool
     ensures { result ≡ plain.closes_behind opening shape }
 {
@@ -90,25 +90,25 @@ fn in_maximum(round: Option<Frame>) -> bool
     }
 }
 
-// A piece leads there with the same open brackets.
-fn stays(innermost: Innermost) -> Lead
+// The step that leads to this innermost bound and keeps the open brackets.
+fn stays(innermost: Innermost) -> OutlineStep
     ensures { result ≡ plain.stays innermost }
 {
-    Lead {
+    OutlineStep {
         innermost,
         change: Change::Keep,
     }
 }
 
-// The same where a test passes.
-fn stays_if(test: bool, innermost: Innermost) -> Option<Lead>
+// That step if a test passes, else none.
+fn stays_if(test: bool, innermost: Innermost) -> Option<OutlineStep>
     ensures { result ≡ when test (plain.stays innermost) }
 {
     if test { Some(stays(innermost)) } else { None }
 }
 
 impl Innermost {
-    // An item is the last factor then.
+    // The innermost bound with one more factor, an item.
     fn with_item(self, item: Shape) -> Innermost
         ensures { result ≡ plain.with_item item self }
     {
@@ -132,7 +132,7 @@ impl Innermost {
         }
     }
 
-    // The last factor is taken back.
+    // The innermost bound without its last factor, which `^` takes back.
     fn taken_back(self, stage: Stage) -> Innermost
         ensures terms { result.terms ≡ self.terms }
         ensures before { result.before ≡ None }
@@ -147,7 +147,7 @@ impl Innermost {
         }
     }
 
-    // The last factor is a run of a variable.
+    // The innermost bound whose last factor is a run of a variable.
     fn with_run(self, variable: u32) -> Innermost
         ensures terms { result.terms ≡ self.terms }
         ensures before { result.before ≡ Some (shapes.Input variable) }
@@ -162,8 +162,8 @@ impl Innermost {
         }
     }
 
-    // A bracket opens.
-    fn opens(self, opening: Opening) -> Lead
+    // The step with which a bracket opens.
+    fn opens(self, opening: Opening) -> OutlineStep
         ensures { result ≡ plain.opens opening self }
     {
         let frame = Frame {
@@ -171,13 +171,13 @@ impl Innermost {
             terms: self.terms,
             factors: self.last.is_some(),
         };
-        Lead {
+        OutlineStep {
             innermost: BEGUN,
             change: Change::Open(frame),
         }
     }
 
-    // The shape of the bound with the terms before.
+    // The shape of the bound that the terms and the factors make.
     fn bound_shape(self) -> Shape
         ensures { result ≡ plain.bound_shape self }
     {
@@ -188,15 +188,15 @@ impl Innermost {
         }
     }
 
-    // Whether the factors can be all of a term.
+    // Whether a term can end after the factors.
     fn ends_term(self) -> bool
         ensures { result ≡ plain.ends_term self.before self.last }
     {
         ends_term(self.before, self.last)
     }
 
-    // An item begins.
-    fn begins_item(self, piece: BoundPiece) -> Option<Lead>
+    // The step of a piece with which an item begins.
+    fn begins_item(self, piece: BoundPiece) -> Option<OutlineStep>
         ensures { result ≡ plain.begins_item self (piece_of piece) }
     {
         match piece {
@@ -211,8 +211,8 @@ impl Innermost {
         }
     }
 
-    // A run ends with its number.
-    fn ends_run(self, variable: u32, piece: BoundPiece) -> Option<Lead>
+    // The step of the number of a run.
+    fn ends_run(self, variable: u32, piece: BoundPiece) -> Option<OutlineStep>
         ensures { result ≡ plain.ends_run variable self (piece_of piece) }
     {
         match piece {
@@ -221,8 +221,8 @@ impl Innermost {
         }
     }
 
-    // An exponent begins.
-    fn begins_exponent(self, piece: BoundPiece) -> Option<Lead>
+    // The step of a piece with which an exponent begins.
+    fn begins_exponent(self, piece: BoundPiece) -> Option<OutlineStep>
         ensures { result ≡ plain.begins_exponent self (piece_of piece) }
     {
         match piece {
@@ -234,8 +234,8 @@ impl Innermost {
         }
     }
 
-    // `^` takes the last factor back.
-    fn takes_back(self) -> Option<Lead>
+    // The step of `^` after an item, which takes the last factor back.
+    fn takes_back(self) -> Option<OutlineStep>
         ensures { result ≡ plain.takes_back self.last self }
     {
         match self.last {
@@ -248,13 +248,13 @@ impl Innermost {
         }
     }
 
-    // A bracket closes.
-    fn closes(self, round: Option<Frame>) -> Option<Lead>
+    // The step of a closing bracket.
+    fn closes(self, round: Option<Frame>) -> Option<OutlineStep>
         ensures { result ≡ plain.closes round self }
     {
         let frame = round?;
         if self.ends_term() && closes_behind(frame.opening, self.bound_shape()) {
-            Some(Lead {
+            Some(OutlineStep {
                 innermost: frame.behind(),
                 change: Change::Close,
             })
@@ -263,15 +263,15 @@ impl Innermost {
         }
     }
 
-    // Whether an argument can end.
+    // Whether an argument can end after the factors.
     fn ends_argument(self, round: Option<Frame>) -> bool
         ensures { result ≡ plain.ends_argument round self }
     {
         in_maximum(round) && self.ends_term() && !matches!(self.bound_shape(), Shape::Maximum)
     }
 
-    // The state after a piece that follows an item.
-    fn follows_item(self, round: Option<Frame>, piece: BoundPiece) -> Option<Lead>
+    // The step of a piece that follows an item.
+    fn follows_item(self, round: Option<Frame>, piece: BoundPiece) -> Option<OutlineStep>
         ensures { result ≡ plain.follows_item round self (piece_of piece) }
     {
         match piece {
@@ -284,8 +284,8 @@ impl Innermost {
         }
     }
 
-    // After the `+` of ` + `.
-    fn ends_plus(self, piece: BoundPiece) -> Option<Lead>
+    // The step of a piece after the `+` of ` + `.
+    fn ends_plus(self, piece: BoundPiece) -> Option<OutlineStep>
         ensures { result ≡ plain.ends_plus (piece_of piece) }
     {
         match piece {
@@ -296,7 +296,7 @@ impl Innermost {
                     last: None,
                     stage: Stage::Begins,
                 };
-                Some(Lead {
+                Some(OutlineStep {
                     innermost,
                     change: Change::Term,
                 })
@@ -305,12 +305,12 @@ impl Innermost {
         }
     }
 
-    // After the `,` of `, `.
-    fn ends_comma(self, round: Option<Frame>, piece: BoundPiece) -> Option<Lead>
+    // The step of a piece after the `,` of `, `.
+    fn ends_comma(self, round: Option<Frame>, piece: BoundPiece) -> Option<OutlineStep>
         ensures { result ≡ plain.ends_comma round (piece_of piece) }
     {
         match piece {
-            BoundPiece::Blank if in_maximum(round) => Some(Lead {
+            BoundPiece::Blank if in_maximum(round) => Some(OutlineStep {
                 innermost: BEGUN,
                 change: Change::Argue,
             }),
@@ -318,8 +318,8 @@ impl Innermost {
         }
     }
 
-    /// Where a piece leads, inside the innermost open bracket, if one is open.
-    pub(crate) fn lead(self, round: Option<Frame>, piece: BoundPiece) -> Option<Lead>
+    /// The step of a piece, inside the innermost open bracket, if one is open; none if the piece can't follow.
+    pub(crate) fn lead(self, round: Option<Frame>, piece: BoundPiece) -> Option<OutlineStep>
         ensures { result ≡ plain.lead round self (piece_of piece) }
     {
         match self.stage {
@@ -338,7 +338,7 @@ impl Innermost {
 }
 
 impl Frame {
-    // The innermost bound after the bracket.
+    // The innermost bound after this bracket has closed.
     fn behind(self) -> Innermost
         ensures { result ≡ plain.behind_bracket self }
     {

@@ -1,4 +1,4 @@
-//! The levels of the parts of a bound, piece by piece, before the first part that is too deep.
+//! The levels of the parts of a bound, piece by piece, up to the first part that is too deep.
 
 ghost use Rattle.std.specs.Prelude.{◌≡◌, ◌≤◌, ◌++◌, ◌∷◌, ℕ, suc, List, [], Option, Some, None, OnOk, IfOk, map};
 ghost use Rattle.std.specs.Prelude.{length, if◌then◌else◌, ◌&&◌, ◌||◌};
@@ -6,9 +6,9 @@ ghost use Rattle.std.specs.Option.{option_map};
 ghost use Rattle.bound_text.specs.Inside.{Marks};
 ghost use Rattle.bound_text.specs.Printing.{piece_of};
 ghost use Rattle.cert_lexer.specs.Levels as plain;
-ghost use Rattle.cert_lexer.specs.Levels.{capped, raised, raised_from, first_begun};
+ghost use Rattle.cert_lexer.specs.Levels.{capped, raised, raised_from, first_open_part};
 ghost use Rattle.cert_lexer.specs.Outlines.{innermost_frame};
-ghost use Rattle.cert_lexer.specs.Shadows.{Holds, ShowsLevels, ShowsTaken, begun_in, capped_begun, frames_in};
+ghost use Rattle.cert_lexer.specs.Representation.{Holds, ShowsLevels, ShowsTaken, open_parts_in, capped_open_part, frames_in};
 
 use crate::bound_reading::BOUND_LEVELS;
 use crate::outline::{Change, Frame, Innermost, Opening, Outline, Shape, Stage};
@@ -23,16 +23,17 @@ pub(crate) struct OpenPart {
     pub start: u64,
 }
 
-/// The level of the part that begins with each piece, where one does, before the first that is too deep; and whether
-/// there is such a part.
+/// For each piece the level of the part that begins with it, if one does, up to the first part that is too deep; and
+/// whether there is such a part.
 #[derive(Drop)]
 pub(crate) struct PartLevels {
     pub levels: Vec<Option<u8>>,
     pub deep: bool,
 }
 
-/// The levels of the pieces read so far; their number, up to 2^64-1; and of the unfinished bounds those that began
-/// before the first part that is too deep, or with it, the outermost first. Those inside them change no stored level.
+/// The levels of the pieces read so far; the number of these pieces, up to 2^64-1; and the unfinished bounds that began
+/// before the first part that is too deep, or with it, the outermost first. The unfinished bounds inside them change no
+/// stored level.
 #[derive(Drop)]
 pub(crate) struct Levels {
     pub marked: PartLevels,
@@ -40,7 +41,7 @@ pub(crate) struct Levels {
     pub begun: Vec<OpenPart>,
 }
 
-// One node, or none.
+// 1 if a test passes, else 0: the number of nodes that count.
 fn node_if(counts: bool) -> u64
     ensures value { result ≡ plain.node_if counts }
     ensures small { result ≤ 1 }
@@ -68,7 +69,7 @@ fn is_product(before: Option<Shape>, last: Option<Shape>) -> bool
     }
 }
 
-// The level of a factor of the current term, where a product's node counts or doesn't.
+// The level of a factor of the current term, with the product's node or without it.
 fn factor_level(above: u64, round: Option<Frame>, innermost: Innermost, product: bool) -> u64
     ensures { (high : ℕ) → above ≡ capped high → result ≡ capped (plain.factor_level high round innermost product) }
 {
@@ -84,7 +85,7 @@ fn item_level(above: u64, round: Option<Frame>, innermost: Innermost) -> u64
     factor_level(above, round, innermost, innermost.last.is_some())
 }
 
-// The mark of a piece.
+// The level of the part that begins with a piece, if one does.
 fn mark_of(above: u64, round: Option<Frame>, innermost: Innermost, piece: BoundPiece) -> Option<u64>
     ensures { (high : ℕ) → above ≡ capped high
         → result ≡ option_map capped (plain.mark_of high round innermost (piece_of piece)) }
@@ -98,7 +99,7 @@ fn mark_of(above: u64, round: Option<Frame>, innermost: Innermost, piece: BoundP
     }
 }
 
-// Whether with a piece a node begins to count that is above the current term so far.
+// Whether, with this piece, a node begins to count that is above the current term so far.
 fn raises(round: Option<Frame>, innermost: Innermost, piece: BoundPiece) -> bool
     ensures { result ≡ plain.raises round innermost (piece_of piece) }
 {
@@ -120,7 +121,7 @@ fn above_in(opening: Opening, above: u64, round: Option<Frame>, innermost: Inner
     }
 }
 
-// A mark that is a level deeper.
+// A mark raised by one level.
 fn deeper(mark: Option<u8>) -> Option<u64>
     ensures { result ≡ option_map (λ level. capped (suc level)) mark }
 {
@@ -137,14 +138,14 @@ fn opens(change: Change) -> bool
     matches!(change, Change::Open(_))
 }
 
-// Whether both hold.
+// Whether both tests pass.
 fn both(first: bool, second: bool) -> bool
     ensures { result ≡ (first && second) }
 {
     first && second
 }
 
-// Whether one of them holds.
+// Whether at least one of the tests passes.
 fn either(first: bool, second: bool) -> bool
     ensures { result ≡ (first || second) }
 {
@@ -172,7 +173,7 @@ impl PartLevels {
         Ok(())
     }
 
-    // Appends marks, each a level deeper.
+    // Appends marks, each raised by one level.
     fn push_deeper(&mut self, marks: &[Option<u8>]) -> Result<(), AllocError>
         ensures { (before : Marks) → Holds self.old before
             → OnOk result (Holds self.new (before ++ raised marks.now)) }
@@ -185,7 +186,7 @@ impl PartLevels {
         Ok(())
     }
 
-    // All from a piece on are a level deeper.
+    // Raises all marks from a piece on by one level.
     fn raise(&mut self, start: u64) -> Result<(), AllocError>
         ensures { (marks : Marks) (at : ℕ) → start ≡ capped at → Holds self.old marks
             → OnOk result (Holds self.new (raised_from at marks)) }
@@ -199,7 +200,7 @@ impl PartLevels {
         Ok(())
     }
 
-    // The same where a node begins to count.
+    // Raises all marks from a piece on by one level, if a node begins to count.
     fn raise_if(&mut self, raises: bool, start: u64) -> Result<(), AllocError>
         ensures { (marks : Marks) (at : ℕ) → start ≡ capped at → Holds self.old marks
             → OnOk result (Holds self.new (if raises then raised_from at marks else marks)) }
@@ -209,7 +210,7 @@ impl PartLevels {
 }
 
 impl Levels {
-    /// Nothing has been read.
+    /// The levels in which nothing has been read.
     ///
     /// # Errors
     ///
@@ -229,7 +230,7 @@ impl Levels {
         })
     }
 
-    /// A piece that does this to the open brackets.
+    /// Takes a piece that changes the open brackets in this way.
     ///
     /// # Errors
     ///
@@ -253,7 +254,7 @@ impl Levels {
         }
     }
 
-    // The same where all bounds that aren't done are kept.
+    // Takes a piece, where all unfinished bounds are stored.
     fn take_inside(
         &mut self,
         round: Option<Frame>,
@@ -262,7 +263,7 @@ impl Levels {
         change: Change,
     ) -> Result<(), AllocError>
         ensures { (marks : Marks) (bs : List OpenPart) → Holds self.old.marked marks
-            → self.old.count ≡ capped (length marks) → begun_in self.old ≡ map capped_begun bs
+            → self.old.count ≡ capped (length marks) → open_parts_in self.old ≡ map capped_open_part bs
             → OnOk result (ShowsTaken self.new round innermost (piece_of piece) change marks bs) }
     {
         let begun = self.innermost();
@@ -277,10 +278,10 @@ impl Levels {
         self.change(change, round, innermost)
     }
 
-    // The innermost bound.
-    #[tactic(auto, using(crate::proofs::ListLaws::begun_last))]
+    // The innermost unfinished bound.
+    #[tactic(auto, using(crate::proofs::ListLaws::open_part_last))]
     fn innermost(&self) -> OpenPart
-        ensures { result ≡ first_begun (begun_in self.now) }
+        ensures { result ≡ first_open_part (open_parts_in self.now) }
     {
         match self.begun.last() {
             Some(begun) => *begun,
@@ -288,7 +289,7 @@ impl Levels {
         }
     }
 
-    // The effect of a piece on the bounds that aren't finished.
+    // Changes the unfinished bounds as a piece does.
     fn change(
         &mut self,
         change: Change,
@@ -296,8 +297,8 @@ impl Levels {
         innermost: Innermost,
     ) -> Result<(), AllocError>
         ensures begun { (next : ℕ) (bs : List OpenPart) → self.old.count ≡ capped next
-            → begun_in self.old ≡ map capped_begun bs
-            → OnOk result (begun_in self.new ≡ map capped_begun (plain.begun_behind change next round innermost bs)) }
+            → open_parts_in self.old ≡ map capped_open_part bs
+            → OnOk result (open_parts_in self.new ≡ map capped_open_part (plain.open_parts_after change next round innermost bs)) }
         ensures marked { self.new.marked ≡ self.old.marked }
         ensures count { self.new.count ≡ self.old.count }
     {
@@ -312,11 +313,11 @@ impl Levels {
         }
     }
 
-    // A term begins with the next piece.
+    // Notes that a term begins with the next piece.
     fn begin_term(&mut self) -> Result<(), AllocError>
         ensures begun { (next : ℕ) (bs : List OpenPart) → self.old.count ≡ capped next
-            → begun_in self.old ≡ map capped_begun bs
-            → OnOk result (begun_in self.new ≡ map capped_begun (plain.term_begins next bs)) }
+            → open_parts_in self.old ≡ map capped_open_part bs
+            → OnOk result (open_parts_in self.new ≡ map capped_open_part (plain.term_begins next bs)) }
         ensures marked { self.new.marked ≡ self.old.marked }
         ensures count { self.new.count ≡ self.old.count }
     {
@@ -329,7 +330,7 @@ impl Levels {
         Ok(())
     }
 
-    // A bracket opens.
+    // Adds the unfinished bound in a bracket that opens.
     fn open(
         &mut self,
         opening: Opening,
@@ -337,8 +338,8 @@ impl Levels {
         innermost: Innermost,
     ) -> Result<(), AllocError>
         ensures begun { (next : ℕ) (bs : List OpenPart) → self.old.count ≡ capped next
-            → begun_in self.old ≡ map capped_begun bs
-            → OnOk result (begun_in self.new ≡ map capped_begun (plain.begun_inside opening next round innermost bs)) }
+            → open_parts_in self.old ≡ map capped_open_part bs
+            → OnOk result (open_parts_in self.new ≡ map capped_open_part (plain.open_parts_inside opening next round innermost bs)) }
         ensures marked { self.new.marked ≡ self.old.marked }
         ensures count { self.new.count ≡ self.old.count }
     {

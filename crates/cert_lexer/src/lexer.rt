@@ -14,7 +14,7 @@ ghost use Rattle.cert_lexer.specs.Within.{lexes_within};
 
 use crate::bound_pieces::bound_lexeme;
 use crate::modes::{depth_behind, ends_before, ends_bound, mode_with};
-use crate::names::{Symbols, front_digits, front_name, goes_on, number_of};
+use crate::names::{Symbols, goes_on, leading_digits, leading_name, number_of};
 use crate::piece::{Behind, Mode, Piece};
 use crate::words::{sign_at, word_of};
 use bound_expr::CAP;
@@ -32,7 +32,7 @@ pub struct ProofLexer<'a> {
 }
 
 impl<'a> ProofLexer<'a> {
-    /// By the names of this program.
+    /// The lexer of the proof files of this program.
     ///
     /// # Errors
     ///
@@ -64,10 +64,10 @@ impl<'a> ProofLexer<'a> {
         ensures { lexeme_of result ≡ lexing.plain_lexeme (symbols_in self.now.symbols) first others.now }
     {
         if begins_name(first) {
-            let (name, _) = front_name(bytes, first, others);
+            let (name, _) = leading_name(bytes, first, others);
             self.name(name)
         } else if first.is_ascii_digit() {
-            digits(front_digits(bytes, first, others))
+            digits(leading_digits(bytes, first, others))
         } else {
             Lexeme {
                 piece: Some(sign_at(first)),
@@ -76,7 +76,7 @@ impl<'a> ProofLexer<'a> {
         }
     }
 
-    // The place of a symbol that a run of bytes represents, given the bytes after its last dot.
+    // The place of a symbol that a run of bytes denotes, where `after` are the bytes after its last dot.
     fn place_behind(&self, run: &[u8], after: &[u8]) -> Piece
         requires { length after.now < length run.now }
         ensures { result ≡ lexing.place_in (symbols_in self.now.symbols) run.now (Some after.now) }
@@ -92,7 +92,7 @@ impl<'a> ProofLexer<'a> {
         }
     }
 
-    // A run that is a name.
+    // The place without a number of a run of bytes that is a name.
     fn unplaced(&self, run: &[u8]) -> Piece
         ensures { result ≡ lexing.place_in (symbols_in self.now.symbols) run.now None }
     {
@@ -116,7 +116,7 @@ impl<'a> ProofLexer<'a> {
         }
     }
 
-    // The lexeme in a bound with this many open brackets, after this many of its pieces.
+    // The lexeme in a bound with this many open brackets, after this many of the bound's pieces.
     fn in_bound(
         &self,
         depth: u64,
@@ -159,7 +159,7 @@ impl<'a> Lexer for ProofLexer<'a> {
             }
             Mode::InShut => {
                 if begins_name(first) {
-                    let (run, _) = front_name(bytes, first, others);
+                    let (run, _) = leading_name(bytes, first, others);
                     return self.place(run);
                 }
             }
@@ -243,7 +243,7 @@ fn behind_last_dot<'b>(run: &'b [u8]) -> Option<&'b [u8]>
     after
 }
 
-// Whether bytes begin with `koat-proof`, which isn't the beginning of a longer word.
+// Whether bytes begin with `koat-proof`, and not with a longer word.
 fn is_first(bytes: &[u8]) -> bool
     ensures { result ≡ lexing.is_first bytes.now }
 {

@@ -30,7 +30,7 @@ pub use classes::class_of;
 pub use grammar::{CLASSES, PROOF_GRAMMAR, ROUNDS};
 pub use inner::{BoundRead, Inner};
 pub use kind::ProofKind;
-pub use law::{bounds_are_spelled, bounds_stand, worked_bounds_hold};
+pub use law::{bounds_are_answered, bounds_are_spelled, worked_bounds_hold};
 pub use lexer::ProofLexer;
 pub use packed::{Packed, PackedRest};
 pub use piece::{Behind, Mode, Piece, Sign, Word};

@@ -1,4 +1,4 @@
-//! Marks of packed pieces.
+//! Marks of packed pieces: a byte for each piece.
 
 ghost use Rattle.std.specs.Prelude.{◌≡◌, IfSome, Some};
 ghost use Rattle.cert_lexer.specs.Packing.{inner_with, short_inner, short_piece as piece_of_short};
@@ -8,7 +8,8 @@ ghost use Rattle.cert_lexer.specs.declared.marks.Source.TheVariants.{Known};
 use crate::inner::Inner;
 use bound_text::Piece as BoundPiece;
 
-/// A piece that is always spelled in one way, or one whose value and length are kept among the short or the long ones.
+/// A mark: that of a piece that is always spelled in one way, or that of a piece whose value and length are stored in
+/// the list of short or of long ones.
 #[derive(Clone, Copy)]
 pub(crate) enum Mark {
     Maximum,
@@ -40,7 +41,7 @@ pub(crate) struct Short {
     pub kind: ShortKind,
 }
 
-/// Where the piece of a mark is found: it is known by the mark, or is the next of the short or of the long ones.
+/// Where the piece of a mark is found: the mark determines it, or it is the next of the short or of the long pieces.
 #[derive(Clone, Copy)]
 pub(crate) enum Source {
     Known(Inner),
@@ -68,7 +69,7 @@ pub(crate) fn mark_source(mark: Mark) -> Source
     Source::Known(Inner { piece, len })
 }
 
-/// The mark by which a piece is known, where it has one.
+/// The mark of a piece that is always spelled in one way, if it is one.
 pub(crate) fn mark_of(piece: BoundPiece, len: u64) -> Option<Mark>
     ensures { IfSome result (λ mark. source_at mark ≡ Known (inner_with piece len)) }
 {
@@ -86,7 +87,7 @@ pub(crate) fn mark_of(piece: BoundPiece, len: u64) -> Option<Mark>
     }
 }
 
-/// A short piece, where this one is short.
+/// The short form of a piece, if its value and length are small enough.
 pub(crate) fn short_of(piece: BoundPiece, len: u64) -> Option<Short>
     ensures { IfSome result (λ short. short_inner short ≡ inner_with piece len) }
 {
@@ -107,7 +108,7 @@ pub(crate) fn short_of(piece: BoundPiece, len: u64) -> Option<Short>
     }
 }
 
-/// A short piece as a piece.
+/// The piece of a short form.
 pub(crate) fn short_piece(short: Short) -> Inner
     ensures { result ≡ short_inner short }
 {

@@ -1,4 +1,4 @@
-//! The modes of the lexer: what pieces leave open.
+//! The modes of the lexer: what the pieces read so far leave open.
 
 ghost use Rattle.std.specs.Prelude.{◌≡◌};
 ghost use Rattle.cert_lexer.specs.Lexing.{depth_behind as depth_behind_piece, ends_before as ends_before_bytes};
@@ -15,7 +15,7 @@ pub fn ends_bound(depth: u64, byte: u8) -> bool
     byte == b';' || byte == b'}' || byte == b'\n' || (byte == b')' && depth == 0)
 }
 
-// The mode after a piece, where no list or bound was open.
+// The mode after a piece, if no list and no bound is open before it.
 fn plain_behind(piece: Piece) -> Mode
     ensures { result ≡ plain_behind_piece piece }
 {
@@ -47,7 +47,7 @@ pub fn depth_behind(depth: u64, piece: BoundPiece) -> u64
     }
 }
 
-// How many pieces of a bound come before the next one.
+// The number of pieces of a bound before the next piece; 0 after the bound's last one.
 fn pieces_behind(before: u64, last: bool) -> u64
     ensures { result ≡ pieces_behind_piece before last }
 {

@@ -1,4 +1,4 @@
-//! Looks up the names of a program's symbols, by position, at the beginning of bytes.
+//! Looks up the names of a program's symbols at the beginning of bytes.
 
 ghost use Rattle.std.specs.Prelude.{◌≡◌, ◌∷◌, ◌^◌, ◌-◌, min, length, map, IfOk, IsTrue};
 ghost use Rattle.std.specs.List.{list_all};
@@ -15,7 +15,7 @@ use model::Memory;
 use std::alloc::Global;
 use text_core::{continues_name as continues, digits_len, name_len};
 
-/// The names of symbols, which all differ, each found by its bytes, near constant in their number.
+/// The names of symbols, which all differ, with a table from names to positions; a look-up takes near-constant time.
 #[derive(Drop)]
 pub struct Symbols<'a> {
     names: IndexSet<&'a [u8]>,
@@ -38,7 +38,7 @@ impl<'a> Symbols<'a> {
         Ok(Symbols { names: set })
     }
 
-    /// The position of a name among them, or the number of names where it isn't one of them.
+    /// The position of a name in the list, or the number of names if it isn't listed.
     pub fn position_or_count(&self, name: &[u8]) -> usize
         ensures { result ≡ position_of name.now (symbols_in self.now) }
     {
@@ -49,7 +49,7 @@ impl<'a> Symbols<'a> {
     }
 }
 
-/// A number that a `u32` holds, or the greatest that it holds.
+/// The number as a `u32`, or the greatest number that a `u32` holds.
 pub fn number_of(position: usize) -> u32
     ensures { result ≡ min position (2 ^ 32 - 1) }
 {
@@ -67,7 +67,7 @@ pub fn goes_on(bytes: &[u8]) -> bool
 }
 
 /// The name that bytes begin with, and the bytes after it.
-pub fn front_name<'b>(bytes: &'b [u8], first: u8, others: &[u8]) -> (&'b [u8], &'b [u8])
+pub fn leading_name<'b>(bytes: &'b [u8], first: u8, others: &[u8]) -> (&'b [u8], &'b [u8])
     requires { bytes.now ≡ first ∷ others.now }
     ensures name { result.0.now ≡ first ∷ prefix continues_name others.now }
     ensures behind { result.1.now ≡ rest continues_name others.now }
@@ -77,7 +77,7 @@ pub fn front_name<'b>(bytes: &'b [u8], first: u8, others: &[u8]) -> (&'b [u8], &
 }
 
 /// The digits that bytes begin with.
-pub fn front_digits<'b>(bytes: &'b [u8], first: u8, others: &[u8]) -> &'b [u8]
+pub fn leading_digits<'b>(bytes: &'b [u8], first: u8, others: &[u8]) -> &'b [u8]
     requires begins { bytes.now ≡ first ∷ others.now }
     requires digit { IsTrue (is_ascii_digit first) }
     ensures digits { result.now ≡ first ∷ prefix is_ascii_digit others.now }

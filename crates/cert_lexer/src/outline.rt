@@ -1,8 +1,8 @@
-//! Outlines: what steps look at of the part of a bound that has been read, in constant size and without a tree.
+//! Outlines: the data that steps depend on, of the pieces of a bound read so far, in constant size and without a tree.
 
 ghost use Rattle.std.specs.Prelude.{◌≡◌, OnOk, []};
 ghost use Rattle.cert_lexer.specs.Outlines as plain;
-ghost use Rattle.cert_lexer.specs.Shadows.{frames_in};
+ghost use Rattle.cert_lexer.specs.Representation.{frames_in};
 
 use std::alloc::{AllocError, Global};
 
@@ -56,8 +56,8 @@ pub(crate) struct Innermost {
     pub stage: Stage,
 }
 
-/// The effect of a piece on the open brackets: none, also where a term ends; it opens one, closes the innermost, or
-/// ends an argument in it.
+/// The change of the open brackets by a piece: none, also if a term ends; a bracket opens; the innermost bracket
+/// closes; or an argument in it ends.
 #[derive(Clone, Copy)]
 pub(crate) enum Change {
     Keep,
@@ -67,9 +67,9 @@ pub(crate) enum Change {
     Argue,
 }
 
-/// Where a piece leads.
+/// The result of a step: the innermost bound, and the change of the open brackets.
 #[derive(Clone, Copy)]
-pub(crate) struct Lead {
+pub(crate) struct OutlineStep {
     pub innermost: Innermost,
     pub change: Change,
 }
@@ -81,7 +81,7 @@ pub(crate) struct Outline {
     pub innermost: Innermost,
 }
 
-/// Nothing of a bound has been read.
+/// An innermost bound of which nothing has been read.
 pub(crate) const BEGUN: Innermost = Innermost {
     terms: false,
     before: None,
@@ -90,7 +90,7 @@ pub(crate) const BEGUN: Innermost = Innermost {
 };
 
 impl Outline {
-    /// Nothing has been read.
+    /// The outline in which nothing has been read.
     pub(crate) fn new(alloc: Global) -> Outline
         ensures frames { frames_in result ≡ [] }
         ensures innermost { result.innermost ≡ plain.begun }
@@ -109,12 +109,12 @@ impl Outline {
         self.frames.last().copied()
     }
 
-    /// A piece leads there.
+    /// Takes the step.
     ///
     /// # Errors
     ///
     /// `AllocError` where an allocation fails.
-    pub(crate) fn follow(&mut self, lead: Lead) -> Result<(), AllocError>
+    pub(crate) fn follow(&mut self, lead: OutlineStep) -> Result<(), AllocError>
         ensures frames { OnOk result (frames_in self.new ≡ plain.frames_behind lead.change (frames_in self.old)) }
         ensures innermost { OnOk result (self.new.innermost ≡ lead.innermost) }
     {
@@ -123,7 +123,7 @@ impl Outline {
         Ok(())
     }
 
-    // The effect of a piece on the open brackets.
+    // Changes the open brackets.
     fn change(&mut self, change: Change) -> Result<(), AllocError>
         ensures { OnOk result (frames_in self.new ≡ plain.frames_behind change (frames_in self.old)) }
     {

@@ -8,7 +8,7 @@ use crate::marks::{Mark, Short, Source, mark_of, mark_source, short_of, short_pi
 use bound_text::Piece as BoundPiece;
 use std::alloc::{AllocError, Global};
 
-/// Pieces of a bound, packed: a byte for each, eight more for a name or a number, and more only for one that is long.
+/// Pieces of a bound, packed: one byte for each piece, eight more for a name or a number, and more only for a long one.
 #[derive(Drop)]
 pub struct Packed {
     marks: Vec<Mark>,
@@ -18,7 +18,7 @@ pub struct Packed {
     ghost long: { longs_taken marks.items ≡ length longs.items },
 }
 
-/// Packed pieces that are left.
+/// The packed pieces that are left of a list.
 #[derive(Clone, Copy)]
 pub struct PackedRest<'a> {
     marks: &'a [Mark],
@@ -43,7 +43,7 @@ impl Packed {
         }
     }
 
-    /// One more piece, with this many bytes, at the end.
+    /// Appends a piece with this many bytes.
     ///
     /// # Errors
     ///
@@ -60,7 +60,7 @@ impl Packed {
         }
     }
 
-    // One that is known by its mark.
+    // Appends a piece that its mark determines.
     fn push_known(&mut self, mark: Mark, inner: Inner) -> Result<(), AllocError>
         requires known { source_at mark ≡ Known inner }
         ensures { OnOk result (inners_of self.new ≡ inners_of self.old ++ inner ∷ []) }
@@ -70,7 +70,7 @@ impl Packed {
         Ok(())
     }
 
-    // A short one.
+    // Appends a short piece.
     fn push_short(&mut self, short: Short) -> Result<(), AllocError>
         ensures { OnOk result (inners_of self.new ≡ inners_of self.old ++ short_inner short ∷ []) }
     {
@@ -84,7 +84,7 @@ impl Packed {
         }
     }
 
-    // A long one.
+    // Appends a long piece.
     fn push_long(&mut self, inner: Inner) -> Result<(), AllocError>
         ensures { OnOk result (inners_of self.new ≡ inners_of self.old ++ inner ∷ []) }
     {
@@ -98,7 +98,7 @@ impl Packed {
         }
     }
 
-    /// All of them, as those that are left.
+    /// All pieces, as those that are left.
     pub fn rest(&self) -> PackedRest<'_>
         ensures { inners_in result ≡ inners_of self.now }
     {
@@ -114,7 +114,7 @@ impl<'a> PackedRest<'a> {
     ghost use Rattle.std.specs.Prelude.{◌∷◌, MatchOption};
     ghost use Rattle.cert_lexer.specs.Packed.{inners_in};
 
-    /// How many are left.
+    /// The number of pieces left.
     pub fn len(&self) -> usize
         ensures { result ≡ length (inners_in self.now) }
     {

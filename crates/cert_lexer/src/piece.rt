@@ -31,7 +31,7 @@ pub enum Word {
     To,
     Shut,
     Kept,
-    /// No word of proof files.
+    /// A name that is no word of proof files.
     Other,
 }
 
@@ -62,12 +62,12 @@ pub enum Sign {
     Minus,
 }
 
-/// The part after the last dot of a place of a symbol.
+/// The part of a place of a symbol after its last dot.
 #[derive(Clone, Copy, Debug, PartialEq, Eq)]
 pub enum Behind {
-    /// There is no dot that is followed by digits alone: the whole is a name.
+    /// No dot is followed by digits alone: the whole is a name.
     NoNumber,
-    /// The dot ends it.
+    /// Nothing follows the dot.
     Nothing,
     /// Digits with a leading zero.
     LeadingZero,
@@ -87,7 +87,7 @@ pub enum Piece {
     Number(u128),
     /// A sign: a piece of one byte.
     Sign(Sign),
-    /// A place in the list of shut ones: a symbol, and the part after the dot.
+    /// A place in a list of shut places: a symbol, and the part after the dot.
     Place(u32, Behind),
     /// A piece of a bound, its number of bytes, and whether the bound ends after it.
     InBound(BoundPiece, u64, bool),
@@ -98,7 +98,7 @@ pub enum Piece {
 /// The mode: what the pieces before leave open.
 #[derive(Clone, Copy, Debug, PartialEq, Eq)]
 pub enum Mode {
-    /// Nothing was read.
+    /// Nothing has been read.
     Beginning,
     /// Nothing is open.
     Plain,
@@ -106,10 +106,10 @@ pub enum Mode {
     InShut,
     /// `)` was read last.
     Closed,
-    /// `)` and a blank.
+    /// `)` and a blank were read last.
     ClosedBlank,
-    /// `) to`
+    /// `) to` was read last.
     To,
-    /// A bound, with this many open brackets, of which this many pieces were read.
+    /// A bound is open, with this many open brackets, and this many of its pieces were read.
     InBound(u64, u64),
 }

@@ -1,4 +1,4 @@
-//! The state that is carried of a bound while its pieces are read.
+//! The state that is carried while the pieces of a bound are read.
 
 ghost use Rattle.std.specs.Prelude.{◌≡◌, IfOk, Option, None, if◌then◌else◌, ◌||◌, true};
 ghost use Rattle.bound_text.specs.Fronts.{Front};
@@ -16,8 +16,8 @@ use bound_text::{Piece as BoundPiece, Reader};
 use std::alloc::{AllocError, Global};
 use text_grammar::Fault;
 
-/// The tree, as long as nothing is refused; and the state without it. So the tree has about 4,097 nodes at most, and
-/// about 201 levels.
+/// The tree, as long as nothing is refused; and the state without it. Since the tree is dropped at the first refusal,
+/// it has at most about 4,097 nodes and 201 levels.
 #[derive(Drop)]
 pub(crate) struct Reading {
     pub reader: Option<Reader>,
@@ -25,7 +25,7 @@ pub(crate) struct Reading {
 }
 
 impl Reading {
-    /// Nothing has been read.
+    /// The state in which nothing has been read.
     ///
     /// # Errors
     ///
@@ -40,8 +40,8 @@ impl Reading {
         })
     }
 
-    /// Takes a piece, over this many start arguments, with these pieces after it. If there is a tree, returns the
-    /// piece's first fault.
+    /// Takes a piece, over this many start arguments, with these pieces after it. Returns the piece's first fault if
+    /// there is a tree.
     ///
     /// # Errors
     ///
@@ -65,14 +65,15 @@ impl Reading {
                     self.reader = Some(reader);
                     Ok(stepped)
                 }
-                None => Ok(StepResult::Led(None)),
+                None => Ok(StepResult::Accepted(None)),
             }
         } else {
-            Ok(StepResult::Off)
+            Ok(StepResult::Rejected)
         }
     }
 
-    /// Drops the tree once something is refused, by now or with a part that is too deep, as it isn't needed any more.
+    /// Drops the tree once something is refused, by a refusal so far or by a part that is too deep, as it isn't needed
+    /// any more.
     pub(crate) fn settle(&mut self, refused: bool)
         ensures follower { self.new.follower ≡ self.old.follower }
         ensures reader { self.new.reader

@@ -6,7 +6,7 @@ ghost use Rattle.cert_lexer.specs.Lexing.{other_words, sign_at as sign_of_byte, 
 
 use crate::piece::{Piece, Sign, Word};
 
-/// Which word a name is.
+/// The word that a name is.
 pub fn word_of(name: &[u8]) -> Word
     ensures { result ≡ word_of_name name.now }
 {
@@ -41,7 +41,7 @@ pub fn word_of(name: &[u8]) -> Word
     }
 }
 
-// The word that a name is, among those inside nodes and gaps.
+// The word that a name is, among the words inside nodes and gaps.
 fn other_word(name: &[u8]) -> Word
     ensures { result ≡ word_among other_words words.Other name.now }
 {

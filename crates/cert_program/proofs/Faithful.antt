@@ -1,4 +1,4 @@
--- Why the setting of a valid program says what is true.
+-- Why the setting of a valid program is true of it.
 use Rattle.std.proofs.Common.{◌≡◌, ◌↔◌, ℕ, zero, suc, ◌≤◌, Bool, true, false, if◌then◌else◌, List, [], ◌∷◌, ◌++◌}
 use Rattle.std.proofs.Common.{map, slice_get, option_map, Option, Some, None, refl, sym, ap, ◌∙◌, subst, arith}
 use Rattle.std.specs.Prelude.{ℤ, pos}
@@ -25,7 +25,7 @@ use Rattle.cert_program.specs.Setting.{rows_in, new_values_in, polys_in, nonline
 use Rattle.cert_program.specs.Setting.{setting_of}
 use Rattle.cert_program.specs.Laws.{SettingsAreFaithful, AcceptedFactsHold, IsNonlinearUpdate, PolynomialsAreNonlinear}
 
--- the value of the form at a position is that position's value
+-- the value of the form at a position is the value of that position's form
 value-form_at : (fs : List Form) (z : ℕ → ℤ) (i : ℕ)
     → form_value (form_at fs i) z (pos 1) ≡ at (map (λ f. form_value f z (pos 1)) fs) i
 value-form_at [] z i = refl
@@ -70,7 +70,7 @@ step-point p v c s d i =
           ∙ ap (λ (xs : List ℤ). at xs j) (sym i.leads.values));
     }
 
--- the new value of a cost rule is its only one
+-- the form at position 0 is the only new value of a cost rule
 only-new : (r : Rule) (e : Term) → new_values_of (cost_rule r e) ≡ form_at (new_values_of (cost_rule r e)) 0 ∷ []
 only-new r e = go (is_nonlinear (expanded e)) refl
   where
@@ -107,7 +107,7 @@ cost-point p v c s d i =
           (λ j x e. value-only (c.values ++ s.free) i.cost j x e ∙ ap (λ (xs : List ℤ). at xs j) (sym i.leads.values));
     }
 
--- the setting of a program is faithful
+-- the setting of a valid program is true of it
 pub settings-faithful : SettingsAreFaithful
 settings-faithful = record {
   each = λ p v. record {
@@ -120,13 +120,13 @@ settings-faithful = record {
   };
 }
 
--- accepted facts hold
+-- the facts of accepted lemmas hold
 pub accepted-hold : AcceptedFactsHold
 accepted-hold = record {
   each = λ p v proofs h. accepted_facts_hold.each (setting_of p) (settings-faithful.each p v) proofs h;
 }
 
--- the polynomial of degree 2 or more at a position
+-- a polynomial that `nonlinear_at` gives is the one at the position, and has degree 2 or more
 nonlinear_at-is : (qs : List Polynomial) (i : ℕ) (q : Polynomial) → nonlinear_at qs i ≡ Some q
     → (slice_get qs i ≡ Some q) × (2 ≤ degree_of q)
 nonlinear_at-is [] i q e = absurd (none_some e)

@@ -1,4 +1,4 @@
--- The claims of a file that is accepted for a valid program are true, and over which rows.
+-- The claims of a file that is accepted for a valid program are true.
 use Rattle.std.proofs.Common.{◌≡◌, refl, Option, Some, None}
 use Rattle.guard_prep.specs.model.Programs.{Rule, rule_at}
 use Rattle.std.proofs.lemmas.List.Elements.{All-weaker}
@@ -10,7 +10,7 @@ use Rattle.cert_program.specs.Laws.{AcceptedFilesHold, FormsAreThoseOfSettings}
 use Rattle.cert_program.proofs.Faithful.{accepted-hold}
 use Rattle.cert_program.proofs.RankedSets.{gap-excludes_all}
 
--- the rows and the new values of a rule, where there is one
+-- the rows of the forms of a rule are its prepared rows
 rows-same : (o : Option Rule) → (forms_in o).rows ≡ rows_in o
 rows-same None = refl
 rows-same (Some r) = refl
@@ -19,11 +19,11 @@ new_values-same : (o : Option Rule) → (forms_in o).new_values ≡ new_values_i
 new_values-same None = refl
 new_values-same (Some r) = refl
 
--- are those of the setting
+-- the forms of a program's rules have the rows and new values of the setting
 pub forms-same : FormsAreThoseOfSettings
 forms-same = record { rows = λ p t. rows-same (rule_at p t); new_values = λ p t. new_values-same (rule_at p t) }
 
--- a gap that holds excludes every function
+-- every file that is accepted for a valid program holds
 pub files-hold : AcceptedFilesHold
 files-hold = record {
   each = λ p valid f h. record {

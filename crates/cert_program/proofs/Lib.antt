@@ -1,4 +1,4 @@
--- the setting of a valid program is faithful to it, so accepted files hold
+-- Laws of settings: the setting of a valid program is true of it, so accepted files hold.
 pub mod Faithful
 pub mod Small
 pub mod RankedSets

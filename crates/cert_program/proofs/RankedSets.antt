@@ -1,4 +1,4 @@
--- A set of rules of a valid program is a set as questions see it, and its symbols are those of acceptance.
+-- A set of rules of a valid program is a set as questions need it, and its symbols are those of acceptance.
 use Rattle.std.proofs.Common.{◌≡◌, ℕ, zero, suc, ◌+◌, ◌<◌, ◌≤◌, ap, arith, refl, sym, ◌∙◌, subst, Bool, true, false, ◌||◌}
 use Rattle.std.proofs.Common.{◌≢◌, ◌⊎◌, inl, inr, List, [], ◌∷◌, length, if◌then◌else◌, Option, Some, None, nat_eq}
 use Rattle.std.specs.Prelude.{◌==◌, slice_index_or}
@@ -31,7 +31,7 @@ use Rattle.cert_rules.proofs.CheckLists.{in-each}
 use Rattle.cert_rules.proofs.GapExclusion.{gap-excludes}
 use Rattle.cert_program.specs.RankedSets.{forms_of, forms_in, forms_at, ranked_set}
 
--- the forms of a rule have no coefficient past its unknowns
+-- the forms of a rule have no coefficients past its unknowns
 pub prepared-shaped : (a b : ℕ) (r : Rule) → IsPreparable r → IsRuleShaped (forms_of a b (prepared r))
 prepared-shaped a b r h = record {
   left_fits = (let e : r.left ≤ unknowns_of r = omega arith in e);
@@ -56,7 +56,7 @@ length-new_values width k (p ∷ ps) = go (is_nonlinear p) (length-new_values wi
     go true e f = ap (λ (n : ℕ). suc n) e
     go false e f = ap (λ (n : ℕ). suc n) f
 
--- the index of a number in a list that contains it
+-- a number in a list is at some index of it
 pub standing : (x : ℕ) (xs : List ℕ) → is_in x xs ≡ true → (i : ℕ) × (i < length xs) × (slice_index_or xs i 0 ≡ x)
 standing x [] h = absurd (true≢false (sym h))
 standing x (y ∷ ys) h = go (x == y) refl h (λ g. standing x ys g)
@@ -72,7 +72,7 @@ pub in-all : (P : ℕ → Type 0) (x : ℕ) (xs : List ℕ) → All P xs → is_
 in-all P x xs h i = let r = standing x xs i in subst P r.2 (h r.0 0 r.1)
 
 module _ (p : Program) (set : List ℕ) (strict : ℕ) (shut : List SymbolPlace) where
-  -- a rule of the program is a rule as questions see it
+  -- a rule of a valid program has the properties that questions need of a rule
   pub rule-of : (t : ℕ) (r : Rule) → IsValid p → rule_at p t ≡ Some r
       → IsRuleOf (ranked_set p set strict shut) (forms_of r.source r.target (prepared r))
   rule-of t r v e =
@@ -95,7 +95,7 @@ module _ (p : Program) (set : List ℕ) (strict : ℕ) (shut : List SymbolPlace)
       subst (λ (o : Option Rule). IsRuleOf (ranked_set p set strict shut) (forms_in o)) (sym i.numbered)
       (rule-of t i.rule v i.numbered)
 
-  -- the ranked set of rules has a set's properties
+  -- a ranked set of rules has the properties that questions need of a set
   pub set-is : IsValid p → All (IsRule p) set → is_in strict set ≡ true → IsSetOf (ranked_set p set strict shut)
   set-is v rules inside =
       let at = standing strict set inside in record {
@@ -106,7 +106,7 @@ module _ (p : Program) (set : List ℕ) (strict : ℕ) (shut : List SymbolPlace)
         strict = at.2;
       }
 
-  -- a symbol is one of the set where a rule of the set leaves it or leads to it
+  -- a symbol is a source or target of the set's rules if a rule of the set leaves it or leads to it
   has-touches : (xs : List ℕ) → All (IsRule p) xs → (a : ℕ)
       → list_any (λ t. nat_eq (forms_in (rule_at p t)).source a || nat_eq (forms_in (rule_at p t)).target a) xs
       ≡ touches p xs a

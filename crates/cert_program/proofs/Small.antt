@@ -24,12 +24,12 @@ large-same m n e = sym (back e)
 not-both : (b : Bound) (n : ℕ) → Fits b ≡ TooLarge n → ⊥
 not-both b n e = cc
 
--- the answer by whether the bound is large, and whether its rewriting is
+-- the answer, by whether the bound is large, and whether its rewriting is
 abbrev size_answer : Bool → Bool → Bound → Answer
 size_answer before after b =
     if before then TooLarge (capped_node_count b) else if after then TooLarge (capped_node_count (rewritten b)) else Fits (rewritten b)
 
--- where a test gives true, it doesn't give false
+-- true isn't false
 refuted : (v : Bool) → v ≡ true → v ≡ false → ⊥
 refuted v e f = true≢false (sym e ∙ f)
 

@@ -25,7 +25,7 @@ bounded-small : (q : Polynomial) → IsBounded coefficient_limit q → HasSmallC
 bounded-small [] h = tt
 bounded-small (m ∷ q) h = (omega (arith, h.0), bounded-small q h.1)
 
--- if there is no polynomial, none is given
+-- no polynomial is given if there is none
 no_nonlinear : (q : Polynomial) → None ≡ Some q → ⊥
 no_nonlinear q e = cc
 
@@ -69,7 +69,7 @@ costs-small p valid t q e = go (rule_at p t) refl e
     go None k h = absurd (no_nonlinear q h)
     go (Some r) k h = cost-small r q (valid-at p t r valid k).cost h
 
--- a bound that the table in force rewrites becomes tidy, and reads no more inputs
+-- a bound that the table in force rewrites becomes tidy, and reads no further inputs
 pub settings-tidying : SettingsAreTidying
 settings-tidying = record {
   each = λ p valid. record {

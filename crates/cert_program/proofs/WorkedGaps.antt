@@ -1,4 +1,4 @@
--- Rules of small programs as forms, sets of them, and gaps over them.
+-- The worked rules of small programs as forms, sets of them, and gaps over them.
 use Rattle.std.proofs.Common.{◌≡◌, inl, ℕ, true, [], ◌∷◌, refl, arith}
 use Rattle.std.specs.Prelude.{pos, negsuc}
 use Rattle.std.proofs.lemmas.Int.{ints}
@@ -31,7 +31,7 @@ sets_worked_out = record {
   not_shut = refl;
 }
 
--- the shape of a gap over one rule
+-- a gap over one rule has the right shape
 shape-alone : (p : Program) (t : ℕ) (move floor kept : ScaledPoint) → IsRule p t → is_in t (t ∷ []) ≡ true
     → IsGapPoint (forms_at p t) (point_of (t ∷ []) (move ∷ []) t) → IsGapPoint (forms_at p t) floor
     → IsGapPoint (forms_at p t) (point_of (t ∷ []) (kept ∷ []) t)
@@ -47,7 +47,7 @@ shape-alone p t move floor kept i e m f k = record {
   floor = f;
 }
 
--- the gap of the rule that keeps its place
+-- the gap of the rule that keeps its place holds
 staying_holds : GapHolds three_rules (forms_at three_rules) (gap_alone 3 one nowhere one)
 unfolding divisor_of
 staying_holds =
@@ -58,7 +58,7 @@ staying_holds =
     (one_point (forms_at three_rules 3) refl (pos 1) 1 (omega arith) (omega arith)))
     (both (no_rows one) (both (no_rows nowhere) (both free_kept (both refl (both refl (both (loses_one 0) tt)))))))
 
--- the points of the rule that squares
+-- the points of the rule that squares, with a part for the square
 abbrev square : ScaledPoint
 square = scaled (pos 1 ∷ pos 1 ∷ []) 1
 
@@ -68,7 +68,7 @@ square_floor = scaled (pos 0 ∷ pos 0 ∷ []) 0
 square_kept : IsPointOf [] square
 square_kept = record { denominator = omega (arith, ints); meets = no_rows square }
 
--- its gap
+-- the gap of the rule that squares holds
 squaring_holds : GapHolds three_rules (forms_at three_rules) (gap_alone 2 square square_floor square)
 unfolding divisor_of
 squaring_holds =
@@ -80,7 +80,7 @@ squaring_holds =
     (both (no_rows square) (both (no_rows square_floor) (both square_kept (both refl (both refl
     (both (loses_one 0) tt)))))))
 
--- one part isn't two
+-- 1 isn't 2
 few_parts : ¬ (◌≡◌ {A = ℕ} 1 2)
 few_parts e = omega (arith, e)
 
@@ -112,7 +112,7 @@ halving_shape =
     (one_point (forms_at three_rules 1) refl (pos 0) 0 (omega arith) (omega arith))
     (one_point (forms_at three_rules 1) refl (pos 2) 1 (omega arith) (omega arith))
 
--- the program with names
+-- the program with names is valid
 valid_looping : IsValid looping
 valid_looping = record {
   symbols = (record { name = (refl, refl); arity = omega arith }, tt);
@@ -142,7 +142,7 @@ valid_looping = record {
   start_distinct = (refl, tt);
 }
 
--- the gap of this program
+-- the gap of the program with names holds
 looping_gap : GapHolds looping (forms_at looping) (gap_alone 1 one nowhere one)
 unfolding divisor_of
 looping_gap =

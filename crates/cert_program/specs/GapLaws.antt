@@ -1,4 +1,4 @@
--- Gaps of programs, and what one that holds proves of a valid program.
+-- Gaps of programs, and that a gap that holds for a valid program excludes ranking functions.
 use Rattle.std.specs.Prelude.{◌≡◌, ℕ, List}
 use Rattle.guard_prep.specs.model.Programs.{Program}
 use Rattle.guard_prep.specs.its_model.Valid.{IsValid}

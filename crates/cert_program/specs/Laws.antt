@@ -1,4 +1,4 @@
--- The settings of valid programs are true, and what accepted lemmas prove of such programs.
+-- The settings of valid programs are true of them, and what accepted lemmas prove of such programs.
 use Rattle.std.specs.Prelude.{◌≡◌, ◌↔◌, ℕ, ◌≤◌, List, length, All, Some, slice_get}
 use Rattle.guard_prep.specs.model.Bounds.{Bound}
 use Rattle.guard_prep.specs.model.Programs.{Program, Rule, rule_at}
@@ -20,8 +20,8 @@ use Rattle.cert_rules.specs.Printable.{IsTidying, HasTidyFactNumbers, IsPrintabl
 use Rattle.cert_program.specs.Setting.{setting_of}
 use Rattle.cert_program.specs.RankedSets.{forms_at, ranked_set}
 
--- the setting of a valid program says what is true: each step is a point of its rule's rows, each step by a cost rule a
--- point of the cost rows, rewriting keeps values and bases, and what is below has no greater value
+-- the setting of a valid program is true of it: each step is a point of its rule's rows, each step by a cost rule a
+-- point of the cost rows, rewriting keeps values and bases, and a bound that is below another is never greater
 pub record SettingsAreFaithful : Type 0 where
   pub each : (p : Program) → IsValid p → IsFaithful (setting_of p)
 
@@ -35,7 +35,7 @@ pub record AcceptedFactsHold : Type 0 where
 abbrev pub AcceptsFileFor : Program → ProofFile → Type 0
 AcceptsFileFor p f = AcceptsFile (setting_of p) (forms_at p) f
 
--- the rows and new values of a rule in questions are those over which nodes are judged
+-- the forms of a rule in questions have the rows and new values over which nodes are checked
 pub record FormsAreThoseOfSettings : Type 0 where
   pub rows : (p : Program) (t : ℕ) → (forms_at p t).rows ≡ (setting_of p).rows t
   pub new_values : (p : Program) (t : ℕ) → (forms_at p t).new_values ≡ (setting_of p).new_values t
@@ -63,7 +63,7 @@ pub record AcceptedFactsArePrintable : Type 0 where
       → All WritesTidyBounds proofs
       → All (All (IsPrintableFact (length p.start_names))) (facts_of_lemmas (setting_of p) proofs)
 
--- the expanded update at a place, and it has degree 2 or more
+-- the polynomial is the expanded update at a place of the rule, and has degree 2 or more
 pub record IsNonlinearUpdate (r : Rule) (i : ℕ) (q : Polynomial) : Type 0 where
   pub update : slice_get (polys_of r) i ≡ Some q
   pub degree : 2 ≤ degree_of q

@@ -1,7 +1,7 @@
 -- The definitions that the contracts of this crate, and of crates above it, cite.
 pub mod Setting
 pub mod RankedSets
--- laws, and values that were worked out by hand
+-- laws and worked values
 pub mod Laws
 pub mod GapLaws
 pub mod Worked

@@ -1,5 +1,5 @@
 -- The rules of a program as the definitions of acceptance and of questions use them: each rule as forms, and sets of
--- rules with their shut places and the entered symbols.
+-- rules with their shut places and the symbols that are entered.
 use Rattle.std.specs.Prelude.{ℕ, Bool, List, [], length, Option, Some, None}
 use Rattle.std.specs.List.{list_any}
 use Rattle.guard_prep.specs.model.Programs.{Program, Rule, rule_at, arity_of}
@@ -9,7 +9,7 @@ use Rattle.guard_prep.specs.linear_forms.RuleQuestions.{RuleForms, RankedSet}
 use Rattle.guard_prep.specs.Prepared.{Prepared, prepared}
 use Rattle.cert_rules.specs.Gaps.{SymbolPlace, is_shut}
 
--- a rule from one symbol to another, with these prepared rows, as questions see it
+-- the forms of a rule from one symbol to another, with these prepared rows
 abbrev pub forms_of : ℕ → ℕ → Prepared → RuleForms
 forms_of source target m = record {
   source = source;
@@ -29,12 +29,11 @@ forms_in (Some r) = forms_of r.source r.target (prepared r)
 abbrev pub forms_at : Program → ℕ → RuleForms
 forms_at p t = forms_in (rule_at p t)
 
--- an entry of the set leads to the symbol: a rule outside it, or the virtual entry, that leads to where a rule of it
--- comes from
+-- the symbol is entered: a rule outside the set, or the virtual entry, leads to it, and a rule of the set leaves it
 abbrev pub is_entered : Program → List ℕ → ℕ → Bool
 is_entered p set a = list_any (λ e. same_symbol (Some a) (target_of p e)) (entries p set)
 
--- a set of rules of a program, one of which has to decrease, with shut places
+-- a set of rules of a program, one of which is strict, with shut places
 abbrev pub ranked_set : Program → List ℕ → ℕ → List SymbolPlace → RankedSet
 ranked_set p set strict shut = record {
   symbols = length p.symbols;

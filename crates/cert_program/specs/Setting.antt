@@ -44,8 +44,9 @@ cost_rule_in (Some r) = option_map (λ c. cost_rule r c) r.cost
 abbrev pub cost_rule_at : Program → ℕ → Option Rule
 cost_rule_at p t = cost_rule_in (rule_at p t)
 
--- the rows and new values of each rule, and the updates of degree 2 and more; the rows and the new value of each cost
--- rule, and the cost where it has degree 2 or more; the rewriting by the table in force; and the order below
+-- the setting of a program: the rows and new values of each rule, and its updates of degree 2 and more; the rows and
+-- the new value of each cost rule, and the cost if it has degree 2 or more; the rewriting by the table in force; and
+-- the order `below`
 abbrev pub setting_of : Program → Setting
 setting_of p = record {
   program = p;

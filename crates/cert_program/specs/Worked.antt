@@ -5,7 +5,7 @@ use Rattle.guard_prep.specs.model.Programs.{MoreThan, Compare, Rule, Program}
 use Rattle.guard_prep.specs.linear_forms.Forms.{Form}
 use Rattle.cert_program.specs.Setting.{setting_of}
 
--- k(A) -> k(A - 2) where 2 * A > 3, for a cost of 2 * A - 5; k(A) -> k(A * A), for a cost of A * A; and k(A) -> k(A)
+-- k(A) -> k(A - 2) where 2 * A > 3, with the cost 2 * A - 5; k(A) -> k(A * A), with the cost A * A; and k(A) -> k(A)
 abbrev pub halving : Rule
 halving = record {
   source = 0;

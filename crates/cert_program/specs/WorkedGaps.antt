@@ -1,4 +1,4 @@
--- Worked values of the rules of small programs as questions see them, of sets of them, and of gaps over them.
+-- Worked values of the rules of small programs as forms, of sets of them, and of gaps over them.
 use Rattle.std.specs.Prelude.{◌≡◌, ℕ, true, false, [], ◌∷◌, pos, None}
 use Rattle.guard_prep.specs.model.Terms.{Variable}
 use Rattle.guard_prep.specs.model.Programs.{Rule, Program}
@@ -12,7 +12,7 @@ use Rattle.cert_rules.specs.WorkedGaps.{FailsAlone, scaled, one, nowhere, gap_wi
 use Rattle.cert_program.specs.RankedSets.{forms_at, is_entered, ranked_set}
 use Rattle.cert_program.specs.Worked.{form, three_rules}
 
--- the rule that squares as questions see it, and what they see where there is no rule
+-- the forms of the rule that squares, and the forms where there is no rule
 abbrev pub squaring_forms : RuleForms
 squaring_forms = record {
   source = 0;
@@ -30,8 +30,8 @@ no_forms = record { source = 0; target = 0; left = 0; unknowns = 0; rows = []; n
 abbrev pub first_place : SymbolPlace
 first_place = record { symbol = 0; place = 1 }
 
--- the square has an unknown of its own; there is no rule 0. The rules after the first one and the virtual entry enter
--- the symbol of the first one; no rule enters an empty set. A place is shut exactly if it is listed
+-- the square has an unknown of its own; there is no rule 0. The symbol of the first rule is entered by the rules after
+-- it and by the virtual entry; no symbol of an empty set is entered. A place is shut exactly if it is listed
 pub record RankedSetsAreAsWorkedOut : Type 0 where
   pub forms : forms_at three_rules 2 ≡ squaring_forms
   pub forms_of_none : forms_at three_rules 0 ≡ no_forms
@@ -40,7 +40,7 @@ pub record RankedSetsAreAsWorkedOut : Type 0 where
   pub shut : (ranked_set three_rules (3 ∷ []) 3 (first_place ∷ [])).shut 0 1 ≡ true
   pub not_shut : (ranked_set three_rules (3 ∷ []) 3 (first_place ∷ [])).shut 0 2 ≡ false
 
--- k(A) -> k(A), with names
+-- k(A) -> k(A), in a program with names
 abbrev pub looping_rule : Rule
 looping_rule = record {
   source = 0;
@@ -65,9 +65,9 @@ looping = record {
 abbrev pub gap_alone : ℕ → ScaledPoint → ScaledPoint → ScaledPoint → Gap
 gap_alone t move floor kept = gap_with t (t ∷ []) [] (move ∷ []) floor (kept ∷ [])
 
--- a rule that keeps its place has a gap, and so has the one that squares, with a part for the square too, without
--- which the shape is wrong; the rule that falls by 2 leaves its place unbalanced. And a valid program has a gap that
--- holds, so that no function ranks its rule
+-- the rule that keeps its place has a gap, and so has the rule that squares, whose points have a part for the square
+-- too; without this part the shape is wrong; the rule that falls by 2 leaves its place unbalanced. A valid program has
+-- a gap that holds, so that no function ranks its rule
 pub record GapsOfProgramsAreJudged : Type 0 where
   pub staying : GapHolds three_rules (forms_at three_rules) (gap_alone 3 one nowhere one)
   pub squaring :

@@ -1,4 +1,4 @@
-//! Settings are true, and what that proves.
+//! The setting of a program is true of it, and what follows for accepted lemmas, files and gaps.
 
 ghost use Rattle.cert_program.specs.GapLaws.{GapsExcludeFunctions};
 ghost use Rattle.cert_program.specs.Laws.{SettingsAreFaithful, AcceptedFactsHold, PolynomialsAreNonlinear};
@@ -7,7 +7,7 @@ ghost use Rattle.cert_program.specs.Laws.{AcceptedFactsArePrintable, FormsAreTho
 ghost use Rattle.cert_program.specs.Worked.{SettingsAreAsWorkedOut};
 ghost use Rattle.cert_program.specs.WorkedGaps.{RankedSetsAreAsWorkedOut, GapsOfProgramsAreJudged};
 
-/// The setting of a valid program is true of it. The function has no code, as all functions here: its contract is the
+/// The setting of a valid program is true of it. Like all functions here, this one has no code: its contract is the
 /// law.
 pub fn settings_are_faithful()
     ensures { SettingsAreFaithful }
@@ -26,15 +26,14 @@ pub fn accepted_files_hold()
     ensures { AcceptedFilesHold }
 {}
 
-/// The forms of a rule of a program that questions and gaps use are the rows and new values over which nodes are
-/// checked.
+/// The forms of a rule that questions and gaps use are the rows and new values over which nodes are checked.
 pub fn forms_are_those_of_settings()
     ensures { FormsAreThoseOfSettings }
 {}
 
-/// The setting of a valid program makes bounds that can be printed; so the facts of lemmas that are accepted for it
-/// have bounds with tidy numbers over its start arguments alone, and they are tidy where each bound that the lemmas
-/// write is.
+/// The setting of a valid program makes bounds that can be printed. So the facts of lemmas that are accepted for it
+/// have bounds with tidy numbers over its start arguments alone, and these bounds are tidy if each bound that the
+/// lemmas write is.
 pub fn accepted_facts_are_printable()
     ensures tidying { SettingsAreTidying }
     ensures printable { AcceptedFactsArePrintable }
@@ -56,8 +55,8 @@ pub fn settings_are_as_worked_out()
     ensures { SettingsAreAsWorkedOut }
 {}
 
-/// Worked values of the rules of small programs as questions see them, of sets of them and of gaps over them; and a
-/// valid program has a gap that holds.
+/// Worked values of the rules of small programs as forms, of sets of these rules and of gaps over them; and a valid
+/// program has a gap that holds.
 pub fn gaps_are_as_worked_out()
     ensures sets { RankedSetsAreAsWorkedOut }
     ensures gaps { GapsOfProgramsAreJudged }

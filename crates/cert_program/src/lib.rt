@@ -2,8 +2,8 @@
 //! order `below`, for derivations; and its rules as affine forms, for gaps.
 //!
 //! Builds on `guard_prep` (rows), `bound_table` (rewriting) and `cert_rules` (when nodes and gaps are accepted). Main
-//! guarantee: all that the setting says holds of every valid program, so the facts of accepted lemmas hold on all of
-//! its runs, and gaps that hold exclude ranking functions (`accepted_files_hold`).
+//! guarantee: the setting of every valid program is true of it, so the facts of accepted lemmas hold on all of its
+//! runs, and gaps that hold exclude ranking functions (`accepted_files_hold`).
 #![tactic(auto)]
 
 mod laws;

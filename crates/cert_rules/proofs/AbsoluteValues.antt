@@ -25,12 +25,12 @@ pub abs-down : (x : ℤ) → neg_ℤ x ≤ℤ pos (nat_abs x)
 abs-down (pos n) = omega (arith, ints)
 abs-down (negsuc n) = omega (arith, ints)
 
--- a bound on a number and on its negation is one on the absolute value
+-- if a number and its negation are at most n, so is the absolute value
 pub abs-within : (x : ℤ) (n : ℕ) → x ≤ℤ pos n → neg_ℤ x ≤ℤ pos n → nat_abs x ≤ n
 abs-within (pos x) n h k = omega (arith, ints, h)
 abs-within (negsuc x) n h k = omega (arith, ints, k)
 
--- the absolute value of a product, and of a sum
+-- the absolute value of a product is at most the product of the absolute values
 pub abs-product : (a b : ℤ) → nat_abs (a *ℤ b) ≤ nat_abs a * nat_abs b
 abs-product (pos a) (pos b) = abs-within (pos a *ℤ pos b) (a * b) (omega (arith, ints)) (omega (arith, ints))
 abs-product (pos a) (negsuc b) = abs-within (pos a *ℤ negsuc b) (a * suc b) (omega (arith, ints)) (omega (arith, ints))
@@ -68,7 +68,7 @@ polynomial-covered (n ∷ ns) env sizes m h =
     (λ j k. h j (or_right (is_in j n.vars) (list_any (λ (o : Monomial). is_in j o.vars) ns) k)) in
     omega (arith, abs-sum (monomial_value n env) (polynomial_value ns env), here, later)
 
--- a variable among left ones is a left one
+-- if all variables are left ones, so is each that the test finds among them
 left_among : (left : ℕ) (vars : List ℕ) → All (λ v. v < left) vars → (j : ℕ) → is_in j vars ≡ true → j < left
 left_among left [] h j k = absurd (no_is_not_yes false refl k)
 left_among left (i ∷ vars) h j k =
@@ -78,7 +78,7 @@ left_among left (i ∷ vars) h j k =
     go (inl e) ih = omega (arith, e, All-head (λ (v : ℕ). v < left) i vars h)
     go (inr l) ih = ih l
 
--- a variable of a polynomial that has left variables alone is a left one
+-- each variable of a polynomial with left variables alone is a left one
 pub reads_left : (left : ℕ) (q : Polynomial) → ReadsLeft left q → (j : ℕ)
     → list_any (λ (n : Monomial). is_in j n.vars) q ≡ true → j < left
 reads_left left [] h j k = absurd (no_is_not_yes false refl k)

@@ -1,4 +1,4 @@
--- Lists of checks: what passes, the first that fails, and what a check for each element of a list says.
+-- Lists of checks: when all pass, the first that fails, and checks for each element of a list.
 use Rattle.std.proofs.Common.{◌≡◌, ◌⊎◌, inl, inr, ℕ, ◌<◌, ◌==◌, Bool, true, false, List, [], ◌∷◌, ◌++◌, map, filter}
 use Rattle.std.proofs.Common.{refl, sym, ◌∙◌, subst}
 use Rattle.std.specs.List.{AllByRecursion, range_with_len}
@@ -9,7 +9,7 @@ use Rattle.run_counting.proofs.model.Membership.{same_number, no_is_not_yes, is_
 use Rattle.run_counting.proofs.model.Membership.{is_in-numbers}
 use Rattle.std.proofs.lemmas.Bool.{or_left, or_right}
 
--- where all pass no reason is the first
+-- if all checks pass, there is no first reason
 pub passed_has_none : {R : Type 0} (cs : List (CheckOf R)) → AllPass cs → (r : R) → ¬ (IsFirstAmong cs r)
 passed_has_none [] h r k = k
 passed_has_none (c ∷ cs) h r (inl k) = k.0 h.0
@@ -23,12 +23,12 @@ first_is_one (c ∷ cs) q r (inl h) (inr k) = absurd (h.0 k.0)
 first_is_one (c ∷ cs) q r (inr h) (inl k) = absurd (k.0 h.0)
 first_is_one (c ∷ cs) q r (inr h) (inr k) = first_is_one cs q r h.1 k.1
 
--- no check can fail without being false
+-- each check is stable: if it can't fail, it holds
 abbrev pub AreStable : {R : Type 0} → List (CheckOf R) → Type 0
 AreStable [] = Unit {0}
 AreStable (c ∷ cs) = IsStable c.holds × AreStable cs
 
--- where no reason is the first all pass
+-- if stable checks have no first reason, all pass
 pub none_passes : {R : Type 0} (cs : List (CheckOf R)) → AreStable cs → ((r : R) → ¬ (IsFirstAmong cs r)) → AllPass cs
 none_passes [] h k = tt
 none_passes (c ∷ cs) h k =
@@ -36,22 +36,22 @@ none_passes (c ∷ cs) h k =
     (p, none_passes cs h.1 (λ r l. k r (inr (p, l))))
 
 module _ {R A : Type 0} (f : A → CheckOf R) (rest : List (CheckOf R)) where
-  -- a check for each element, and then the others
+  -- if the checks for all elements and then the others pass, the check of each element holds, and the others pass
   pub each_passes : (xs : List A) → AllPass (for_each f xs rest) → AllByRecursion (λ x. (f x).holds) xs × AllPass rest
   each_passes [] h = (tt, h)
   each_passes (x ∷ xs) h = let k = each_passes xs h.1 in ((h.0, k.0), k.1)
 
-  -- where the check holds for each element and the rest pass, all pass
+  -- if the check of each element holds and the others pass, the checks for all elements and then the others pass
   pub passes_each : (xs : List A) → AllByRecursion (λ x. (f x).holds) xs → AllPass rest → AllPass (for_each f xs rest)
   passes_each [] h k = k
   passes_each (x ∷ xs) h k = (h.0, passes_each xs h.1 k)
 
-  -- where the checks of all elements and the rest can't fail without being false, no check can
+  -- if the check of each element is stable and the others are, the checks for all elements and then the others are
   pub each_stable : (xs : List A) → ((x : A) → IsStable (f x).holds) → AreStable rest → AreStable (for_each f xs rest)
   each_stable [] h k = k
   each_stable (x ∷ xs) h k = (h x, each_stable xs h k)
 
--- a property of each number of a list, and of each number that is in it
+-- two ways to say that each number of a list has a property
 module _ (P : ℕ → Type 0) where
   -- a property of all numbers of a list is one of each number that the test finds in it
   pub each-in : (xs : List ℕ) → AllByRecursion P xs → (x : ℕ) → is_in x xs ≡ true → P x
@@ -94,7 +94,7 @@ pub each-map : {A B : Type 0} (P : B → Type 0) (f : A → B) (xs : List A) →
 each-map P f [] h = tt
 each-map P f (x ∷ xs) h = (h.0, each-map P f xs h.1)
 
--- a number among the first n that passes a test has what each that passes has
+-- two ways to say that each number among the first n that passes a test has a property
 module _ (P : ℕ → Type 0) (test : ℕ → Bool) (n : ℕ) where
   -- a property of all numbers below a count that pass a test is one of each such number
   pub below-each : AllByRecursion P (filter test (range_with_len 0 n)) → (j : ℕ) → j < n → test j ≡ true → P j

@@ -21,7 +21,7 @@ use Rattle.cert_rules.specs.Composed.{parts_for, place_parts, rest_bound, form_b
 use Rattle.cert_rules.specs.Composed.{rank_form, entry_bound}
 use Rattle.cert_rules.specs.AcceptsRank.{HasFormShape, HasRankShape, rank_time}
 
--- a number of a proof over a denominator, rounded up, is a small constant
+-- a number of a certificate over a denominator, rounded up, is a small constant
 rounded_up-small : (n den : ℕ) → IsInLimit n → IsInLimit den → rounded_up n den ≤ constant_limit
 rounded_up-small n den low few =
     let less : rounded_up n den ≤ n + (den - 1) = div-le_self (n + (den - 1)) den in
@@ -46,20 +46,20 @@ rank_form-limit p (f ∷ forms) h (Some a) =
     go true e here later = rw e here.limit
     go false e here later = rw e later
 
--- a fact of the nodes of a bound that small constants, sums and products have
+-- laws for a property of the nodes of a bound that small constants, sums and products have
 module _ (F : Bound → Type 0) (constant : (c : ℕ) → c ≤ constant_limit → F (Constant c))
     (sum : (bs : Parts) → F (SumOf bs)) (product : (bs : Parts) → F (ProductOf bs)) where
-  -- a bound that is known, or 0
+  -- if the property holds of the nodes of a known bound, it holds of those of the known bound or 0
   pub known-each : (o : Option Bound) → ((b : Bound) → o ≡ Some b → EachNode F b) → EachNode F (known o)
   known-each None h = constant 0 (omega arith)
   known-each (Some b) h = h b refl
 
-  -- a part for each number
+  -- if the property holds of the nodes of each part for a number, it holds of those of all parts
   pub parts_for-each : (f : ℕ → Bound) → ((n : ℕ) → EachNode F (f n)) → (ns : List ℕ) → EachNodeOfAll F (parts_for f ns)
   parts_for-each f h [] = tt
   parts_for-each f h (n ∷ ns) = (h n, parts_for-each f h ns)
 
-  -- the parts of places
+  -- the parts of places have the property if the sizes have
   place_parts-each : (cs : List ℤ) (den : ℕ) (left_out : ℕ → Bool) (sizes : ℕ → Bound)
       → All (λ c. IsInLimit (nat_abs c)) cs → IsInLimit den → ((j : ℕ) → EachNode F (sizes j))
       → EachNodeOfAll F (place_parts cs den left_out sizes)
@@ -79,7 +79,7 @@ module _ (F : Bound → Type 0) (constant : (c : ℕ) → c ≤ constant_limit �
       go false e rest =
           rw e ((product _, (constant (rounded_up (nat_abs c) den) small, (h 0, tt))), rest)
 
-  -- a form as a bound, except for some places
+  -- a form as a bound, without some places, has the property if the sizes have
   pub rest_bound-each : (f : Form) (den : ℕ) (left_out : ℕ → Bool) (sizes : ℕ → Bound) → IsFormInLimit f → IsInLimit den
       → ((j : ℕ) → EachNode F (sizes j)) → EachNode F (rest_bound f den left_out sizes)
   rest_bound-each f den left_out sizes low few h =
@@ -98,7 +98,7 @@ module _ (F : Bound → Type 0) (constant : (c : ℕ) → c ≤ constant_limit �
       → ((j : ℕ) → EachNode F (sizes j)) → EachNode F (form_bound f den sizes)
   form_bound-each f den sizes low few h = rest_bound-each f den no_place sizes low few h
 
-  -- the time that a ranking function composes of the known bounds of a table
+  -- the time that a ranking node composes has the property if the bounds of the table have
   pub rank_time-each : (s : Setting) (node : RankNode) (tab : Table) → HasRankShape s node
       → ((t : ℕ) (b : Bound) → tab.time t ≡ Some b → EachNode F b)
       → ((t i : ℕ) (b : Bound) → tab.size t i ≡ Some b → EachNode F b) → EachNode F (rank_time s node tab)

@@ -1,4 +1,4 @@
--- The checks of a node on a cost pass exactly if it is accepted, and none can fail without being false.
+-- The checks of a node on a cost pass exactly if it is accepted, and each is stable.
 use Rattle.std.proofs.Common.{◌≡◌, ℕ, suc, List, [], ◌∷◌, Option, Some, None, refl, sym, ap, ◌∙◌}
 use Rattle.std.specs.List.{AllByRecursion}
 use Rattle.run_counting.specs.model.Terms.{Term}
@@ -81,7 +81,7 @@ module _ (s : Setting) (table : Table) where
       (λ j r. h.0 j r)))
       (known-side_bound t side_bound es h.1)
 
-  -- where a cost is shown its checks pass
+  -- if a cost is shown, its checks pass
   by-passes : (t : ℕ) (by : CostBy) → AcceptsCostBy s table t by → AllPass (cost_checks_by s table t by)
   by-passes t (EmptyCost ms) h = (h, tt)
   by-passes t NeverCost h = (h.time, (h.zero, tt))
@@ -95,7 +95,7 @@ module _ (s : Setting) (table : Table) where
     ),
   )
 
-  -- where its checks pass a cost is shown
+  -- if its checks pass, a cost is shown
   passes-by : (t : ℕ) (by : CostBy) → HasCostNumbers s t by → AllPass (cost_checks_by s table t by)
       → AcceptsCostBy s table t by
   passes-by t (EmptyCost ms) shape h = h.0
@@ -117,7 +117,7 @@ module _ (s : Setting) (table : Table) where
   pub passes-cost : (node : CostNode) → AllPass (cost_checks s table node) → AcceptsCost s table node
   passes-cost node h = record { shape = h.0; by = passes-by node.rule node.by h.0.numbers h.1 }
 
-  -- no check of how a cost is shown can fail without being false
+  -- each check of how a cost is shown is stable
   by-stable : (t : ℕ) (by : CostBy) → AreStable (cost_checks_by s table t by)
   by-stable t (EmptyCost ms) = (stable-implies _ _ _, tt)
   by-stable t NeverCost = (stable-known (table.time t), (stable-bool _ _, tt))

@@ -48,7 +48,7 @@ charged p t h start earlier b st run same =
     ∙ (ap (λ (o : Option Rule). cost_by o (b.values ++ st.free)) h.numbered
     ∙ ap (λ (o : Option Term). cost_at o (b.values ++ st.free)) h.written))
 
--- where each step by a rule is charged at most so much, all are charged at most so much for each time that it occurs
+-- if each step by a rule is charged at most `limit`, all are charged at most `limit` times the number of these steps
 spent-covered : (p : Program) (t limit : ℕ) (start : List ℤ)
     → ((earlier : List Step) (b : Config) (st : Step) (c : Config) → IsRun p start earlier b → IsStep p b st c
     → st.rule ≡ t → step_cost p start st earlier ≤ limit)
@@ -85,7 +85,7 @@ unused_spends p t start (st ∷ earlier) h =
     go (inr (test, other)) before = omega (arith, spent_same p t start st earlier other, before)
 
 module _ (s : Setting) (true_to : IsFaithful s) (t : ℕ) (h : HasCost s.program t) where
-  -- where a cost rule ends at these values of its variables
+  -- the configuration in which the cost rule ends, at these values of its variables
   abbrev paid_at : List ℤ → Config
   paid_at env = record { at = 1; values = value h.cost env ∷ [] }
 
@@ -113,7 +113,7 @@ module _ (s : Setting) (true_to : IsFaithful s) (t : ℕ) (h : HasCost s.program
       at_least : Atom
       at_least = Compare h.cost AtLeast (Literal (pos 0))
 
-  -- the step is a point of the rows of the cost
+  -- a step whose cost isn't negative is a point of the cost rows
   cost-point : (b : Config) (st : Step) (c : Config) → IsStep s.program b st c → st.rule ≡ t
       → pos 0 ≤ℤ value h.cost (b.values ++ st.free)
       → StepPoint (costs_of s) t b st.free (paid_at (b.values ++ st.free))
@@ -136,7 +136,7 @@ module _ (s : Setting) (true_to : IsFaithful s) (t : ℕ) (h : HasCost s.program
           let least : n ≤ limit = omega (arith, ints, small) in omega (arith, e, least)
       go (negsuc n) e k = omega (arith, e)
 
-  -- where the cost rows have no point no step is charged
+  -- if the cost rows have no point, no step is charged anything
   empty-holds : (multipliers : List ℕ) → Implies (s.cost_rows t) multipliers minus_one
       → HoldsCost s.program t (Constant 0)
   empty-holds multipliers shown = record {
@@ -154,7 +154,7 @@ module _ (s : Setting) (true_to : IsFaithful s) (t : ℕ) (h : HasCost s.program
           absurd (no_point (s.cost_rows t) multipliers shown point.z (pos 1) point.point))
 
   module _ (table : Table) (good : IsGoodTable s.program table) where
-    -- a rule that never occurs is charged nothing
+    -- the cost of a rule whose time is 0 is 0
     never-holds : HasZeroTime table t → HoldsCost s.program t (Constant 0)
     never-holds never = record {
       each = λ start steps c run.
@@ -201,7 +201,7 @@ module _ (s : Setting) (true_to : IsFaithful s) (t : ℕ) (h : HasCost s.program
           (listed_below (λ e. composed_side_bound (s.cost_poly t) side_bound (sizes_after table.size e)) (pre s.program t)
           (sizes_of_start start) (last_rule earlier) before)
 
-      -- all steps together are charged at most that for each time that the rule occurs
+      -- all steps by the rule together are charged at most that maximum times the rule's time
       side_bound-holds : HoldsCost s.program t (side_bound_cost s table t side_bound)
       side_bound-holds = record {
         each = λ start steps c run.

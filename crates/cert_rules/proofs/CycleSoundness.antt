@@ -33,7 +33,7 @@ use Rattle.cert_rules.proofs.Flows.{IsAmong, all-among, found_member, member-com
 use Rattle.cert_rules.proofs.Flows.{factor-least, flow-covered}
 use Rattle.cert_rules.proofs.LoopBounds.{loop-bounded, flows_into-based, addition-based, loop_bound-based}
 
--- a straight side bound reads no member
+-- a straight side bound is no polynomial that reads a member
 stays_straight : (s : Setting) (members : List Member) (m : Member) (e : ℕ) (side_bound : SideBound)
     → IsStraightSideBound s members m e side_bound → StaysOutside s m.result_variable (is_member members e) side_bound
 stays_straight s members m e (Linear den form multipliers) h = tt
@@ -41,7 +41,7 @@ stays_straight s members m e Poly h = h
 
 module _ (s : Setting) (true_to : IsFaithful s) (table : Table) (good : IsGoodTable s.program table)
     (members : List Member) (h : AcceptsCycle s table members) where
-  -- all that flows in the loop
+  -- all flows of the loop
   abbrev all_flows : List Flow
   all_flows = flows s members table.size
 
@@ -86,8 +86,8 @@ module _ (s : Setting) (true_to : IsFaithful s) (table : Table) (good : IsGoodTa
       within : (v : ℤ) (a b : ℕ) → v ≤ℤ pos a → a ≤ b → v ≤ℤ pos b
       within v a b k l = omega (arith, ints, k, l)
 
-  -- after a step each member is within the base, or within the factor of its rule times what bounds the members
-  -- before, plus the rule's addition
+  -- after a step each member is within the base, or within the factor of its rule times a bound on the members before,
+  -- plus the rule's addition
   cycle_step : (start : List ℤ) (earlier : List Step) (b : Config) (st : Step) (c : Config)
       → IsRun s.program start earlier b → IsStep s.program b st c
       → (g : ℕ) → ((j : ℕ) → IsMember (last_rule earlier) j → size_at b j ≤ g) → (i : ℕ) → IsMember st.rule i

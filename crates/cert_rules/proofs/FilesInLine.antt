@@ -1,5 +1,5 @@
--- Files are accepted exactly if neither a node nor a gap is refused, at most one is, and the claims of an accepted
--- file hold.
+-- A file is accepted exactly if it is refused neither at a node nor at a gap; it is refused at one place at most; and
+-- the claims of an accepted file hold.
 use Rattle.std.proofs.Common.{ℕ, List, sym, subst, All}
 use Rattle.std.proofs.lemmas.List.Elements.{All-from_recursion, recursion_from_All, All-weaker}
 use Rattle.run_counting.specs.model.Programs.{Program}
@@ -18,14 +18,14 @@ use Rattle.cert_rules.proofs.Refusals.{refusals-in-line}
 use Rattle.cert_rules.proofs.Soundness.{accepted_facts_hold}
 
 module _ (p : Program) (rule : ℕ → RuleForms) where
-  -- where all gaps hold none is the first with a fault
+  -- if all gaps hold, no gap is the first with a fault
   held-none : (gs : List Gap) → All (GapHolds p rule) gs → (n : ℕ) (x : GapFault)
       → ¬ (FailsFirst (GapHolds p rule) (IsFirstFault p rule) gs n x)
   held-none gs h n x =
       passed-none (GapHolds p rule) (IsFirstFault p rule) (λ g k. (holds-faultless p rule g k).none) gs
       (recursion_from_All (GapHolds p rule) gs h) n x
 
-  -- where none is the first with a fault all gaps hold
+  -- if no gap is the first with a fault, all gaps hold
   none-held : (gs : List Gap)
       → ((n : ℕ) (x : GapFault) → ¬ (FailsFirst (GapHolds p rule) (IsFirstFault p rule) gs n x))
       → All (GapHolds p rule) gs
@@ -33,7 +33,7 @@ module _ (p : Program) (rule : ℕ → RuleForms) where
       All-from_recursion (GapHolds p rule) gs
       (none-passed (GapHolds p rule) (IsFirstFault p rule) (λ g k. faultless-holds p rule g (record { none = k })) gs h)
 
--- a file is accepted where nothing of it is refused
+-- a file that is refused nowhere is accepted
 unrefused-accepts : (s : Setting) (rule : ℕ → RuleForms) (f : ProofFile) → HasNoRefusal s f.lemmas
     → HasNoGapRefusal s rule f → AcceptsFile s rule f
 unrefused-accepts s rule f h k =
@@ -42,7 +42,7 @@ unrefused-accepts s rule f h k =
       gaps = none-held s.program rule f.gaps (λ n x first. k.none n x (record { lemmas = accepted; first = first }));
     }
 
--- refusals are in line with what is accepted
+-- refusals of files agree with acceptance
 pub file-refusals-in-line : FileRefusalsAreInLine
 file-refusals-in-line = record {
   none = λ s rule f. (

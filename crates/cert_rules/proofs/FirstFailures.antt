@@ -1,4 +1,4 @@
--- The first element of a list that fails: there is one at most, and none exactly if all pass.
+-- The first element of a list that fails: there is at most one, and none exactly if all pass.
 use Rattle.std.proofs.Common.{◌≡◌, ℕ, suc, ◌+◌, List, [], ◌∷◌, ◌++◌, length, refl, sym, ◌∙◌, ap, subst, arith}
 use Rattle.std.specs.List.{AllByRecursion}
 use Rattle.std.proofs.lemmas.List.{append_assoc}
@@ -12,10 +12,11 @@ same_head x y xs ys e = cc
 pub same_tail : {A : Type 0} (x y : A) (xs ys : List A) → x ∷ xs ≡ y ∷ ys → xs ≡ ys
 same_tail x y xs ys e = cc
 
--- elements that pass, the reasons why others fail, and that no element does both
+-- laws for two properties of elements, passing and failing for a reason, that exclude each other
 module _ {A R : Type 0} (Passes : A → Type 0) (Fails : A → R → Type 0)
     (apart : (x : A) → Passes x → (r : R) → ¬ (Fails x r)) where
-  -- of a list that is cut twice before an element that fails, all before it passing, the two cuts are one
+  -- if a list is cut twice before an element that fails, and all elements before each cut pass, the two cuts are the
+  -- same
   one_cut : ((x : A) (q r : R) → Fails x q → Fails x r → q ≡ r) → (b c : List A) (x y : A) (d e : List A) (q r : R)
       → b ++ x ∷ d ≡ c ++ y ∷ e → AllByRecursion Passes b → AllByRecursion Passes c → Fails x q → Fails y r
       → (length b ≡ length c) × (q ≡ r)
@@ -29,7 +30,7 @@ module _ {A R : Type 0} (Passes : A → Type 0) (Fails : A → R → Type 0)
       let rest = one_cut one b c x y d e q r (same_tail z w (b ++ x ∷ d) (c ++ y ∷ e) same) h.1 k.1 f g in
       (ap (λ (n : ℕ). suc n) rest.0, rest.1)
 
-  -- there is one element at most that is the first to fail, for one reason
+  -- at most one element is the first to fail, for at most one reason
   pub first-one : ((x : A) (q r : R) → Fails x q → Fails x r → q ≡ r) → (xs : List A) (m n : ℕ) (q r : R)
       → FailsFirst Passes Fails xs m q → FailsFirst Passes Fails xs n r → (m ≡ n) × (q ≡ r)
   first-one one xs m n q r h k =
@@ -38,19 +39,19 @@ module _ {A R : Type 0} (Passes : A → Type 0) (Fails : A → R → Type 0)
       (recursion_from_All Passes h.before h.passed) (recursion_from_All Passes k.before k.passed) h.fails k.fails in
       (h.number ∙ (ap (λ (i : ℕ). suc i) both.0 ∙ sym k.number), both.1)
 
-  -- where all elements pass, the one before which the list is cut passes
+  -- if all elements of a list pass, the element at a cut passes
   at_cut : (b : List A) (x : A) (d : List A) → AllByRecursion Passes (b ++ x ∷ d) → Passes x
   at_cut [] x d h = h.0
   at_cut (y ∷ b) x d h = at_cut b x d h.1
 
-  -- where all elements pass, none is the first to fail
+  -- if all elements of a list pass, none is the first to fail
   pub passed-none : (xs : List A) → AllByRecursion Passes xs → (n : ℕ) (r : R) → ¬ (FailsFirst Passes Fails xs n r)
   passed-none xs h n r k =
       apart k.element (at_cut k.before k.element k.behind (subst (λ (ys : List A). AllByRecursion Passes ys) k.whole h)) r k.fails
 
--- the first failure of a list is that of a longer one, if the elements in front pass
+-- the first failure of a list, and that of a longer list
 module _ {A R : Type 0} (Passes : A → Type 0) (Fails : A → R → Type 0) where
-  -- after an element that passes
+  -- the first failure of a list is one position further on after an element that passes
   pub first-behind : (x : A) (xs : List A) (n : ℕ) (r : R) → Passes x → FailsFirst Passes Fails xs n r
       → FailsFirst Passes Fails (x ∷ xs) (suc n) r
   first-behind x xs n r h k = record {
@@ -63,7 +64,7 @@ module _ {A R : Type 0} (Passes : A → Type 0) (Fails : A → R → Type 0) whe
     fails = k.fails;
   }
 
-  -- after elements that all pass
+  -- the first failure of a list is that many positions further on after elements that pass
   pub first-after : (xs ys : List A) (n : ℕ) (r : R) → AllByRecursion Passes xs → FailsFirst Passes Fails ys n r
       → FailsFirst Passes Fails (xs ++ ys) (length xs + n) r
   first-after [] ys n r h k =
@@ -73,7 +74,7 @@ module _ {A R : Type 0} (Passes : A → Type 0) (Fails : A → R → Type 0) whe
       subst (λ (m : ℕ). FailsFirst Passes Fails (x ∷ xs ++ ys) m r) count
       (first-behind x (xs ++ ys) (length xs + n) r h.0 (first-after xs ys n r h.1 k))
 
-  -- before any others
+  -- the first failure of a list is that of the list with others after it
   pub first-before : (xs ys : List A) (n : ℕ) (r : R) → FailsFirst Passes Fails xs n r
       → FailsFirst Passes Fails (xs ++ ys) n r
   first-before xs ys n r k = record {
@@ -86,7 +87,7 @@ module _ {A R : Type 0} (Passes : A → Type 0) (Fails : A → R → Type 0) whe
     fails = k.fails;
   }
 
-  -- an element that fails itself is the first
+  -- if the first element of a list fails, it is the first to fail
   pub first-here : (x : A) (xs : List A) (r : R) → Fails x r → FailsFirst Passes Fails (x ∷ xs) 1 r
   first-here x xs r f = record {
     before = [];
@@ -98,7 +99,7 @@ module _ {A R : Type 0} (Passes : A → Type 0) (Fails : A → R → Type 0) whe
     fails = f;
   }
 
-  -- where none is the first to fail, all pass: of elements that pass where nothing fails them
+  -- if no element is the first to fail, all pass, provided that each element that fails for no reason passes
   pub none-passed : ((x : A) → ((r : R) → ¬ (Fails x r)) → Passes x) → (xs : List A)
       → ((n : ℕ) (r : R) → ¬ (FailsFirst Passes Fails xs n r)) → AllByRecursion Passes xs
   none-passed pass [] h = tt

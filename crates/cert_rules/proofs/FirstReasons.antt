@@ -1,5 +1,4 @@
--- A node has no first reason exactly if it is accepted: its checks pass exactly then, and none can fail without being
--- false.
+-- A node has no first reason exactly if it is accepted: its checks all pass exactly then, and each is stable.
 use Rattle.std.proofs.Common.{◌≡◌, ◌≢◌, ℕ, zero, suc, ◌<◌, not, Bool, true, false, List, [], ◌∷◌, length, refl, arith}
 use Rattle.std.specs.Prelude.{ℤ, pos}
 use Rattle.std.specs.List.{AllByRecursion}
@@ -40,7 +39,7 @@ abbrev pub HasSize : Table → ResultVariable → Type 0
 HasSize table result_variable = IsKnown (table.size result_variable.rule result_variable.place)
 
 module _ (s : Setting) (table : Table) (node : RankNode) where
-  -- the sizes that a ranking function needs after an entry are known
+  -- each place that the ranking function reads after entry e has a known size
   abbrev Needs : ℕ → Type 0
   Needs e = (j : ℕ) → at (at_target s.program node e).coefs j ≢ pos 0 → IsKnown (table.size e (suc j))
 
@@ -69,7 +68,7 @@ module _ (s : Setting) (table : Table) (node : RankNode) where
       each-append (HasSize table) (needed_after s node e) (needed_after_each s node es) (known-needs e h.0)
       (known-each es h.1)
 
-  -- a ranking node's checks pass exactly if it is accepted
+  -- if a ranking node is accepted, its checks pass
   pub rank-passes : AcceptsRank s table node → AllPass (rank_checks s table node)
   rank-passes h = (
     h.shape,
@@ -103,7 +102,7 @@ module _ (s : Setting) (table : Table) (node : RankNode) where
         small = sizes.1.0;
       }
 
-  -- no check of a ranking node can fail without being false
+  -- each check of a ranking node is stable
   pub rank-stable : AreStable (rank_checks s table node)
   rank-stable = (
     stable-rank_shape s node,

@@ -13,18 +13,18 @@ use Rattle.cert_rules.specs.ComposedSizes.{is_member, Flow, flow, flows_from, fl
 use Rattle.cert_rules.specs.ComposedSizes.{base_of, addition_of, factor_of}
 use Rattle.run_counting.proofs.model.Membership.{is_in-cases, same_number, same_number-sound, no_is_not_yes}
 
--- a list has an element
+-- the element is in the list
 abbrev pub IsAmong : {X : Type 0} → X → List X → Type 0
 IsAmong x [] = ⊥
 IsAmong x (y ∷ ys) = (x ≡ y) ⊎ IsAmong x ys
 
--- a property of each element is one of a member
+-- if all elements have a property, each element in the list has it
 pub all-among : {X : Type 0} (P : X → Type 0) (xs : List X) (x : X) → All P xs → IsAmong x xs → P x
 all-among P [] x h k = absurd k
 all-among P (y ∷ ys) x h (inl e) = subst P (sym e) (All-head P y ys h)
 all-among P (y ∷ ys) x h (inr k) = all-among P ys x (All-tail P y ys h) k
 
--- elements of joined lists
+-- an element of a list is an element of the list with another appended
 among-left : {X : Type 0} (xs ys : List X) (x : X) → IsAmong x xs → IsAmong x (xs ++ ys)
 among-left [] ys x h = absurd h
 among-left (y ∷ xs) ys x (inl e) = inl e
@@ -34,7 +34,7 @@ among-right : {X : Type 0} (xs ys : List X) (x : X) → IsAmong x ys → IsAmong
 among-right [] ys x h = h
 among-right (y ∷ xs) ys x h = inr (among-right xs ys x h)
 
--- an argument that the test finds among the members is a member's
+-- a place that the test finds among the members after rule t is the place of a member
 pub found_member : (members : List Member) (t j : ℕ) → is_member members t j ≡ true
     → (m : Member) × IsAmong m members × (m.result_variable.rule ≡ t) × (m.result_variable.place ≡ suc j)
 found_member [] t j h = absurd (no_is_not_yes false refl h)
@@ -48,7 +48,7 @@ found_member (m ∷ ms) t j h = go ((m.result_variable.rule == t) && (m.result_v
         (m, inl refl, same_number-sound m.result_variable.rule t parts.0, same_number-sound m.result_variable.place (suc j) parts.1)
     go false e ih = let n = ih (rw e at h) in (n.0, inr n.1, n.2, n.3)
 
--- the test finds a member's argument among the members
+-- the test `is_member` finds the place of each member
 pub member-complete : (members : List Member) (m : Member) (j : ℕ) → IsAmong m members → m.result_variable.place ≡ suc j
     → is_member members m.result_variable.rule j ≡ true
 member-complete [] m j h e = absurd h
@@ -116,7 +116,7 @@ module _ (s : Setting) (members : List Member) (size : ℕ → ℕ → Option Bo
             (flows_into s members size ns) (flow s members size m m.local.low e) both.1,
       )
 
--- an offset that passes a test is at most the maximum of those
+-- an offset that passes a test is at most the maximum of the offsets that pass it
 offset-at_most : (test : Flow → Bool) (fs : List Flow) (f : Flow) (m : List ℕ) → IsAmong f fs → test f ≡ true
     → val f.offset m ≤ val_maximum (offsets test fs) m
 offset-at_most test [] f m h k = absurd h
@@ -150,7 +150,7 @@ slope-at_most (g ∷ fs) f (inr k) = go (g.rule == f.rule) refl (slope-at_most f
     go true e ih = rw e (omega (arith, ih))
     go false e ih = rw e ih
 
--- a flow is within the base, or within its rule's factor and addition
+-- a flow is within the base, or within its rule's factor times g, plus its rule's addition
 pub flow-covered : (fs : List Flow) (f : Flow) (m : List ℕ) (g : ℕ) → IsAmong f fs
     → f.slope * g + val f.offset m ≤ max (val (base_of fs) m) (factor_of fs f.rule * g + val (addition_of fs f.rule) m)
 flow-covered fs f m g h = go (is_outer f) refl

@@ -1,4 +1,4 @@
--- A form over a denominator, read as a bound, is never below the form's value.
+-- A form over a denominator, read as a bound, is at least the form's value.
 use Rattle.std.proofs.Common.{◌≡◌, ◌≢◌, ℕ, suc, ◌+◌, ◌*◌, ◌≤◌, Bool, true, false, List, [], ◌∷◌, refl, sym, ap, subst}
 use Rattle.std.proofs.Common.{arith, mul-le-mul, mul_assoc, mul-add, add-mul}
 use Rattle.std.specs.Prelude.{ℤ, pos, negsuc, ◌+ℤ◌, ◌*ℤ◌, ◌≤ℤ◌, nat_abs}
@@ -20,7 +20,7 @@ product-at_most (pos a) (negsuc b) = omega (arith, ints)
 product-at_most (negsuc a) (pos b) = omega (arith, ints)
 product-at_most (negsuc a) (negsuc b) = omega (arith, ints)
 
--- rounding up loses nothing
+-- a number is at most the denominator times the number over it, rounded up
 pub rounds_up : (n den : ℕ) → 1 ≤ den → n ≤ den * rounded_up n den
 rounds_up n den h = omega arith
 
@@ -36,11 +36,11 @@ coefficient-covered c z den w h l =
     chain x m n a b = omega (arith, ints)
 
 module _ (den : ℕ) (over : 1 ≤ den) (m : List ℕ) (g : ℕ) where
-  -- two summands, each covered
+  -- the sum of two numbers, each covered by a part of a bound, is covered by the sum of the parts
   both_covered : (x y : ℤ) (a b t : ℕ) → x ≤ℤ pos (den * a) → y ≤ℤ pos (den * b) → t ≡ a + b → (x +ℤ y) ≤ℤ pos (den * t)
   both_covered x y a b t h k e = omega (arith, ints, ap (λ (n : ℕ). den * n) e, mul-add den a b)
 
-  -- coefficients times values, where the values inside are at most g and the others at most their sizes
+  -- coefficients times values are covered, if the values inside are at most g and the others at most their sizes
   pub dot-covered : (cs : List ℤ) (inside : ℕ → Bool) (sizes : ℕ → Bound) (z : ℕ → ℤ)
       → ((j : ℕ) → inside j ≡ true → nat_abs (z j) ≤ g)
       → ((j : ℕ) → at cs j ≢ pos 0 → inside j ≡ false → nat_abs (z j) ≤ val (sizes j) m)
@@ -87,7 +87,7 @@ module _ (den : ℕ) (over : 1 ≤ den) (m : List ℕ) (g : ℕ) where
           ((0 + rest) * g + (k * (val (sizes 0) m * 1) + others))
           (coefficient-covered c (z 0) den (val (sizes 0) m) over (outer 0 (told_not_zero c e) f)) ih (omega arith))
 
-  -- a form's value at integers
+  -- the value of a form is covered, if the values inside are at most g and the others at most their sizes
   pub form-covered : (f : Form) (inside : ℕ → Bool) (sizes : ℕ → Bound) (z : ℕ → ℤ)
       → ((j : ℕ) → inside j ≡ true → nat_abs (z j) ≤ g)
       → ((j : ℕ) → at f.coefs j ≢ pos 0 → inside j ≡ false → nat_abs (z j) ≤ val (sizes j) m)
@@ -105,7 +105,7 @@ module _ (den : ℕ) (over : 1 ≤ den) (m : List ℕ) (g : ℕ) where
       constant-covered (pos n) = let l : n ≤ den * rounded_up n den = rounds_up n den over in omega (arith, ints, l)
       constant-covered (negsuc n) = omega (arith, ints)
 
--- no place lies inside where none is left out
+-- if no place is inside, the sum of the coefficients inside is 0
 no_inner_sum : (cs : List ℤ) (den : ℕ) → inner_sum cs den no_place ≡ 0
 no_inner_sum [] den = refl
 no_inner_sum (c ∷ cs) den = let e : inner_sum cs den (λ j. false) ≡ 0 = no_inner_sum cs den in omega (arith, e)

@@ -10,7 +10,7 @@ use Rattle.rule_forms.specs.linear_forms.Losses.{at_new_values}
 use Rattle.cert_rules.specs.Combined.{form_at}
 use Rattle.rule_forms.specs.linear_forms.RuleQuestions.{constant_form}
 
--- unknowns that agree where there are coefficients
+-- the products with two lists of values agree if the values agree at all coefficients
 pub dot-same : (xs : List ℤ) (z w : ℕ → ℤ) → ((i : ℕ) → i < length xs → z i ≡ w i) → list_dot xs z ≡ list_dot xs w
 dot-same [] z w h = refl
 dot-same (x ∷ xs) z w h =
@@ -20,7 +20,7 @@ dot-same (x ∷ xs) z w h =
     regroup : (a b s t : ℤ) → a ≡ b → s ≡ t → a +ℤ s ≡ b +ℤ t
     regroup a b s t e f = omega (arith, ints)
 
--- unknowns that are 0
+-- the product of coefficients with values that are all 0 is 0
 pub dot-zeros : (xs : List ℤ) (z : ℕ → ℤ) → ((i : ℕ) → z i ≡ pos 0) → list_dot xs z ≡ pos 0
 dot-zeros [] z h = refl
 dot-zeros (x ∷ xs) z h = both _ _ (mul-zero_ℤ x (z 0) (h 0)) (dot-zeros xs (λ i. z (suc i)) (λ i. h (suc i)))
@@ -28,14 +28,14 @@ dot-zeros (x ∷ xs) z h = both _ _ (mul-zero_ℤ x (z 0) (h 0)) (dot-zeros xs (
     both : (a b : ℤ) → a ≡ pos 0 → b ≡ pos 0 → a +ℤ b ≡ pos 0
     both a b e f = omega (arith, ints)
 
--- the value of a number
+-- the value of a constant form is its constant times d
 pub value-number : (k : ℤ) (z : ℕ → ℤ) (d : ℤ) → form_value (constant_form k) z d ≡ k *ℤ d
 value-number k z d = plus _
   where
     plus : (v : ℤ) → pos 0 +ℤ v ≡ v
     plus v = omega (arith, ints)
 
--- the value of a difference
+-- the value of a difference of forms is the difference of their values
 pub value-less : (f g : Form) (z : ℕ → ℤ) (d : ℤ) → form_value (less f g) z d ≡ form_value f z d -ℤ form_value g z d
 value-less f g z d = regroup _ _ _ _ (form_value-sum f (form_times (negsuc 0) g) z d)
     (form_value-times (negsuc 0) g z d)
@@ -50,7 +50,7 @@ zero_at z d i = value-number (pos 0) z d ∙ times d
     times : (d : ℤ) → pos 0 *ℤ d ≡ pos 0
     times d = omega (arith, ints)
 
--- the values of forms times coefficients are coefficients times the values of forms
+-- the value of a combination of forms is the combination of their values
 dot-turned : (fs : List Form) (cs : List ℤ) (z : ℕ → ℤ) (d : ℤ)
     → list_dot (map (λ f. form_value f z d) fs) (at cs) ≡ list_dot cs (λ i. form_value (form_at fs i) z d)
 dot-turned [] cs z d = sym (dot-zeros cs (λ i. form_value (form_at [] i) z d) (zero_at z d))

@@ -1,4 +1,4 @@
--- A gap that holds excludes every function: its moves and its floor refute the question for one.
+-- A gap that holds excludes every ranking function: its moves and its floor refute the question for one.
 use Rattle.std.proofs.Common.{◌≡◌, ◌≢◌, ◌⊎◌, inl, inr, ℕ, zero, suc, ◌+◌, ◌<◌, ◌==◌, ◌||◌, not, Bool, true, false, cond}
 use Rattle.std.proofs.Common.{if◌then◌else◌, nat_eq, List, [], ◌∷◌, ◌++◌, length, map, filter, get_or, refl, sym, ◌∙◌, ap}
 use Rattle.std.proofs.Common.{subst, arith, All}
@@ -78,7 +78,7 @@ module _ (b : RankedSet) (cs : List Coefficient) (floor : ScaledPoint) where
       joined : (v x o y r n s : ℤ) → v ≡ x +ℤ o → o ≡ negsuc 0 *ℤ y → r ≡ n +ℤ s → v +ℤ r ≡ ((x -ℤ y) +ℤ n) +ℤ s
       joined v x o y r n s f g h = omega (arith, ints, f, g, h)
 
-  -- the fixed form of a rule's group gives nothing, and of the strict rule's the denominator with a minus
+  -- the fixed form gives 0 at an element of another rule's group, and minus the denominator at one of the strict rule's
   pub fixed-part : (s : Bool) (z : ScaledPoint)
       → value_at (if s then minus_one else zero_form) z ≡ (if s then neg_ℤ (pos z.den) else pos 0)
   fixed-part true z = value (pos z.den)
@@ -90,7 +90,7 @@ module _ (b : RankedSet) (cs : List Coefficient) (floor : ScaledPoint) where
       value : (d : ℤ) → pos 0 +ℤ pos 0 *ℤ d ≡ pos 0
       value d = omega (arith, ints)
 
-  -- the fixed forms add up to at most the floor's denominator with a minus
+  -- the fixed forms add up to at most minus the floor's denominator
   fixed-floor : (set : List ℕ) (moves : List ScaledPoint) → length moves ≡ length set
       → fixed_total (groups_with set) (elements_with moves floor) ≤ℤ neg_ℤ (pos floor.den)
   fixed-floor [] [] e = least (pos floor.den)
@@ -112,7 +112,7 @@ module _ (b : RankedSet) (cs : List Coefficient) (floor : ScaledPoint) where
           least v r d n f h = omega (arith, ints, f, h)
       go false f rest = omega (arith, ints, f, rest)
 
-  -- the fixed total is at most that of the strict rule's move and the floor
+  -- the fixed forms add up to at most minus the denominators of the strict rule's move and of the floor
   fixed-both : (set : List ℕ) (moves : List ScaledPoint) → length moves ≡ length set → is_in b.strict set ≡ true
       → fixed_total (groups_with set) (elements_with moves floor)
       ≤ℤ neg_ℤ (pos ((point_of set moves b.strict).den + floor.den))
@@ -148,10 +148,10 @@ module _ (b : RankedSet) (cs : List Coefficient) (floor : ScaledPoint) where
           none : (v r d : ℤ) → v ≡ pos 0 → r ≤ℤ d → (v +ℤ r) ≤ℤ d
           none v r d f h = omega (arith, ints, f, h)
 
--- a property of each place that has a balance is one of each coefficient
+-- a property of each place that needs a balance is one of each coefficient of the question
 module _ (P : Coefficient → Type 0) (p : Program) (b : RankedSet) (g : Gap)
     (shut : (s i : ℕ) → b.shut s i ≡ is_shut g.shut s i) (places : (s : ℕ) → b.arity s ≡ arity_of p s) where
-  -- the places of a symbol that aren't shut
+  -- the places of a symbol that aren't shut, by the set and by the gap
   pub same-open : (s : ℕ) → open_places b s ≡ filter (λ i. not (is_shut g.shut s i)) (range_with_len 1 (arity_of p s))
   same-open s =
       ap (λ (n : ℕ). filter (λ i. not (b.shut s i)) (range_with_len 1 n)) (places s)
@@ -193,7 +193,7 @@ module _ (p : Program) (b : RankedSet) (g : Gap) (is : IsSetOf b) (about : IsAbo
   long : length g.moves ≡ length b.set
   long = each-long (λ t z. MeetsAt (b.rule t).rows z) b.set g.moves moves-meet
 
-  -- each coefficient's balance is 0
+  -- the balance at each coefficient of the question is 0
   balanced-all : All (λ c. balance b.rule g c ≡ pos 0) cs
   balanced-all =
       All-from_recursion (λ c. balance b.rule g c ≡ pos 0) cs

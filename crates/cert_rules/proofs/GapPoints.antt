@@ -9,14 +9,14 @@ use Rattle.cert_rules.specs.Gaps.{ScaledPoint}
 use Rattle.cert_rules.specs.GapChecks.{point_of}
 use Rattle.cert_rules.specs.Numbers.{IsAscending}
 
--- it holds of each rule of a list with the point at its position, and there are as many of both
+-- the property holds of each rule of a list with the point at its position, and there are as many points as rules
 abbrev pub AreEach : (ℕ → ScaledPoint → Type 0) → List ℕ → List ScaledPoint → Type 0
 AreEach P [] [] = Unit {0}
 AreEach P [] (z ∷ zs) = ⊥
 AreEach P (t ∷ ts) [] = ⊥
 AreEach P (t ∷ ts) (z ∷ zs) = P t z × AreEach P ts zs
 
--- the rest of an ascending list ascends
+-- the rest of an ascending list is ascending
 pub rest-ascends : (x : ℕ) (ys : List ℕ) → IsAscending (x ∷ ys) → IsAscending ys
 rest-ascends x [] h = tt
 rest-ascends x (y ∷ ys) h = h.1

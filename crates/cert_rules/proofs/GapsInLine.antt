@@ -1,4 +1,4 @@
--- The checks of a gap are in line with when it holds.
+-- The checks of a gap pass exactly if it holds.
 use Rattle.std.proofs.Common.{◌≡◌, ℕ}
 use Rattle.std.specs.Prelude.{pos}
 use Rattle.std.proofs.lemmas.List.Elements.{All-from_recursion, recursion_from_All}
@@ -47,7 +47,7 @@ module _ (p : Program) (rule : ℕ → RuleForms) (g : Gap) where
   pub faultless-holds : HasNoFault p rule g → GapHolds p rule g
   faultless-holds h = passed-holds (none_passes (gap_checks p rule g) (gap-stable p rule g) h.none)
 
--- the checks are in line
+-- the checks of a gap agree with its definition
 pub gap-checks-in-line : GapChecksAreInLine
 gap-checks-in-line = record {
   pass = λ p rule g. (passed-holds p rule g, holds-passed p rule g);

@@ -1,4 +1,4 @@
--- Facts that hold and whose bounds have bases of at least 1, and what is looked up among them.
+-- Facts that hold and whose bounds have bases of at least 1, and looking up bounds among them.
 use Rattle.std.proofs.Common.{◌≡◌, ℕ, ◌==◌, ◌&&◌, Bool, true, false, List, [], ◌∷◌, Option, Some, None, refl, subst}
 use Rattle.std.proofs.Common.{All}
 use Rattle.std.proofs.lemmas.Bool.{and_parts}
@@ -15,7 +15,7 @@ pub record IsGood (p : Program) (f : Fact) : Type 0 where
   pub holds : Holds p f
   pub based : HasBasedBound f
 
--- a time that is looked up is a good fact
+-- a time that is looked up in good facts is a good fact
 pub time-good : (p : Program) (facts : List Fact) → All (IsGood p) facts → (t : ℕ) (b : Bound)
     → time_in facts t ≡ Some b → IsGood p (Time t b)
 time-good p [] good t b h = absurd (none_some h)
@@ -78,15 +78,15 @@ pub table-good : (p : Program) (facts : List Fact) → All (IsGood p) facts → 
 table-good p facts good = record { times = time-good p facts good; sizes = size-good p facts good }
 
 module _ (p : Program) (table : Table) (good : IsGoodTable p table) where
-  -- a known time of a rule holds
+  -- the time of a rule that a good table has holds
   pub known-time : (t : ℕ) → IsKnown (table.time t) → HoldsTime p t (known (table.time t))
   known-time t (b, e) = let g : IsGood p (Time t b) = good.times t b e in rw e (g.holds)
 
-  -- a known size holds
+  -- the size of a place that a good table has holds
   pub known-size : (t i : ℕ) → IsKnown (table.size t i) → HoldsSize p t i (known (table.size t i))
   known-size t i (b, e) = let g : IsGood p (Size t i b) = good.sizes t i b e in rw e (g.holds)
 
-  -- a known bound, or 0, has bases of at least 1
+  -- a time that a good table has, or 0 if it has none, has bases of at least 1
   pub known_time-based : (t : ℕ) → IsBased (known (table.time t))
   known_time-based t = go (table.time t) refl
     where
@@ -94,7 +94,7 @@ module _ (p : Program) (table : Table) (good : IsGoodTable p table) where
       go None e = tt
       go (Some b) e = let g : IsGood p (Time t b) = good.times t b e in g.based
 
-  -- a size that a good table has, or 0 where it has none, has bases of at least 1
+  -- a size that a good table has, or 0 if it has none, has bases of at least 1
   pub known_size-based : (t i : ℕ) → IsBased (known (table.size t i))
   known_size-based t i = go (table.size t i) refl
     where

@@ -22,7 +22,7 @@ pub last_is_numbered : (p : Program) (start : List ℤ) (steps : List Step) (c :
 last_is_numbered p start [] c run = entry_is_numbered p
 last_is_numbered p start (s ∷ earlier) c (b, run, step) = rule_is_numbered p s.rule step.rule step.numbered
 
--- two symbols that are the same
+-- two symbols that are both a are the same, by the test
 pub same_symbol-from : (o w : Option ℕ) (a : ℕ) → o ≡ Some a → w ≡ Some a → same_symbol o w ≡ true
 same_symbol-from o w a e f = rw (e, f) (same_number a)
 

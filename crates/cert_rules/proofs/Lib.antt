@@ -1,4 +1,4 @@
--- soundness of nodes and gaps, first reasons and refusals, printable facts, and worked values
+-- Laws of acceptance: soundness of nodes and gaps, first reasons and refusals, printable facts, and worked values.
 pub mod FormLaws
 pub mod LastSteps
 pub mod FormBounds

@@ -1,4 +1,4 @@
--- The formula of a loop as a bound: it is at least what the loop can grow, and its bases are at least 1.
+-- The formula of a loop as a bound: it is at least the growth of the loop, and its bases are at least 1.
 use Rattle.std.proofs.Common.{◌≡◌, ℕ, zero, suc, ◌+◌, ◌*◌, ◌^◌, ◌≤◌, ◌==◌, ◌||◌, not, Bool, true, false, List, [], ◌∷◌}
 use Rattle.std.proofs.Common.{Option, refl, sym, ap, ◌∙◌, arith, All, mul-le-mul, le_trans, le_of_eq, pow-suc}
 use Rattle.std.proofs.Math.Nat.{pow-le-pow_right}
@@ -22,12 +22,12 @@ use Rattle.cert_rules.proofs.Flows.{factor-least}
 use Rattle.cert_rules.proofs.Bases.{offset_of-based}
 use Rattle.cert_rules.proofs.UnusedRules.{zero_val}
 
--- powers of 1
+-- every power of 1 is 1
 one_to : (n : ℕ) → 1 ^ n ≡ 1
 one_to zero = refl
 one_to (suc n) = pow-suc 1 n ∙ omega (arith, one_to n)
 
--- powers of a factor that doesn't multiply
+-- every power of the factor of a rule that doesn't multiply is 1
 no_growth : (fs : List Flow) (t n : ℕ) → multiplies fs t ≡ false → factor_of fs t ^ n ≡ 1
 no_growth fs t n h =
     let most : factor_of fs t ≤ 1 = ltb-false 1 (factor_of fs t) h in
@@ -37,7 +37,7 @@ no_growth fs t n h =
     single : (k : ℕ) → 1 ≤ k → k ≤ 1 → k ≡ 1
     single k a b = omega arith
 
--- the factors of all steps times the last part are at most the product of the powers and the last part
+-- the product of the factors of all steps, times the last part, is at most the product of the powers and the last part
 growth-bounded : (fs : List Flow) (time : ℕ → Option Bound) (m : List ℕ) (steps : List Step) (last : Bound) (x : ℕ)
     → x ≤ val last m → (ts : List ℕ)
     → ((t : ℕ) → is_in t ts ≡ true → multiplies fs t ≡ true → count t steps ≤ val (known (time t)) m)
@@ -65,7 +65,7 @@ growth-bounded fs time m steps last x l (t ∷ ts) h =
         alone : (b c : ℕ) → (1 * b) * c ≡ b * c
         alone b c = omega arith
 
--- the additions of all steps are at most the sum of the parts
+-- the sum of the additions of all steps is at most the sum of the parts
 additions-bounded : (s : Setting) → IsFaithful s → (fs : List Flow) → ((t : ℕ) → IsBased (addition_of fs t))
     → (time : ℕ → Option Bound) (m : List ℕ) (steps : List Step) (ts : List ℕ)
     → ((t : ℕ) → is_in t ts ≡ true → adds s fs t ≡ true → count t steps ≤ val (known (time t)) m)
@@ -99,7 +99,7 @@ loop-bounded s true_to fs based time m steps ts h =
     growth-bounded fs time m steps _ (val (base_of fs) m + income (λ t. val (addition_of fs t) m) ts steps)
     (omega (arith, added)) ts (λ t k n. h t k (or_left (multiplies fs t) (adds s fs t) n))
 
--- the offset of a flow has bases of at least 1
+-- the offset of this flow has bases of at least 1
 abbrev pub HasBasedOffset : Flow → Type 0
 HasBasedOffset f = IsBased f.offset
 
@@ -113,7 +113,7 @@ offsets-based test (f ∷ fs) h = go (test f) refl (offsets-based test fs (All-t
 
 module _ (s : Setting) (members : List Member) (size : ℕ → ℕ → Option Bound)
     (known_based : (e i : ℕ) → IsBased (known (size e i))) where
-  -- all flows from listed rules have offsets with bases of at least 1
+  -- the flows into a member from listed rules have offsets with bases of at least 1
   flows_from-based : (m : Member) (es : List ℕ) → All HasBasedOffset (flows_from s members size m es)
   flows_from-based m [] = All-nil HasBasedOffset
   flows_from-based m (e ∷ es) =
@@ -125,7 +125,7 @@ module _ (s : Setting) (members : List Member) (size : ℕ → ℕ → Option Bo
       (offset_of-based (poly_at s m.result_variable) m.local.low (is_member members e) (sizes_after size e)
       (λ j. known_based e (suc j))) (flows_from-based m es))
 
-  -- all flows have offsets with bases of at least 1
+  -- all flows into these members have offsets with bases of at least 1
   pub flows_into-based : (ms : List Member) → All HasBasedOffset (flows_into s members size ms)
   flows_into-based [] = All-nil HasBasedOffset
   flows_into-based (m ∷ ms) =

@@ -1,4 +1,4 @@
--- How much a loop can grow: what comes in, times the factors of the steps, and what they add.
+-- How much a loop can grow: the size that enters, times the factors of the steps, and the additions of the steps.
 use Rattle.std.proofs.Common.{◌≡◌, ◌⊎◌, inl, inr, ℕ, suc, ◌+◌, ◌*◌, ◌^◌, ◌≤◌, max, Bool, true, false, List, [], ◌∷◌}
 use Rattle.std.proofs.Common.{refl, sym, ap, ◌∙◌, arith, mul-le-mul, le_trans, le_of_eq}
 use Rattle.std.proofs.Math.Nat.{pow-le-pow_right, one-le-pow}
@@ -18,7 +18,7 @@ module _ (factor : ℕ → ℕ) (least : (t : ℕ) → 1 ≤ factor t) where
   growth-positive (t ∷ ts) steps =
       mul-le-mul (one-le-pow (count t steps) (factor t) (least t)) (growth-positive ts steps)
 
-  -- one more step makes no growth less
+  -- one more step doesn't make the growth less
   growth-grows : (ts : List ℕ) (s : Step) (steps : List Step) → growth factor ts steps ≤ growth factor ts (s ∷ steps)
   growth-grows [] s steps = omega arith
   growth-grows (t ∷ ts) s steps = mul-le-mul (pow-le-pow_right (least t) (omega arith)) (growth-grows ts s steps)
@@ -54,12 +54,12 @@ module _ (factor : ℕ → ℕ) (least : (t : ℕ) → 1 ≤ factor t) where
 
 module _ {C : Type 0} (IsRunTo : List Step → C → Type 0) (size : C → ℕ → ℕ) (member : ℕ → ℕ → Bool) (base : ℕ)
     (factor addition : ℕ → ℕ) (ts : List ℕ) where
-  -- all that the members can grow to
+  -- the bound on the members after these steps: the product of the factors, times the base and all that the steps added
   abbrev most : List Step → ℕ
   most steps = grown base factor addition ts steps
 
-  -- members that are fed: after every run each one of the last rule is within the factors of all steps, times the
-  -- base and all that the steps added
+  -- members that are fed: after every run each member of its last rule is at most the product of the factors of all
+  -- steps, times the base and all that the steps added
   pub fed : IsFed IsRunTo size member base factor addition ts → (steps : List Step) (c : C) → IsRunTo steps c
       → (i : ℕ) → member (last_rule steps) i ≡ true → size c i ≤ most steps
   fed h [] c run i k = le_trans (h.start c run i k)
@@ -103,7 +103,7 @@ module _ {C : Type 0} (IsRunTo : List Step → C → Type 0) (size : C → ℕ �
                 base (income addition ts (s ∷ earlier)) (growth-positive factor h.least ts (s ∷ earlier)),
           )
 
--- the growth of loops on the runs of a program
+-- the bound on the growth of loops holds on the runs of a program
 pub loops_grow : LoopsGrow
 loops_grow = record {
   each =

@@ -12,15 +12,15 @@ use Rattle.cert_rules.specs.RefusalLaws.{LemmasAreTheirNodes}
 use Rattle.cert_rules.proofs.CheckLists.{each-append, append-each}
 
 module _ (s : Setting) (past : List (List Fact)) where
-  -- all nodes of these are accepted by themselves
+  -- all these nodes are accepted by themselves
   abbrev AllPass : List Proof → Type 0
   AllPass nodes = AllByRecursion (AcceptsNode s past) nodes
 
-  -- accepted nodes, and one more after them
+  -- if these nodes and one more are accepted, so are all of them
   with_last : (nodes : List Proof) (last : Proof) → AllPass nodes → AcceptsNode s past last → AllPass (nodes ++ last ∷ [])
   with_last nodes last h k = each-append (AcceptsNode s past) nodes (last ∷ []) h (k, tt)
 
-  -- accepted nodes and the last one, from all of them
+  -- if these nodes with one more at the end are all accepted, so are these and the last one
   both_parts : (nodes : List Proof) (last : Proof) → AllPass (nodes ++ last ∷ []) → AllPass nodes × AcceptsNode s past last
   both_parts nodes last h = let k = append-each (AcceptsNode s past) nodes (last ∷ []) h in (k.0, k.1.0)
 
@@ -74,7 +74,7 @@ module _ (s : Setting) (past : List (List Fact)) where
         let k = append-each (AcceptsNode s past) (nodes_of proof) (nodes_of_all uses) h in
         (nodes-accepted proof k.0, uses-accepted uses k.1)
 
--- lemmas are their nodes
+-- a lemma is accepted exactly if each of its nodes is accepted by itself
 pub lemmas-nodes : LemmasAreTheirNodes
 lemmas-nodes = record {
   each = λ s past proof. (

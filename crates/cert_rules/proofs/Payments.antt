@@ -8,7 +8,8 @@ use Rattle.cert_rules.specs.Composed.{both_parts, parts_for}
 use Rattle.run_counting.specs.Paying.{income}
 use Rattle.run_counting.proofs.model.Membership.{same_number}
 
--- the sum over the entries of a run is at most the bound with a part for each: its time times its weight
+-- the sum, over the entries of a run, of their weights is at most the bound with a part for each: its time times its
+-- weight
 pub income-bounded : (time weight : ℕ → Bound) (m : List ℕ) (es : List ℕ) (steps : List Step)
     → ((e : ℕ) → is_in e es ≡ true → count e steps ≤ val (time e) m)
     → income (λ e. val (weight e) m) es steps ≤ val_sum

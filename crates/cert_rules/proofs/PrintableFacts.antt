@@ -44,7 +44,7 @@ record IsKept (s : Setting) (n : ℕ) (P : Bound → Type 0) : Type 0 where
 abbrev EachBound : (Bound → Type 0) → List Fact → Type 0
 EachBound P facts = AllByRecursion (λ f. P (bound_in f)) facts
 
--- if the bounds of facts have a property, so do a time and a size that are looked up among them
+-- laws for a property that the bounds of facts have
 module _ (P : Bound → Type 0) where
   time-kept : (facts : List Fact) → EachBound P facts → (t : ℕ) (b : Bound) → time_in facts t ≡ Some b → P b
   time-kept [] h t b e = absurd (none e)
@@ -73,7 +73,7 @@ module _ (P : Bound → Type 0) where
       go false later k = later k
 
 module _ (s : Setting) (tidying : IsTidying s) (n : ℕ) (P : Bound → Type 0) (kept : IsKept s n P) where
-  -- the rewritten bound that an accepted node composes of known bounds has the property
+  -- laws for the bounds that an accepted node composes of known bounds with the property
   module _ (table : Table) (times : (t : ℕ) (b : Bound) → table.time t ≡ Some b → P b)
       (sizes : (t i : ℕ) (b : Bound) → table.size t i ≡ Some b → P b) where
     rank-kept : (node : RankNode) → HasRankShape s node → P (s.rewrite (rank_time s node table))
@@ -115,7 +115,7 @@ module _ (s : Setting) (tidying : IsTidying s) (n : ℕ) (P : Bound → Type 0) 
         table.time table.size (λ u b e. kept.reads b (times u b e)) (λ u i b e. kept.reads b (sizes u i b e)) t side_bound
         (tidying.costs t) shape)
 
-  -- the sizes of a rule that never runs
+  -- the sizes of a rule that never runs have the property
   zeros-kept : (t : ℕ) (is : List ℕ) → EachBound P (zero_sizes t is)
   zeros-kept t [] = tt
   zeros-kept t (i ∷ is) = (kept.constant 0 (omega arith), zeros-kept t is)
@@ -127,18 +127,18 @@ module _ (s : Setting) (tidying : IsTidying s) (n : ℕ) (P : Bound → Type 0) 
   never-kept (Size t i b ∷ facts) = tt
   never-kept (Cost t b ∷ facts) = tt
 
-  -- the sizes of the virtual entry
+  -- the sizes of the virtual entry have the property
   starts-kept : (a k : ℕ) → 1 ≤ a → a + k ≤ n + 1 → EachBound P (start_sizes (range_with_len a k))
   starts-kept a zero low high = tt
   starts-kept a (suc k) low high =
       (kept.input (a - 1) (omega (arith, low, high)), starts-kept (a + 1) k (omega arith) (omega (arith, high)))
 
-  -- the size of each member of a loop
+  -- the sizes of the members of a loop have the property
   members-kept : (ms : List Member) (b : Bound) → P b → EachBound P (cycle_facts b ms)
   members-kept [] b h = tt
   members-kept (m ∷ ms) b h = (h, members-kept ms b h)
 
-  -- the bound that a lemma writes
+  -- the fact of a `weaken` node has the property if the bound that it writes has
   weaker-kept : (facts : List Fact) (b : Bound) → P b → EachBound P (weakened facts b)
   weaker-kept [] b h = tt
   weaker-kept (Time t a ∷ []) b h = (h, tt)
@@ -159,7 +159,7 @@ module _ (s : Setting) (tidying : IsTidying s) (n : ℕ) (P : Bound → Type 0) 
     lemma-kept (facts ∷ past) h (suc (suc i)) = lemma-kept past h.1 (suc i)
 
     module _ (past : List (List Fact)) (good : AllByRecursion (EachBound P) past) where
-      -- all nodes of a list write what they may
+      -- each node of the list satisfies `Writes`
       abbrev AllWrite : List Proof → Type 0
       AllWrite nodes = AllByRecursion Writes nodes
 
@@ -224,13 +224,13 @@ module _ (s : Setting) (tidying : IsTidying s) (n : ℕ) (P : Bound → Type 0) 
         (each-append (EachBound P) past (facts_of s past proof ∷ []) good (node-kept past good proof h.0 w.0, tt)) proofs
         h.1 w.1
 
--- recursion over lists of lists, and positions in them
+-- a property of all facts of all lists, stated by recursion, is one stated by `All`
 each-each : (Q : Fact → Type 0) (past : List (List Fact)) → AllByRecursion (AllByRecursion Q) past → All (All Q) past
 each-each Q past h =
     All-weaker (AllByRecursion Q) (All Q) (λ facts k. All-from_recursion Q facts k) past
     (All-from_recursion (AllByRecursion Q) past h)
 
--- all nodes write something
+-- each node has the property that always holds
 any_writes : (proofs : List Proof) → AllByRecursion (λ proof. AllByRecursion (λ (node : Proof). Unit {0}) (nodes_of proof)) proofs
 any_writes [] = tt
 any_writes (proof ∷ proofs) = (each (nodes_of proof), any_writes proofs)
@@ -240,7 +240,7 @@ any_writes (proof ∷ proofs) = (each (nodes_of proof), any_writes proofs)
     each (node ∷ nodes) = (tt, each nodes)
 
 module _ (s : Setting) (tidying : IsTidying s) (n : ℕ) where
-  -- tidy numbers over the first inputs are kept, and so is that a bound is tidy
+  -- that bounds have tidy numbers over the first inputs is kept by nodes, and so is that they are tidy
   numbers-are_kept : IsKept s n (λ b. HasTidyNumbers b × ReadsBelow n b)
   numbers-are_kept = record {
     constant = λ c low. (omega (arith, low), tt);
@@ -259,7 +259,7 @@ module _ (s : Setting) (tidying : IsTidying s) (n : ℕ) where
     rewritten = λ b h k. (tidying.tidy b h, tidying.reads b n k);
   }
 
--- the law
+-- the facts of accepted lemmas can be printed
 pub accepted-facts-printable : AcceptedFactsArePrintable
 unfolding AcceptsLemmas facts_of_lemmas
 accepted-facts-printable = record {

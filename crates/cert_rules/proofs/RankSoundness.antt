@@ -77,7 +77,7 @@ value_behind s t b free c x f =
     ∙ ap (λ (v : ℤ). v +ℤ f.constant *ℤ pos 1)
     (dot-same f.coefs (λ i. form_value (form_at (s.new_values t) i) x.z (pos 1)) (values_at c) (λ i k. x.new_values i))
 
--- a certificate of a rule bounds the function's fall by a step
+-- if the form of a loss by k isn't negative at the point of a step, the function loses at least k in that step
 loses : (s : Setting) (t : ℕ) (b : Config) (free : List ℤ) (c : Config) (x : StepPoint s t b free c) (f g : Form)
     (k : ℤ) → length f.coefs ≤ length b.values
     → pos 0 ≤ℤ form_value (loss f g (s.new_values t) k) x.z (pos 1) → (value_at g c +ℤ k) ≤ℤ value_at f b
@@ -90,7 +90,7 @@ loses s t b free c x f g k l h =
         → (z +ℤ k) ≤ℤ value_at f b
     from w d n v y z a b' c' d' e' h' = omega (arith, ints, a, b', c', d', e', h')
 
--- the floor's certificate bounds the function before a step
+-- if a form less k isn't negative at the point of a step, the form is at least k before that step
 floors : (s : Setting) (t : ℕ) (b : Config) (free : List ℤ) (c : Config) (x : StepPoint s t b free c) (f : Form)
     (k : ℤ) → length f.coefs ≤ length b.values
     → pos 0 ≤ℤ form_value (less f (constant_form k)) x.z (pos 1) → k ≤ℤ value_at f b
@@ -120,11 +120,11 @@ module _ (s : Setting) (true_to : IsFaithful s) (table : Table) (good : IsGoodTa
   level c = cond (is_left_by s.program node.set (Some c.at))
       (height (value_at (rank_form node.forms (Some c.at)) c)) 0
 
-  -- the level of a configuration is unique
+  -- this number is the level of the configuration, which has no other
   abbrev HasLevel : Config → ℕ → Type 0
   HasLevel c l = l ≡ level c
 
-  -- the function where an entry leads to, as a bound, and its value
+  -- a bound on the function where an entry leads to, and the value of that bound
   abbrev entry_weight : ℕ → Bound
   entry_weight e = form_bound (rank_form node.forms (target_of s.program e)) node.den (sizes_after table.size e)
 
@@ -137,7 +137,7 @@ module _ (s : Setting) (true_to : IsFaithful s) (table : Table) (good : IsGoodTa
   abbrev RunTo : List Step → Config → Type 0
   RunTo steps c = IsRun s.program start steps c
 
-  -- an entry is listed
+  -- the last rule of a run that leads to a source of the set from outside is a listed entry
   entry_listed : (steps : List Step) (c : Config) → RunTo steps c → is_in (last_rule steps) node.set ≡ false
       → is_left_by s.program node.set (Some c.at) ≡ true
       → is_in (last_rule steps) listed ≡ true
@@ -149,7 +149,7 @@ module _ (s : Setting) (true_to : IsFaithful s) (table : Table) (good : IsGoodTa
       (not_from_false (is_in (last_rule steps) node.set) out)
       (ap (λ (o : Option ℕ). is_left_by s.program node.set o) (stands s.program start steps c run) ∙ left))
 
-  -- where the last rule is no rule of the set, the level is within what that rule may bring in
+  -- if the last rule is not in the set, the level is at most what that rule may bring in
   arrives : (steps : List Step) (c : Config) → RunTo steps c → is_in (last_rule steps) node.set ≡ false
       → level c ≤ node.den * allowance weight listed (last_rule steps)
   arrives steps c run out = go (is_left_by s.program node.set (Some c.at)) refl
@@ -179,7 +179,7 @@ module _ (s : Setting) (true_to : IsFaithful s) (table : Table) (good : IsGoodTa
       none_some : (r : Rule) → None ≡ Some r → ⊥
       none_some r e = cc
 
-  -- a rule of the set leaves its source
+  -- a step by a rule of the set leaves the rule's source
   source_left : (b : Config) (step : Step) (c : Config) → IsStep s.program b step c → is_in step.rule node.set ≡ true
       → is_left_by s.program node.set (Some b.at) ≡ true
   source_left b step c x inside =
@@ -190,7 +190,7 @@ module _ (s : Setting) (true_to : IsFaithful s) (table : Table) (good : IsGoodTa
   abbrev form_here : Config → Form
   form_here c = rank_form node.forms (Some c.at)
 
-  -- it reads only places of the configuration
+  -- the form before a step reads only places of the configuration
   fits_before : (b : Config) (step : Step) (c : Config) → IsStep s.program b step c
       → length (form_here b).coefs ≤ length b.values
   fits_before b step c x =
@@ -202,7 +202,7 @@ module _ (s : Setting) (true_to : IsFaithful s) (table : Table) (good : IsGoodTa
         ap (λ (a : ℕ). arity_of s.program a) x.leads.source,
       )
 
-  -- the fall of the function by a step of a rule of the set
+  -- the function falls by at least the least loss in a step by a rule of the set
   loss_by : (b : Config) (step : Step) (c : Config) → IsStep s.program b step c → is_in step.rule node.set ≡ true
       → (value_at (form_here c) c +ℤ least_loss node step.rule) ≤ℤ value_at (form_here b) b
   loss_by b step c x inside =
@@ -245,7 +245,7 @@ module _ (s : Setting) (true_to : IsFaithful s) (table : Table) (good : IsGoodTa
       go true e = rw e (omega arith)
       go false e = rw e (omega arith)
 
-  -- a step by a rule of the set pays for itself
+  -- by the strict rule the level falls by at least the denominator, and by another rule of the set it doesn't rise
   pays : (b : Config) (step : Step) (c : Config) → IsStep s.program b step c → is_in step.rule node.set ≡ true
       → level c + node.den * one_if_same step.rule node.rule ≤ level b
   pays b step c x inside = go (step.rule == node.rule) refl

@@ -1,4 +1,4 @@
--- First reasons are in line with acceptance, node by node.
+-- First reasons agree with acceptance, for each kind of node.
 use Rattle.std.proofs.Common.{List}
 use Rattle.run_counting.specs.model.Facts.{Fact}
 use Rattle.cert_rules.specs.Nodes.{Proof, Cite, Start, Empty, Unreached, Never, Rank, Spread, Cycle, Weaken, Charge}
@@ -45,7 +45,7 @@ module _ (s : Setting) (past : List (List Fact)) where
   passed-accepts (Weaken child b) h = record { shape = h.0; weaker = h.1.0 }
   passed-accepts (Charge node uses) h = passes-cost s (table_of (joined_facts s past uses)) node h
 
-  -- none can fail without being false
+  -- each check of a node is stable
   checks-stable : (proof : Proof) → AreStable (checks_of s past proof)
   checks-stable (Cite n) = (stable-cite past n, tt)
   checks-stable Start = tt
@@ -59,7 +59,7 @@ module _ (s : Setting) (past : List (List Fact)) where
   checks-stable (Weaken child b) = (stable-weaken_shape s.program b, (stable-weaker s (facts_of s past child) b, tt))
   checks-stable (Charge node uses) = cost-stable s (table_of (joined_facts s past uses)) node
 
--- the law
+-- first reasons agree with acceptance
 pub first-reasons-in-line : FirstReasonsAreInLine
 first-reasons-in-line = record {
   none = λ s past proof. (

@@ -1,4 +1,4 @@
--- Lists of lemmas are accepted exactly if no node of theirs is refused, and one node at most is.
+-- Lists of lemmas are accepted exactly if no node of theirs is refused, and at most one node is.
 use Rattle.std.proofs.Common.{◌≡◌, ℕ, suc, List, [], ◌∷◌, ◌++◌, length, refl, sym, ◌∙◌, ap, subst}
 use Rattle.run_counting.specs.model.Facts.{Fact}
 use Rattle.cert_rules.specs.Nodes.{Proof}
@@ -19,7 +19,7 @@ module _ (s : Setting) where
   abbrev FailsAt : List (List Fact) → Proof → ℕ → Reason → Type 0
   FailsAt past proof node r = FailsFirst (AcceptsNode s past) (IsFirstReason s past) (nodes_of proof) node r
 
-  -- an accepted node has no reason, and a node without one is accepted
+  -- an accepted node has no first reason, and a node without one is accepted
   reasonless : (past : List (List Fact)) (node : Proof) → AcceptsNode s past node → (r : Reason)
       → ¬ (IsFirstReason s past node r)
   reasonless past node h = ((first-reasons-in-line.none s past node).0 h).none
@@ -39,24 +39,25 @@ module _ (s : Setting) where
       (none-passed (AcceptsNode s past) (IsFirstReason s past)
       (λ node k. (first-reasons-in-line.none s past node).1 (record { none = k })) (nodes_of proof) h)
 
-  -- a lemma has one node at most that is the first to fail
+  -- at most one node of a lemma is the first to fail
   one_node : (past : List (List Fact)) (proof : Proof) (i j : ℕ) (q r : Reason) → FailsAt past proof i q
       → FailsAt past proof j r → (i ≡ j) × (q ≡ r)
   one_node past proof i j q r =
       first-one (AcceptsNode s past) (IsFirstReason s past) (reasonless past)
       (λ node x y. first-reasons-in-line.one s past node x y) (nodes_of proof) i j q r
 
-  -- the facts of the lemmas before, and those of one more
+  -- the facts of the lemmas before, with those of one more lemma
   abbrev after : List (List Fact) → Proof → List (List Fact)
   after past proof = past ++ facts_of s past proof ∷ []
 
-  -- the lemma before which an accepted list is cut is accepted
+  -- if a list of lemmas is accepted, the lemma at a cut is accepted after those before it
   at_cut : (past : List (List Fact)) (b : List Proof) (proof : Proof) (d : List Proof) → AcceptsFrom s past (b ++ proof ∷ d)
       → Accepts s (facts_from s past b) proof
   at_cut past [] proof d h = h.0
   at_cut past (p ∷ b) proof d h = at_cut (after past p) b proof d h.1
 
-  -- of a list that is cut twice before a lemma that fails, those before it being accepted, the two cuts are one
+  -- if a list is cut twice before a lemma that fails, and the lemmas before each cut are accepted, the two cuts are the
+  -- same
   one_cut : (past : List (List Fact)) (b c : List Proof) (x y : Proof) (d e : List Proof) (i j : ℕ) (q r : Reason)
       → b ++ x ∷ d ≡ c ++ y ∷ e → AcceptsFrom s past b → AcceptsFrom s past c → FailsAt (facts_from s past b) x i q
       → FailsAt (facts_from s past c) y j r → (length b ≡ length c) × (i ≡ j) × (q ≡ r)
@@ -87,7 +88,7 @@ module _ (s : Setting) where
             (λ b q d i r e k. h (p ∷ b) q d i r (ap (λ (qs : List Proof). p ∷ qs) e) (here, k)),
       )
 
--- the law
+-- refusals agree with acceptance
 pub refusals-in-line : RefusalsAreInLine
 unfolding AcceptsLemmas facts_of_lemmas
 refusals-in-line = record {

@@ -1,4 +1,4 @@
--- Points that refute the question for a function are the moves and the floor of a gap that holds.
+-- Points that refute the question for a ranking function make a gap that holds: they are its moves and its floor.
 use Rattle.std.proofs.Common.{◌≡◌, ℕ, not, Bool, true, false, if◌then◌else◌, nat_eq, List, [], ◌∷◌, ◌++◌}
 use Rattle.std.proofs.Common.{length, map, filter, get_or, refl, sym, ◌∙◌, ap, subst, arith, All}
 use Rattle.std.specs.Prelude.{ℤ, pos, negsuc, neg_ℤ, ◌+ℤ◌, ◌*ℤ◌, ◌<ℤ◌}
@@ -20,7 +20,7 @@ use Rattle.cert_rules.proofs.GapExclusion.{groups_with, elements_with, total-is,
 use Rattle.cert_rules.proofs.GapPoints.{AreEach, each-of, of-each}
 
 module _ (b : RankedSet) (cs : List Coefficient) (floor : ScaledPoint) where
-  -- elements of the groups are points and rays of the rules, and of the strict one
+  -- the elements of the groups are points and rays of the rules, and the last one is one of the strict rule
   pub each-meets : (set : List ℕ) (moves : List ScaledPoint) → length moves ≡ length set
       → AreElements (groups_with b cs floor set) (elements_with moves floor)
       → AreEach (λ t z. MeetsAt (b.rule t).rows z) set moves × MeetsAt (b.rule b.strict).rows floor
@@ -30,7 +30,7 @@ module _ (b : RankedSet) (cs : List Coefficient) (floor : ScaledPoint) where
   each-meets (t ∷ set) (z ∷ moves) e h =
       let k = each-meets set moves (omega (arith, e)) h.1 in ((h.0.1, k.0), k.1)
 
-  -- where the strict rule's move and the floor have no denominator, the fixed forms add up to nothing
+  -- if the strict rule's move and the floor have the denominator 0, the fixed forms add up to 0
   pub fixed-none : (set : List ℕ) (moves : List ScaledPoint) → AreEach (λ t z. t ≡ b.strict → z.den ≡ 0) set moves
       → floor.den ≡ 0 → fixed_total (groups_with b cs floor set) (elements_with moves floor) ≡ pos 0
   fixed-none [] [] h f = least floor.den f
@@ -86,7 +86,7 @@ module _ (p : Program) (b : RankedSet) (g : Gap) (about : IsAbout p b g) (shape 
   nowhere : Coefficient
   nowhere = record { symbol = 0; place = 0 }
 
-  -- the balance of each coefficient is its total
+  -- the balance at each coefficient is the total there
   balanced-cs : All (λ c. balance b.rule g c ≡ pos 0) cs
   balanced-cs =
       All-from_get_or (λ c. balance b.rule g c ≡ pos 0) cs nowhere
@@ -102,7 +102,7 @@ module _ (p : Program) (b : RankedSet) (g : Gap) (about : IsAbout p b g) (shape 
           ∙ ap (λ (u : ℕ). net b.rule (get_or cs i nowhere) g.set g.moves
           +ℤ value_at (at_source (b.rule u) (get_or cs i nowhere)) g.floor) f
 
-  -- something is lost
+  -- the denominators of the strict rule's move and of the floor aren't both 0
   some-lost : ¬ (((point_of g.set g.moves g.rule).den ≡ 0) × (g.floor.den ≡ 0))
   some-lost h =
       below _ refutes.below
@@ -115,7 +115,7 @@ module _ (p : Program) (b : RankedSet) (g : Gap) (about : IsAbout p b g) (shape 
       below : (f : ℤ) → f <ℤ pos 0 → f ≡ pos 0 → ⊥
       below f l e = omega (arith, ints, l, e)
 
-  -- with kept points the gap holds
+  -- with kept points of the rules the gap holds
   pub refuted-holds : ((t : ℕ) → is_in t g.set ≡ true → IsPointOf (b.rule t).rows (point_of g.set g.kept t))
       → GapHolds p b.rule g
   refuted-holds kept = record {

@@ -33,7 +33,7 @@ on_side-at_most : (side : Side) (v : ℤ) → on_side side v ≤ℤ pos (nat_abs
 on_side-at_most Up v = abs-up v
 on_side-at_most Low v = abs-down v
 
--- the value at a place from 1 on
+-- the value at a place counted from 1 is that at the position one less
 value_at_place : (c : Config) (i : ℕ) → 1 ≤ i → place_value c i ≡ at c.values (i - 1)
 value_at_place c zero h = absurd (omega arith)
 value_at_place c (suc i) h = ap (λ (j : ℕ). at c.values j) back
@@ -41,7 +41,7 @@ value_at_place c (suc i) h = ap (λ (j : ℕ). at c.values j) back
     back : i ≡ suc i - 1
     back = omega arith
 
--- the polynomial of a place from 1 on
+-- the polynomial at a place counted from 1 is that at the position one less
 poly_back : (s : Setting) (t i : ℕ) (q : Polynomial) → 1 ≤ i → poly_of s t i ≡ Some q → s.poly t (i - 1) ≡ Some q
 poly_back s t zero q h e = absurd (omega arith)
 poly_back s t (suc i) q h e = ap (λ (j : ℕ). s.poly t j) back ∙ e
@@ -91,12 +91,12 @@ module _ (s : Setting) (result_variable : ResultVariable) (b : Config) (free : L
     (one : 1 ≤ result_variable.place) (places : left_of s.program result_variable.rule ≡ length b.values)
     (inside : ℕ → Bool) (g : ℕ) (sizes : ℕ → Bound) (m : List ℕ)
     (inner : (j : ℕ) → inside j ≡ true → nat_abs (at b.values j) ≤ g) where
-  -- the new value on its side is at most the slope times what bounds the places inside, plus the offset
+  -- the new value on its side is at most the slope times a bound on the places inside, plus the offset
   abbrev pub IsCovered : Side → SideBound → Type 0
   IsCovered side side_bound = on_side side (place_value c result_variable.place) ≤ℤ pos
       (slope_of side_bound inside * g + val (offset_of (poly_at s result_variable) side_bound inside sizes) m)
 
-  -- the places outside that a side bound reads have their sizes
+  -- the absolute value at each place outside that a side bound reads is at most its size
   abbrev pub HasSizes : SideBound → Type 0
   HasSizes side_bound = (j : ℕ) → reads (poly_at s result_variable) side_bound j ≡ true → inside j ≡ false
       → nat_abs (at b.values j) ≤ val (sizes j) m

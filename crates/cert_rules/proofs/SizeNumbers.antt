@@ -27,10 +27,11 @@ use Rattle.cert_rules.specs.Printable.{HasSmallCoefficients}
 use Rattle.cert_rules.proofs.CheckLists.{each-append}
 use Rattle.cert_rules.proofs.ComposedNumbers.{known-each, parts_for-each, rest_bound-each, form_bound-each}
 
--- a fact of the nodes of a bound that small constants, sums, products, maxima, and powers to a base of at least 2 have
+-- laws for a property of the nodes of a bound that small constants, sums, products, maxima, and powers to a base of at
+-- least 2 have
 module _ (F : Bound → Type 0) (constant : (c : ℕ) → c ≤ constant_limit → F (Constant c))
     (sum : (bs : Parts) → F (SumOf bs)) (product : (bs : Parts) → F (ProductOf bs)) where
-  -- a polynomial as a bound
+  -- a monomial as a bound has the property if the sizes have
   monomial-each : (m : Monomial) (sizes : ℕ → Bound) → nat_abs m.coef ≤ constant_limit
       → ((j : ℕ) → EachNode F (sizes j)) → EachNode F (monomial_bound sizes m)
   monomial-each m sizes low h = (
@@ -52,21 +53,21 @@ module _ (F : Bound → Type 0) (constant : (c : ℕ) → c ≤ constant_limit �
         go None low = constant 0 (omega arith)
         go (Some q) low = (sum _, monomials-each q sizes (low q refl) h)
 
-    -- a side bound as a bound
+    -- a side bound as a bound has the property if the sizes have
     pub side_bound-each : (s : Setting) (t left : ℕ) (side_bound : SideBound) (sizes : ℕ → Bound) → HasSideBoundShape s t left side_bound
         → ((j : ℕ) → EachNode F (sizes j)) → EachNode F (composed_side_bound o side_bound sizes)
     side_bound-each s t left (Linear den form multipliers) sizes shape h =
         form_bound-each F constant sum product form den sizes shape.limit shape.den_limit h
     side_bound-each s t left Poly sizes shape h = polynomial-each sizes h
 
-    -- the offset of a side bound
+    -- the offset of a side bound has the property if the sizes have
     pub offset-each : (s : Setting) (t left : ℕ) (side_bound : SideBound) (inside : ℕ → Bool) (sizes : ℕ → Bound)
         → HasSideBoundShape s t left side_bound → ((j : ℕ) → EachNode F (sizes j)) → EachNode F (offset_of o side_bound inside sizes)
     offset-each s t left (Linear den form multipliers) inside sizes shape h =
         rest_bound-each F constant sum product form den inside sizes shape.limit shape.den_limit h
     offset-each s t left Poly inside sizes shape h = polynomial-each sizes h
 
--- such a fact, and a setting whose updates have small coefficients
+-- laws for such a property, and a setting whose updates have small coefficients
 module _ (F : Bound → Type 0) (constant : (c : ℕ) → c ≤ constant_limit → F (Constant c))
     (sum : (bs : Parts) → F (SumOf bs)) (product : (bs : Parts) → F (ProductOf bs))
     (maximum : (bs : Parts) → F (MaximumOf bs)) (power : (c : ℕ) (e : Bound) → 2 ≤ c → F (PowerOf c e)) (s : Setting)
@@ -81,13 +82,13 @@ module _ (F : Bound → Type 0) (constant : (c : ℕ) → c ≤ constant_limit �
           none x = cc
       by (suc i) k = few m.rule i q k
 
-  -- a side bound of a result variable
+  -- the side bound of a result variable, as a bound, has the property
   at_result_variable-each : (m : ResultVariable) (side_bound : SideBound) (sizes : ℕ → Bound) → HasSideBoundShape s m.rule (left_of s.program m.rule) side_bound
       → ((j : ℕ) → EachNode F (sizes j)) → EachNode F (composed_side_bound (poly_at s m) side_bound sizes)
   at_result_variable-each m side_bound sizes shape h =
       side_bound-each F constant sum product (poly_at s m) (result_variable-few m) s m.rule (left_of s.program m.rule) side_bound sizes shape h
 
-  -- the offset of a side bound of a result variable
+  -- the offset of the side bound of a result variable has the property
   adds-each : (m : ResultVariable) (side_bound : SideBound) (inside : ℕ → Bool) (sizes : ℕ → Bound)
       → HasSideBoundShape s m.rule (left_of s.program m.rule) side_bound → ((j : ℕ) → EachNode F (sizes j))
       → EachNode F (offset_of (poly_at s m) side_bound inside sizes)
@@ -104,7 +105,7 @@ module _ (F : Bound → Type 0) (constant : (c : ℕ) → c ≤ constant_limit �
     after-each : (e j : ℕ) → EachNode F (sizes_after size e j)
     after-each e j = known-each F constant sum product (size e (suc j)) (sizes e (suc j))
 
-    -- the size of a place that doesn't loop
+    -- the size of a place that doesn't loop has the property
     pub spread-each : (m : Member) → HasMemberShape s m → EachNode F (spread_of s m size)
     spread-each m shape =
         (maximum _, parts_for-each F constant sum product (spread_part s m size) part (pre s.program m.result_variable.rule))
@@ -118,7 +119,7 @@ module _ (F : Bound → Type 0) (constant : (c : ℕ) → c ≤ constant_limit �
           ),
         )
 
-    -- the cost of all steps by a rule
+    -- the cost of all steps by a rule has the property
     pub cost-each : (t : ℕ) (side_bound : SideBound) → ((q : Polynomial) → s.cost_poly t ≡ Some q → HasSmallCoefficients q)
         → HasSideBoundShape (costs_of s) t (left_of s.program t) side_bound → EachNode F (cost_of s t side_bound time size)
     cost-each t side_bound few_costs shape = (
@@ -138,7 +139,7 @@ module _ (F : Bound → Type 0) (constant : (c : ℕ) → c ≤ constant_limit �
       ),
     )
 
-    -- the flows of a loop
+    -- the offset of this flow has the property
     abbrev HasOffset : Flow → Type 0
     HasOffset f = EachNode F f.offset
 
@@ -171,7 +172,7 @@ module _ (F : Bound → Type 0) (constant : (c : ℕ) → c ≤ constant_limit �
         go true rest = (h.0, rest)
         go false rest = rest
 
-    -- the size of the members of a loop
+    -- laws for flows whose offsets have the property
     module _ (fs : List Flow) (each : AllByRecursion HasOffset fs) where
       growth-each : (ts : List ℕ) (last : Bound) → EachNode F last → EachNodeOfAll F (growth_parts fs time ts last)
       growth-each [] last h = (h, tt)

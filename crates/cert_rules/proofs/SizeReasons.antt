@@ -53,7 +53,7 @@ reads-left s result_variable side Poly shape ok j r =
     (subst (λ (o : Option Polynomial). has_variable o j ≡ true) ok.nonlinear r)
 
 module _ (s : Setting) (table : Table) (members : List Member) where
-  -- the test that a place is read and is no member
+  -- the test that a place of the rule before is read and is no member
   abbrev is_needed : Member → SideBound → ℕ → ℕ → Bool
   is_needed m side_bound e j = reads (poly_at s m.result_variable) side_bound j && not (is_member members e j)
 
@@ -184,7 +184,7 @@ module _ (s : Setting) (table : Table) (members : List Member) where
   into-stable (m ∷ ms) rest h =
       from-stable m (pre s.program m.result_variable.rule) (straight_into s members ms rest) (into-stable ms rest h)
 
-  -- a loop's checks pass exactly if it is accepted
+  -- the loop needs the time of rule t: the rule multiplies or adds
   abbrev needs_time : ℕ → Bool
   needs_time t = multiplies (flows s members table.size) t || adds s (flows s members table.size) t
 
@@ -222,7 +222,7 @@ module _ (s : Setting) (table : Table) (members : List Member) where
         small = times.1.0;
       }
 
-  -- no check of a loop can fail without being false
+  -- each check of a loop is stable
   pub cycle-stable : AreStable (cycle_checks s table members)
   cycle-stable = (
     stable-cycle_shape s members,
@@ -234,7 +234,7 @@ module _ (s : Setting) (table : Table) (members : List Member) where
         (stable-small s.rewrite (cycle_size s table members), tt))))),
   )
 
--- a spread's checks pass exactly if it is accepted
+-- laws for a spread: its checks pass exactly if it is accepted
 module _ (s : Setting) (table : Table) (m : Member) where
   -- all checks of an accepted spread pass
   pub spread-passes : AcceptsSpread s table m → AllPass (spread_checks s table m)
@@ -261,7 +261,7 @@ module _ (s : Setting) (table : Table) (m : Member) where
         small = sizes.1.0;
       }
 
-  -- no check of a spread can fail without being false
+  -- each check of a spread is stable
   pub spread-stable : AreStable (spread_checks s table m)
   spread-stable = (
     stable-member_shape s m,

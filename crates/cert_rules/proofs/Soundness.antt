@@ -1,4 +1,4 @@
--- Why all facts of accepted lemmas hold: each node keeps that what is stated so far is good.
+-- Why all facts of accepted lemmas hold: if the facts stated before a node are good, so are those that it states.
 use Rattle.std.proofs.Common.{ℕ, zero, suc, List, [], ◌∷◌, ◌++◌, All}
 use Rattle.std.proofs.lemmas.List.Elements.{All-nil, All-cons, All-head, All-tail, All-append, All-push, All-weaker}
 use Rattle.run_counting.specs.model.Programs.{Program}
@@ -39,7 +39,7 @@ one_good : (p : Program) (f : Fact) → IsGood p f → AreGood p (f ∷ [])
 one_good p f h = All-cons (IsGood p) f [] h (All-nil (IsGood p))
 
 module _ (s : Setting) (true_to : IsFaithful s) (past : List (List Fact)) (good : All (AreGood s.program) past) where
-  -- the facts that an accepted node states are good, and so are those of its uses
+  -- the facts that an accepted node states are good, and so are those of its premises
   mutual
     node-good : (proof : Proof) → Accepts s past proof → AreGood s.program (facts_of s past proof)
     node-good (Cite n) h = lemma-good s.program past good n
@@ -78,7 +78,7 @@ lemmas-good s true_to past good (proof ∷ proofs) h =
     (All-push (AreGood s.program) past (facts_of s past proof) good (node-good s true_to past good proof h.0))
     proofs h.1
 
--- every fact of every accepted lemma holds
+-- every fact of every accepted lemma holds on all runs
 pub accepted_facts_hold : AcceptedFactsHold
 unfolding AcceptsLemmas facts_of_lemmas
 accepted_facts_hold = record {
@@ -88,7 +88,7 @@ accepted_facts_hold = record {
       (facts_of_lemmas s proofs) (lemmas-good s true_to [] (All-nil (AreGood s.program)) proofs h);
 }
 
--- every base in their bounds is at least 1
+-- every base in the bounds of accepted facts is at least 1
 pub accepted_bounds_are_based : AcceptedBoundsAreBased
 unfolding AcceptsLemmas facts_of_lemmas
 accepted_bounds_are_based = record {

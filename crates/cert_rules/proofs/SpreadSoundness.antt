@@ -1,5 +1,5 @@
 -- Why the size of an accepted spread holds: the sizes after the rules that can come before hold, and both side bounds
--- are over the new value.
+-- are at least the new value on their side.
 use Rattle.std.proofs.Common.{◌≡◌, ◌⊎◌, inl, inr, ℕ, suc, ◌+◌, ◌*◌, ◌≤◌, max, true, false, List, [], ◌∷◌, length}
 use Rattle.std.proofs.Common.{Option, Some, None, refl, sym, ap, ◌∙◌, subst, arith, le_trans}
 use Rattle.std.specs.Prelude.{ℤ, pos, neg_ℤ, ◌≤ℤ◌, nat_abs}
@@ -26,7 +26,7 @@ use Rattle.cert_rules.proofs.Bases.{parts_for-based, composed_side_bound-based}
 use Rattle.cert_rules.proofs.AbsoluteValues.{abs-within}
 use Rattle.cert_rules.proofs.SideBounds.{on_side, StaysOutside, side_bound-covered}
 
--- a listed part is at most the maximum
+-- a part for a listed number is at most the maximum of the parts
 pub listed_below : (f : ℕ → Bound) (es : List ℕ) (m : List ℕ) (e : ℕ) → is_in e es ≡ true
     → val (f e) m ≤ val_maximum (parts_for f es) m
 listed_below f [] m e h = absurd (no_is_not_yes false refl h)
@@ -47,19 +47,19 @@ pub left_values : (p : Program) (b : Config) (st : Step) (c : Config) → IsStep
     → left_of p t ≡ length b.values
 left_values p b st c x t same = ap (λ (u : ℕ). left_of p u) (sym same) ∙ (ap left_in x.numbered ∙ sym x.leads.left)
 
--- a run whose last rule is a result variable's has a last step
+-- the empty run doesn't end with the rule of a result variable
 pub no_empty_run : (p : Program) (result_variable : ResultVariable) → IsResultVariable p result_variable → last_rule [] ≡ result_variable.rule → ⊥
 no_empty_run p result_variable h same = none_some (ap (λ (u : ℕ). rule_at p u) same ∙ h.numbered)
   where
     none_some : None ≡ Some h.rule → ⊥
     none_some e = cc
 
--- no place lies inside, so no polynomial reads one
+-- if no place is inside, no polynomial reads a place inside
 pub stays_out : (s : Setting) (result_variable : ResultVariable) (side_bound : SideBound) → StaysOutside s result_variable no_place side_bound
 stays_out s result_variable (Linear den form multipliers) = tt
 stays_out s result_variable Poly = λ j k. refl
 
--- with no place inside, the offset is the side bound as a bound
+-- if no place is inside, the offset of a side bound is the side bound as a bound
 pub whole_side_bound : (o : Option Polynomial) (side_bound : SideBound) (sizes : ℕ → Bound) (m : List ℕ)
     → val (offset_of o side_bound no_place sizes) m ≡ val (composed_side_bound o side_bound sizes) m
 whole_side_bound o (Linear den form multipliers) sizes m = refl
@@ -67,7 +67,7 @@ whole_side_bound o Poly sizes m = refl
 
 module _ (s : Setting) (true_to : IsFaithful s) (table : Table) (good : IsGoodTable s.program table) (m : Member)
     (h : AcceptsSpread s table m) where
-  -- an accepted side bound, at the sizes after the rule before, is over the new value on its side
+  -- an accepted side bound, at the sizes after the rule before, is at least the new value on its side
   spread_side_bound : (start : List ℤ) (earlier : List Step) (b : Config) (st : Step) (c : Config)
       → IsRun s.program start earlier b → IsStep s.program b st c → st.rule ≡ m.result_variable.rule
       → is_in (last_rule earlier) (pre s.program m.result_variable.rule) ≡ true
@@ -92,7 +92,7 @@ module _ (s : Setting) (true_to : IsFaithful s) (table : Table) (good : IsGoodTa
       plain : (v : ℤ) (k n o : ℕ) → v ≤ℤ pos (k * 0 + n) → n ≡ o → v ≤ℤ pos o
       plain v k n o l e = omega (arith, ints, l, e)
 
-  -- the new value of a step is within the maximum over what can come before
+  -- the new value of a step is at most the maximum over the rules that can come before
   spread_step : (start : List ℤ) (earlier : List Step) (b : Config) (st : Step) (c : Config)
       → IsRun s.program start earlier b → IsStep s.program b st c → st.rule ≡ m.result_variable.rule
       → nat_abs (place_value c m.result_variable.place) ≤ val (spread_size s table m) (sizes_of_start start)

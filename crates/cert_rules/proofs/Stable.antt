@@ -1,4 +1,4 @@
--- Stable statements, which hold if their negation doesn't: those that acceptance is made of, since numbers can be
+-- Stable statements: they hold if they can't be false. The conditions of acceptance are stable, since numbers can be
 -- compared.
 use Rattle.std.proofs.Common.{◌≡◌, ◌≢◌, ◌⊎◌, inl, inr, ℕ, ◌<◌, ◌≤◌, ◌==◌, Bool, true, false, List, [], ◌∷◌, Option}
 use Rattle.std.proofs.Common.{Some, None, refl, ap, arith, All}
@@ -26,7 +26,7 @@ stable-decided X (inr n) h = absurd (h n)
 pub stable-never : IsStable ⊥
 stable-never h = h (λ x. x)
 
--- comparisons of numbers
+-- that a number is at most another is stable
 pub stable-le : (m n : ℕ) → IsStable (m ≤ n)
 stable-le m n h = go (order n m)
   where
@@ -34,7 +34,7 @@ stable-le m n h = go (order n m)
     go (inr k) = k
     go (inl k) = absurd (h (λ l. omega (arith, l, k)))
 
--- numbers that can't differ are the same
+-- that two numbers are equal is stable
 pub stable-nat : (m n : ℕ) → IsStable (m ≡ n)
 stable-nat m n h = go (eqb_tells m n)
   where
@@ -42,14 +42,14 @@ stable-nat m n h = go (eqb_tells m n)
     go (inl (e, k)) = k
     go (inr (e, k)) = absurd (h k)
 
--- answers of tests that can't differ are the same
+-- that two truth values are equal is stable
 pub stable-bool : (u v : Bool) → IsStable (u ≡ v)
 stable-bool true true h = refl
 stable-bool false false h = refl
 stable-bool true false h = absurd (h (λ (e : true ≡ false). let no : ⊥ = cc in no))
 stable-bool false true h = absurd (h (λ (e : false ≡ true). let no : ⊥ = cc in no))
 
--- integers that can't differ are the same
+-- that two integers are equal is stable
 pub stable-int : (x y : ℤ) → IsStable (x ≡ y)
 stable-int (pos m) (pos n) h = ap pos (stable-nat m n (λ k. h (λ e. k (same e))))
   where
@@ -77,7 +77,7 @@ int_order (negsuc m) (negsuc n) = by (order m n)
     by (inr k) = inl (omega (arith, ints, k))
     by (inl k) = inr (omega (arith, ints, k))
 
--- an integer that can't be greater than another is at most the other
+-- that an integer is at most another is stable
 pub stable-int_le : (x y : ℤ) → IsStable (x ≤ℤ y)
 stable-int_le x y h = go (int_order x y)
   where
@@ -85,7 +85,7 @@ stable-int_le x y h = go (int_order x y)
     go (inl k) = k
     go (inr k) = absurd (h (λ l. omega (arith, ints, l, k)))
 
--- lists of numbers
+-- that two lists of numbers are equal is stable
 pub stable-list : (xs ys : List ℕ) → IsStable (xs ≡ ys)
 stable-list [] [] h = refl
 stable-list [] (y ∷ ys) h = absurd (h (λ e. no e))
@@ -113,7 +113,7 @@ pub stable-All : {X : Type 0} (P : X → Type 0) → ((x : X) → IsStable (P x)
 stable-All P each [] h = λ k d l. absurd (omega (arith, l))
 stable-All P each (x ∷ xs) h = λ k d l. each _ (λ n. h (λ all. n (all k d l)))
 
--- stable properties of each node of a bound
+-- that all nodes of a bound, and of its parts, have a stable property is stable
 mutual
   -- if a property of a bound is stable, that all its nodes have it is stable
   pub stable-nodes : (P : Bound → Type 0) → ((b : Bound) → IsStable (P b)) → (b : Bound) → IsStable (EachNode P b)
@@ -133,7 +133,7 @@ mutual
   stable-parts P each (Part b bs) h =
       (stable-nodes P each b (λ n. h (λ k. n k.0)), stable-parts P each bs (λ n. h (λ k. n k.1)))
 
--- certificates
+-- that rows imply a form by these multipliers is stable
 pub stable-implies : (rows : List Form) (ms : List ℕ) (goal : Form) → IsStable (Implies rows ms goal)
 stable-implies rows ms goal h = record {
   long = stable-nat _ _ (λ n. h (λ k. n k.long));

@@ -13,7 +13,7 @@ use Rattle.cert_rules.proofs.Stable.{IsStable, stable-le, stable-nat, stable-boo
 use Rattle.cert_rules.proofs.StableShapes.{stable-rule, stable-ascending}
 use Rattle.cert_rules.proofs.CheckLists.{AreStable, each_stable}
 
--- a point of a gap
+-- that a scaled point may be one of a gap is stable
 stable-point : (r : RuleForms) (z : ScaledPoint) → IsStable (IsGapPoint r z)
 stable-point r z h = record {
   long = stable-nat _ _ (λ n. h (λ k. n k.long));
@@ -55,7 +55,7 @@ module _ (p : Program) (rule : ℕ → RuleForms) (g : Gap) where
     floor = stable-point (rule g.rule) g.floor (λ n. h (λ k. n k.floor));
   }
 
-  -- no check of a gap can fail without being false
+  -- each check of a gap is stable
   pub gap-stable : AreStable (gap_checks p rule g)
   gap-stable = (
     stable-shape,

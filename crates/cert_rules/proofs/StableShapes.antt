@@ -22,7 +22,7 @@ use Rattle.cert_rules.specs.AcceptsSizes.{IsPolynomialUpdate, ComesBefore, AreAs
 use Rattle.cert_rules.proofs.Stable.{IsStable, stable-never, stable-le, stable-nat, stable-bool, stable-list}
 use Rattle.cert_rules.proofs.Stable.{stable-All, stable-nodes, stable-implies}
 
--- numbers within their limits
+-- that a number is within the limit is stable
 stable-limit : (n : ℕ) → IsStable (IsInLimit n)
 stable-limit n h = stable-le n _ h
 
@@ -35,7 +35,7 @@ stable-form f h = record {
   constant = stable-limit (nat_abs f.constant) (λ n. h (λ k. n k.constant));
 }
 
--- rules and their multipliers
+-- that a number is that of a rule is stable
 pub stable-rule : (p : Program) (t : ℕ) → IsStable (IsRule p t)
 stable-rule p t h = go (rule_at p t) refl
   where
@@ -57,14 +57,14 @@ stable-multipliers s t ms h = record {
   limit = stable-limits ms (λ n. h (λ k. n k.limit));
 }
 
--- the shapes of plain nodes
+-- that a cited lemma is an earlier one is stable
 pub stable-cite : (past : List (List Fact)) (n : ℕ) → IsStable (AcceptsCite past n)
 stable-cite past n h = record {
   least = stable-le _ _ (λ m. h (λ k. m k.least));
   earlier = stable-le _ _ (λ m. h (λ k. m k.earlier));
 }
 
--- the shape of an empty node can't fail without being false
+-- the shape of an empty node is stable
 pub stable-empty_shape : (s : Setting) (t : ℕ) (ms : List ℕ) → IsStable (HasEmptyShape s t ms)
 stable-empty_shape s t ms h = record {
   rule = stable-rule s.program t (λ n. h (λ k. n k.rule));
@@ -128,7 +128,7 @@ stable-small rewrite b h = record {
   after = stable-bool _ _ (λ n. h (λ k. n k.after));
 }
 
--- the shape of a ranking node
+-- that numbers are ascending is stable
 pub stable-ascending : (xs : List ℕ) → IsStable (IsAscending xs)
 stable-ascending [] h = tt
 stable-ascending (x ∷ []) h = tt
@@ -141,7 +141,7 @@ stable-form_shape p f h = record {
   limit = stable-form f.form (λ n. h (λ k. n k.limit));
 }
 
--- the shape of a ranking node can't fail without being false
+-- the shape of a ranking node is stable
 pub stable-rank_shape : (s : Setting) (node : RankNode) → IsStable (HasRankShape s node)
 stable-rank_shape s node h = record {
   ascending = stable-ascending node.set (λ n. h (λ k. n k.ascending));
@@ -156,7 +156,7 @@ stable-rank_shape s node h = record {
   floor = stable-multipliers s node.rule node.floor (λ n. h (λ k. n k.floor));
 }
 
--- members and their side bounds
+-- that this is a result variable of the program is stable
 stable-result_variable : (p : Program) (result_variable : ResultVariable) → IsStable (IsResultVariable p result_variable)
 stable-result_variable p result_variable h = go (rule_at p result_variable.rule) refl
   where
@@ -190,7 +190,7 @@ stable-side_bound_shape s t left (Linear den form ms) h = record {
   one_each = stable-multipliers s t ms (λ n. h (λ k. n k.one_each));
 }
 
--- the shape of a member can't fail without being false
+-- the shape of a member is stable
 pub stable-member_shape : (s : Setting) (m : Member) → IsStable (HasMemberShape s m)
 stable-member_shape s m h = record {
   at = stable-result_variable s.program m.result_variable (λ n. h (λ k. n k.at));
@@ -230,7 +230,7 @@ pub stable-side_bound : (s : Setting) (result_variable : ResultVariable) (side :
 stable-side_bound s result_variable side (Linear den form ms) h = stable-implies _ ms _ h
 stable-side_bound s result_variable side Poly h = stable-polynomial s result_variable h
 
--- loops
+-- that a result variable comes before another is stable
 stable-before : (a b : ResultVariable) → IsStable (ComesBefore a b)
 stable-before a b h = by_rule (order b.rule a.rule) (order b.rule (suc a.rule))
   where

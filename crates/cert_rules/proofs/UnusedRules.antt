@@ -1,4 +1,4 @@
--- Rules that no run uses: empty and unreached ones, and what holds after them.
+-- Rules that no run uses: empty and unreached rules, and the facts that hold after them.
 use Rattle.std.proofs.Common.{◌≡◌, ◌≢◌, ℕ, zero, suc, ◌≤◌, ◌==◌, ◌&&◌, Bool, true, false, List, [], ◌∷◌, Some, None}
 use Rattle.std.proofs.Common.{refl, sym, ap, ◌∙◌, subst, arith, All}
 use Rattle.std.specs.Prelude.{ℤ, pos}
@@ -20,7 +20,7 @@ use Rattle.cert_rules.specs.AcceptsPlain.{places_at, never_facts}
 use Rattle.run_counting.proofs.model.Membership.{same_number-sound}
 use Rattle.cert_rules.proofs.GoodFacts.{IsGood}
 
--- the virtual entry is no rule
+-- the virtual entry isn't a rule of the program
 pub entry_is_other : (p : Program) (t : ℕ) → IsRule p t → one_if_same 0 t ≡ 0
 entry_is_other p zero h = absurd (none_some h.numbered)
   where
@@ -28,7 +28,7 @@ entry_is_other p zero h = absurd (none_some h.numbered)
     none_some e = cc
 entry_is_other p (suc t) h = one_if_same-other 0 (suc t) (λ e. omega (arith, e))
 
--- where no run can be gone on with by a rule, the rule never occurs
+-- if no run can be continued with a step by the rule, the rule never occurs
 never_occurs : (p : Program) (t : ℕ) → IsRule p t → (start : List ℤ)
     → ((earlier : List Step) (b : Config) (s : Step) (c : Config) → IsRun p start earlier b → IsStep p b s c
     → s.rule ≢ t)
@@ -37,7 +37,7 @@ never_occurs p t rule start h [] c run = entry_is_other p t rule
 never_occurs p t rule start h (s ∷ earlier) c (b, run, step) =
     omega (arith, one_if_same-other s.rule t (h earlier b s c run step), never_occurs p t rule start h earlier b run)
 
--- a rule without points is never used
+-- a rule whose rows have no point never occurs, so the fact that its time is 0 is good
 pub empty-good : (s : Setting) → IsFaithful s → (t : ℕ) (multipliers : List ℕ) → AcceptsEmpty s t multipliers
     → IsGood s.program (Time t (Constant 0))
 empty-good s true_to t multipliers h = record {
@@ -59,7 +59,7 @@ empty-good s true_to t multipliers h = record {
         subst (λ (u : ℕ). Implies (s.rows u) multipliers minus_one) (sym same) h.empty in
         no_point (s.rows st.rule) multipliers certificate point.z (pos 1) point.point
 
--- the value of a bound that is 0
+-- a bound that is the constant 0 has the value 0
 pub zero_val : (b : Bound) (m : List ℕ) → is_zero_bound b ≡ true → val b m ≡ 0
 zero_val (Constant zero) m h = refl
 zero_val (Constant (suc n)) m h = absurd (no h)
@@ -116,7 +116,7 @@ steps_may_run p facts good start (s ∷ earlier) c (b, run, step) =
         ))
     go false e = not_from_false (has_zero_time facts s.rule) e
 
--- a rule whose source isn't reached is never used
+-- a rule whose source isn't reached never occurs, so the fact that its time is 0 is good
 pub unreached-good : (p : Program) (facts : List Fact) → All (IsGood p) facts → (t : ℕ) → AcceptsUnreached p (may_run facts) t
     → IsGood p (Time t (Constant 0))
 unreached-good p facts good t h = record {
@@ -145,12 +145,12 @@ unreached-good p facts good t h = record {
         (same_rule st.rule t x.rule h.shape.rule same x.numbered h.shape.numbered))
         (reached p (may_run facts) start earlier b r (steps_may_run p facts good start earlier b r)))
 
--- a rule that was used last occurs
+-- the last rule of a run, if there is one, occurs in it
 used_last : (t : ℕ) (steps : List Step) → last_rule steps ≡ suc t → 1 ≤ count (suc t) steps
 used_last t [] h = absurd (omega (arith, h))
 used_last t (s ∷ earlier) h = omega (arith, one_if_same-same s.rule (suc t) h)
 
--- after a rule that never runs every size holds
+-- every size holds after a rule that never runs
 never_sizes : (p : Program) (t : ℕ) (b : Bound) → HoldsTime p (suc t) b → is_zero_bound b ≡ true → (places : List ℕ)
     → All (IsGood p) (zero_sizes (suc t) places)
 never_sizes p t b time zero_b [] = All-nil (IsGood p)

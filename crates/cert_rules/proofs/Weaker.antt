@@ -14,7 +14,7 @@ use Rattle.cert_rules.specs.Setting.{Setting, IsFaithful}
 use Rattle.cert_rules.specs.AcceptsPlain.{AcceptsWeaken, places_at, start_sizes, start_facts, weakened}
 use Rattle.cert_rules.proofs.GoodFacts.{IsGood}
 
--- the size of a start value
+-- the size of start argument j is its absolute value
 size_of_start : (start : List ℤ) (j : ℕ) → slice_index (sizes_of_start start) j ≡ nat_abs (at start j)
 size_of_start [] j = refl
 size_of_start (x ∷ xs) zero = refl
@@ -40,7 +40,7 @@ entry_size p start [] c run last (suc j) =
           (λ (n : ℕ). slice_index (sizes_of_start start) n) same,
     )
 
--- the sizes of the virtual entry
+-- the facts that the virtual entry has these sizes are good
 start_sizes-good : (p : Program) (places : List ℕ) → All (IsGood p) (start_sizes places)
 start_sizes-good p [] = All-nil (IsGood p)
 start_sizes-good p (i ∷ is) =
@@ -59,7 +59,7 @@ start-good p =
     time : HoldsTime p 0 (Constant 1)
     time = record { each = λ start steps c run. omega (arith, entry_once p start steps c run) }
 
--- a weaker bound is good
+-- the fact that an accepted `weaken` node states is good
 pub weaken-good : (s : Setting) → IsFaithful s → (facts : List Fact) → All (IsGood s.program) facts → (b : Bound)
     → AcceptsWeaken s facts b → All (IsGood s.program) (weakened facts b)
 weaken-good s true_to [] good b h = absurd h.weaker

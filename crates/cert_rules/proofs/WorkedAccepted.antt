@@ -27,7 +27,7 @@ use Rattle.cert_rules.specs.Worked.{first_and_size, down_alone, alone_node, only
 use Rattle.run_counting.proofs.model.Entries.{listed-from}
 use Rattle.run_counting.proofs.model.Membership.{is_in-cases, no_is_not_yes}
 
--- a property of one number is one of each in its list; and that of two numbers
+-- a property of one number is one of each number in the list of it
 pub of_one : (P : ℕ → Type 0) (a : ℕ) → P a → (t : ℕ) → is_in t (a ∷ []) ≡ true → P t
 of_one P a h t k = go (is_in-cases t a [] k)
   where
@@ -42,7 +42,7 @@ of_two P a b h i t k = go (is_in-cases t a (b ∷ []) k)
     go (inl e) = subst P (sym e) h
     go (inr e) = of_one P b i t e
 
--- a property of the only listed entry is one of each entry
+-- if a set has only one entry, a property of it is one of each entry
 of_entry : (p : Program) (set : List ℕ) (P : ℕ → Type 0) (a : ℕ) → entries p set ≡ a ∷ [] → P a
     → (e : ℕ) → IsEntry p set e → P e
 of_entry p set P a only h e i =
@@ -52,7 +52,7 @@ of_entry p set P a only h e i =
 pub small : (n : ℕ) → n ≤ 1 → IsInLimit n
 small n h = omega arith
 
--- a form over one place with small numbers
+-- a form over one place with a coefficient and a constant of at most 1 is within the limit
 pub one_place : (a c : ℤ) → nat_abs a ≤ 1 → nat_abs c ≤ 1 → IsFormInLimit (form (a ∷ []) c)
 one_place a c h k = record {
   coefs = All-cons (λ (x : ℤ). IsInLimit (nat_abs x)) a [] (small (nat_abs a) h)
@@ -60,21 +60,21 @@ one_place a c h k = record {
   constant = small (nat_abs c) k;
 }
 
--- no multiplier, and one
+-- no multiplier is needed for a rule without rows
 pub none_needed : (t : ℕ) → length (counting.rows t) ≡ 0 → AreMultipliers counting t []
 none_needed t h = record { long = sym h; limit = All-nil IsInLimit }
 
 pub one_needed : (m : ℕ) → m ≤ 1 → AreMultipliers counting 2 (m ∷ [])
 one_needed m h = record { long = refl; limit = All-cons IsInLimit m [] (small m h) (All-nil IsInLimit) }
 
--- the rules of the program
+-- rule 1 is a rule of the program
 pub is_enter : IsRule counting.program 1
 is_enter = record { rule = enter; numbered = refl }
 
 pub is_count_down : IsRule counting.program 2
 is_count_down = record { rule = count_down; numbered = refl }
 
--- a certificate over one unknown
+-- multipliers imply a form over one unknown if its coefficient is the same and its constant is no less
 pub implies_one : (rows : List Form) (ms : List ℕ) (goal : Form) → length ms ≡ length rows
     → at goal.coefs 0 ≡ combined_coef ms rows 0
     → ((u : ℕ) → at goal.coefs (suc u) ≡ combined_coef ms rows (suc u)) → combined_constant ms rows ≤ℤ goal.constant
@@ -94,26 +94,26 @@ reads_none : (P : ℕ → Type 0) (j : ℕ) → at (pos 0 ∷ []) j ≢ pos 0 �
 reads_none P zero n = absurd (n refl)
 reads_none P (suc j) n = absurd (n refl)
 
--- no is not yes
+-- false isn't true
 never_yes : {P : Type 0} → false ≡ true → P
 never_yes e = absurd (no_is_not_yes false refl e)
 
--- a symbol's form with small numbers
+-- the form at a symbol, with small numbers, has the right shape
 pub shaped : (symbol : ℕ) (a c : ℤ) → arity_of counting.program symbol ≡ 1 → nat_abs a ≤ 1 → nat_abs c ≤ 1
     → HasFormShape counting.program (at_symbol symbol a c)
 shaped symbol a c e h k = record { long = sym e; limit = one_place a c h k }
 
--- two forms
+-- the two forms of a ranking function have the right shape
 pub two_forms : (f g : SymbolForm) → HasFormShape counting.program f → HasFormShape counting.program g
     → All (HasFormShape counting.program) (f ∷ g ∷ [])
 two_forms f g h k = All-cons (HasFormShape counting.program) f (g ∷ []) h
     (All-cons (HasFormShape counting.program) g [] k (All-nil (HasFormShape counting.program)))
 
--- the facts of the virtual entry
+-- the facts that the virtual entry states
 abbrev start_facts_here : List Fact
 start_facts_here = Time 0 (Constant 1) ∷ Size 0 1 (Input 0) ∷ []
 
--- the first lemma
+-- the first lemma is accepted
 pub once_accepted : Accepts counting [] once
 once_accepted = (
   (tt, tt),
@@ -143,7 +143,7 @@ once_accepted = (
   },
 )
 
--- the second lemma
+-- the second lemma is accepted
 pub down_accepted : (past : List (List Fact)) → Accepts counting past (down (0 ∷ []) (1 ∷ []))
 down_accepted past = (
   (tt, tt),
@@ -176,7 +176,7 @@ down_accepted past = (
   },
 )
 
--- the shape of a side bound of these members
+-- the side bounds of these members have the right shape
 pub side_bound_shape : (t : ℕ) (a : ℤ) (multipliers : List ℕ) → left_of counting.program t ≡ 1 → nat_abs a ≤ 1
     → AreMultipliers counting t multipliers
     → HasLinearShape counting t (left_of counting.program t) 1 (form (a ∷ []) (pos 0)) multipliers
@@ -190,13 +190,13 @@ side_bound_shape t a multipliers e h k =
       one_each = k;
     }
 
--- a side bound that reads its first place alone
+-- if a side bound reads only its first place, a property of that place is one of each place that it reads
 pub reads_one : (side_bound : SideBound) (P : ℕ → Type 0) → P 0 → ((j : ℕ) → reads None side_bound (suc j) ≡ false) → (j : ℕ)
     → reads None side_bound j ≡ true → P j
 reads_one side_bound P h none zero k = h
 reads_one side_bound P h none (suc j) k = absurd (no_is_not_yes (reads None side_bound (suc j)) (none j) k)
 
--- a member whose side bounds read their first places alone, after a rule after which that place has a size
+-- if the first place has a size after a rule, so has each place that a member's side bounds read
 pub sized : (s : Setting) (facts : List Fact) (members : List Member) (m : Member) (e : ℕ)
     → (is_member members e 0 ≡ false → IsKnown (size_in facts e 1))
     → poly_at s m.result_variable ≡ None
@@ -210,7 +210,7 @@ sized s facts members m e h flat up low = record {
     P : ℕ → Type 0
     P j = is_member members e j ≡ false → IsKnown (size_in facts e (suc j))
 
--- the third lemma
+-- the third lemma is accepted
 pub entered_accepted : (past : List (List Fact)) → Accepts counting past entered
 entered_accepted past = (
   (tt, tt),
@@ -228,14 +228,14 @@ entered_accepted past = (
   },
 )
 
--- the facts before the fourth lemma
+-- the facts that the first three lemmas state
 abbrev three_facts : List (List Fact)
 three_facts = (Time 1 once_time ∷ []) ∷ (Time 2 down_time ∷ []) ∷ (Size 1 1 entered_size ∷ []) ∷ []
 
 abbrev cited_size : List Fact
 cited_size = Size 1 1 entered_size ∷ []
 
--- the loop's member
+-- the loop's member has the right shape
 looped_shape : HasMemberShape counting looped_member
 looped_shape = record {
   at = record { rule = count_down; numbered = refl; least = omega arith; most = omega arith };
@@ -247,7 +247,7 @@ looped_shape = record {
 of_member : (P : Member → Type 0) → P looped_member → All P (looped_member ∷ [])
 of_member P h = All-cons P looped_member [] h (All-nil P)
 
--- the fourth lemma
+-- the fourth lemma is accepted
 looped_accepted : Accepts counting three_facts looped
 looped_accepted = (
   (record { least = omega arith; earlier = omega arith }, tt),
@@ -273,7 +273,7 @@ looped_accepted = (
     loop_flows : List Flow
     loop_flows = flows counting (looped_member ∷ []) (size_in cited_size)
 
--- all four lemmas
+-- all four lemmas are accepted
 pub four_accepted : AcceptsLemmas counting four_lemmas
 unfolding AcceptsLemmas
 four_accepted = (
@@ -284,11 +284,11 @@ four_accepted = (
   ),
 )
 
--- the facts of the two lemmas that are cited
+-- the facts of the two lemmas that the node cites
 abbrev cited_both : List Fact
 cited_both = Time 1 once_time ∷ Size 1 1 entered_size ∷ []
 
--- the ranking node over the loop alone
+-- the ranking node over the loop alone is accepted
 pub alone_accepted : Accepts counting first_and_size (down_alone (AndProof (Cite 1) (only (Cite 2))))
 alone_accepted = (
   (record { least = omega arith; earlier = omega arith }, (record { least = omega arith; earlier = omega arith }, tt)),

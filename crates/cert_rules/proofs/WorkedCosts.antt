@@ -1,4 +1,4 @@
--- Nodes on costs, on small programs.
+-- The worked values of nodes on costs hold.
 use Rattle.std.proofs.Common.{◌≡◌, ℕ, zero, suc, ◌≤◌, ◌<◌, true, false, List, [], ◌∷◌, Some, None, inl, inr, refl}
 use Rattle.std.proofs.Common.{sym, ap, ◌∙◌, subst, arith, All}
 use Rattle.std.specs.Prelude.{pos, negsuc, ◌+ℤ◌, ◌*ℤ◌}
@@ -32,11 +32,11 @@ use Rattle.cert_rules.proofs.WorkedAccepted.{of_one, small, one_place, implies_o
 use Rattle.cert_rules.proofs.WorkedRefused.{nothing_known}
 use Rattle.cert_rules.proofs.WorkedSizes.{below_one, no_other_place}
 
--- the rule of this setting has its cost
+-- rule 1 of this setting has a cost
 paid : HasCost paying.program 1
 paid = record { rule = paying_rule; numbered = refl; cost = Variable 0; written = refl }
 
--- the rule of the program that counts down has none
+-- no rule of the program that counts down has a cost
 unpaid : ¬ (HasCost counting.program 1)
 unpaid h = none_some (ap (λ (r : Rule). r.cost) same ∙ h.written)
   where
@@ -53,7 +53,7 @@ past_the_rules h = none_some h.numbered
     none_some : None ≡ Some h.rule → ⊥
     none_some e = cc
 
--- where rule 1 never runs only the start symbol is reached
+-- if rule 1 never runs, only the start symbol is reached
 entry_alone : (a : ℕ) → IsReached counting.program (may_run (Time 1 (Constant 0) ∷ [])) a → a ≡ 0
 entry_alone a (Here e) = omega (arith, e)
 entry_alone a (Onward {b = b} before edge) =
@@ -75,14 +75,14 @@ entry_alone a (Onward {b = b} before edge) =
         none_some : None ≡ Some r → ⊥
         none_some x = cc
 
--- rule 2 leaves the other symbol
+-- rule 2 leaves symbol 1
 source_is : (r : Rule) → rule_at counting.program 2 ≡ Some r → r.source ≡ 1
 source_is r e = sym (ap (λ (q : Rule). q.source) same)
   where
     same : count_down ≡ r
     same = let found : Some count_down ≡ Some r = e in cc
 
--- the numbers of a side bound over A with one small multiplier
+-- the side bound over A with one small multiplier has the right shape
 small_side_bound : (a m : ℕ) → a ≤ 1 → m ≤ 1 → HasLinearShape (costs_of paying) 1 1 1 (form (pos a ∷ []) (pos 0)) (m ∷ [])
 small_side_bound a m h k = record {
   over = omega arith;
@@ -95,11 +95,11 @@ small_side_bound a m h k = record {
 side_bound_shape : (a : ℕ) → a ≤ 1 → HasCostShape paying (record { rule = 1; by = times_A a (0 ∷ []) })
 side_bound_shape a h = record { cost = paid; numbers = small_side_bound a 0 h (omega arith) }
 
--- A is at least the cost
+-- the side bound A is accepted: it is at least the cost
 A_is_above : AcceptsCostSideBound paying 1 (Linear 1 (form (pos 1 ∷ []) (pos 0)) (0 ∷ []))
 A_is_above = implies_one (paying.cost_rows 1) (0 ∷ []) _ refl refl (λ u. refl) (omega (arith, ints))
 
--- the facts of the uses: those of the virtual entry, and how often the rule runs
+-- the facts that the premises state: those of the virtual entry, and the time of the rule
 abbrev used : List Fact
 used = Time 0 (Constant 1) ∷ Size 0 1 (Input 0) ∷ Time 1 once_time ∷ []
 
@@ -109,7 +109,7 @@ A_has_size : (e : ℕ) → is_in e (0 ∷ []) ≡ true
 A_has_size = of_one (CostSideBoundHasSizes paying (table_of used) 1 (Linear 1 (form (pos 1 ∷ []) (pos 0)) (0 ∷ []))) 0
     (reads_one (Linear 1 (form (pos 1 ∷ []) (pos 0)) (0 ∷ [])) (λ j. IsKnown (size_in used 0 (suc j))) (Input 0, refl) (λ j. refl))
 
--- the shape of multipliers for two cost rows
+-- two multipliers for two cost rows have the right shape
 two_multipliers : (m n : ℕ) → m ≤ 1 → n ≤ 1 → HasCostShape never_paying (record { rule = 1; by = EmptyCost (m ∷ n ∷ []) })
 two_multipliers m n h k = record {
   cost = record {
@@ -124,7 +124,7 @@ two_multipliers m n h k = record {
   };
 }
 
--- the square of a left argument is one
+-- the cost is nonlinear, and a polynomial in left arguments alone
 is_square : IsPolynomialUpdate (costs_of paying_squares) (cost_result_variable 1)
 is_square = record {
   polynomial = square;
@@ -133,7 +133,7 @@ is_square = record {
       below_one (All-nil (λ (m : Monomial). All (λ (v : ℕ). v < 1) m.vars));
 }
 
--- the place that the square reads has a size
+-- the place that the square reads has a size after the virtual entry
 square_has_size : (e : ℕ) → is_in e (0 ∷ []) ≡ true → CostSideBoundHasSizes paying_squares (table_of used) 1 Poly e
 square_has_size = of_one (CostSideBoundHasSizes paying_squares (table_of used) 1 Poly) 0 by
   where
@@ -141,7 +141,7 @@ square_has_size = of_one (CostSideBoundHasSizes paying_squares (table_of used) 1
     by zero k = (Input 0, refl)
     by (suc j) k = absurd (no_other_place j k)
 
--- the square of a free variable isn't
+-- the square of a free variable is no polynomial in left arguments
 not_left : ¬ (IsPolynomialUpdate (costs_of paying_free_squares) (cost_result_variable 1))
 not_left h = omega (arith, All-head (λ (v : ℕ). v < 1) 1 (1 ∷ []) vars)
   where
@@ -161,7 +161,7 @@ not_nonlinear h = none_some h.nonlinear
     none_some : None ≡ Some h.polynomial → ⊥
     none_some e = cc
 
--- all that was worked out
+-- the worked nodes on costs are accepted and refused as stated
 pub cost_nodes : CostNodesAreJudged
 cost_nodes = record {
   side_bound = (
@@ -227,7 +227,7 @@ cost_nodes = record {
   );
 }
 
--- the reasons that were worked out
+-- the worked first reasons are as stated
 pub cost_reasons : CostReasonsComeInOrder
 cost_reasons = record {
   no_cost = inl ((λ h. unpaid h.cost), refl);

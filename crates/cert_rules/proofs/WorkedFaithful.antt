@@ -1,4 +1,4 @@
--- The setting of the program that counts down says what is true.
+-- The setting of the program that counts down is true of it.
 use Rattle.std.proofs.Common.{◌≡◌, ℕ, zero, suc, ◌*◌, ◌≤◌, Bool, true, false, List, [], ◌∷◌, ◌++◌, length, Some, None}
 use Rattle.std.proofs.Common.{refl, sym, ap, ◌∙◌, subst, arith}
 use Rattle.std.specs.Prelude.{ℤ, pos, negsuc, ◌≤ℤ◌}
@@ -19,7 +19,7 @@ use Rattle.cert_rules.specs.Setting.{StepPoint, IsFaithful}
 use Rattle.cert_rules.specs.WorkedSettings.{form, is_nothing, are_nothing, has_nothing, folded, zero_below, enter}
 use Rattle.cert_rules.specs.WorkedSettings.{count_down, counting}
 
--- a bound that is nothing has the value 0
+-- a bound that is 0 by its structure has the value 0
 mutual
   nothing_val : (b : Bound) (m : List ℕ) → is_nothing b ≡ true → val b m ≡ 0
   nothing_val (Constant zero) m h = refl
@@ -78,7 +78,7 @@ folded-based b h = go (is_nothing b) refl
     go true e = rw e tt
     go false e = rw e h
 
--- only the constant 0 is below
+-- a bound that is below another by `zero_below` is the constant 0, so it is never greater
 pub zero_first : (a b : Bound) → zero_below a b ≡ true → (m : List ℕ) → val a m ≤ val b m
 zero_first (Constant zero) b h m = omega arith
 zero_first (Constant (suc n)) b h m = absurd (no h)
@@ -94,7 +94,7 @@ zero_first a b h m = absurd (no h)
 pub first_in_env : (xs free : List ℤ) → length xs ≡ 1 → at (xs ++ free) 0 ≡ at xs 0
 first_in_env xs free h = get_or_append_left xs free (pos 0) 0 (omega (arith, h))
 
--- a step by the first rule is a point
+-- a step by the first rule is a point of its rows
 enters_at : (c : Config) (free : List ℤ) (d : Config) → Leads enter c free d → StepPoint counting 1 c free d
 enters_at c free d h = record {
   z = λ j. at c.values j;
@@ -115,7 +115,7 @@ enters_at c free d h = record {
     by zero = omega (arith, ints, ap (λ (xs : List ℤ). at xs 0) h.values, first_in_env c.values free h.left)
     by (suc i) = sym (ap (λ (xs : List ℤ). at xs (suc i)) h.values)
 
--- a step by the second rule is a point
+-- a step by the second rule is a point of its rows
 counts_at : (c : Config) (free : List ℤ) (d : Config) → Leads count_down c free d → StepPoint counting 2 c free d
 counts_at c free d h = record {
   z = λ j. at c.values j;
@@ -147,7 +147,7 @@ counts_at c free d h = record {
     by zero = omega (arith, ints, ap (λ (xs : List ℤ). at xs 0) h.values, first_in_env c.values free h.left)
     by (suc i) = sym (ap (λ (xs : List ℤ). at xs (suc i)) h.values)
 
--- the setting says what is true
+-- the setting is true of the program
 pub counting_is_faithful : IsFaithful counting
 counting_is_faithful = record {
   places = λ t r e. one_place t r e;

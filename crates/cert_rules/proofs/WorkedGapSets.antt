@@ -1,4 +1,4 @@
--- Gaps over two rules, and the faults of others.
+-- The worked gaps over two rules hold, or have the stated faults.
 use Rattle.std.proofs.Common.{◌≡◌, inl, ℕ, true, [], ◌∷◌, refl, sym, ◌∙◌, arith}
 use Rattle.std.specs.Prelude.{pos, negsuc}
 use Rattle.std.proofs.lemmas.Int.{ints}
@@ -58,7 +58,7 @@ IsShaping p rule =
     → IsPart move → IsPart next → IsPart floor → IsPart kept → IsPart last
     → HasGapShape p rule (gap_of_two t move next floor kept last)
 
--- where both rules have one unknown
+-- if both rules have one unknown, the gap over them has the right shape
 two-shaped : (p : Program) (rule : ℕ → RuleForms) → IsRule p 2 → IsRule p 3 → (rule 2).unknowns ≡ 1
     → (rule 3).unknowns ≡ 1 → IsShaping p rule
 two-shaped p rule second third at_second at_third t inside at_strict move next floor kept last m n f k l = record {
@@ -89,7 +89,7 @@ loops_shape =
     two-shaped loops loops_forms (record { rule = _; numbered = refl }) (record { rule = _; numbered = refl }) refl
     refl
 
--- a ray isn't kept
+-- a ray isn't a point of the rows
 ray_not_kept : ¬ (IsPointOf [] along)
 ray_not_kept h = omega (arith, ints, h.denominator)
 

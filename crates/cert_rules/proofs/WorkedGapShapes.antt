@@ -1,4 +1,4 @@
--- Gaps at the limits, of wrong shapes, with two faults and with shut places.
+-- The worked gaps at the limits, of wrong shapes, with two faults and with shut places are judged as stated.
 use Rattle.std.proofs.Common.{◌≡◌, inl, ℕ, ◌+◌, ◌-◌, ◌≤◌, ◌<◌, ◌^◌, List, [], ◌∷◌, Option, Some, None}
 use Rattle.std.proofs.Common.{refl, arith}
 use Rattle.std.specs.Prelude.{ℤ, pos, negsuc, nat_abs}
@@ -19,15 +19,15 @@ use Rattle.cert_rules.proofs.WorkedGaps.{pair_point, shape_over, no_rows, one_ro
 use Rattle.cert_rules.proofs.WorkedGaps.{guessed_shape, row, met_at_1, met_along_1, one_kept, free_kept, loses_one}
 use Rattle.cert_rules.proofs.WorkedGaps.{pair_row, pair_move, past, one_is_some, two_is_some}
 
--- a denominator of at least 1 loses something
+-- if the move's denominator is at least 1, the two denominators aren't both 0
 loses : (m f : ℕ) → 1 ≤ m → ¬ ((m ≡ 0) × (f ≡ 0))
 loses m f h e = omega (arith, h, e.0)
 
--- a point with a denominator of at least 1 is one of no rows
+-- a scaled point with a denominator of at least 1 is a point of no rows
 free_point : (z : ScaledPoint) → 1 ≤ z.den → IsPointOf [] z
 free_point z h = record { denominator = omega (arith, ints, h); meets = no_rows z }
 
--- a point along the place, and one whose part is past the limit
+-- the point with this denominator along the place, and a point whose part is past the limit
 abbrev along : ℕ → ScaledPoint
 along d = scaled (pos 1 ∷ []) d
 
@@ -94,7 +94,7 @@ gap_limits_judged = record {
       );
 }
 
--- a number isn't below itself, and two isn't one
+-- no number is less than itself
 not_below : ¬ (2 < 2)
 not_below h = omega (arith, h)
 
@@ -117,7 +117,7 @@ no_third h = no_rule None refl h.rule h.numbered
 no_zeroth : ¬ (IsRule turning 0)
 no_zeroth h = no_rule None refl h.rule h.numbered
 
--- two parts
+-- a point with two parts, the second of them 0
 abbrev two_parts : ℤ → ℕ → ScaledPoint
 two_parts x d = scaled (x ∷ pos 0 ∷ []) d
 
@@ -206,7 +206,7 @@ gap_order_judged = record {
       (one_is_some, refl))))));
 }
 
--- the points over two places, and the shape with them
+-- the points over two places, and the shape of a gap with them
 abbrev flat : ScaledPoint
 flat = scaled (pos 1 ∷ pos 0 ∷ []) 0
 

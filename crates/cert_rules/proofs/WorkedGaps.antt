@@ -1,4 +1,4 @@
--- Gaps on small programs, and the faults of others.
+-- The worked gaps on small programs hold, or have the stated faults.
 use Rattle.std.proofs.Common.{◌≡◌, ◌⊎◌, inl, inr, ℕ, ◌+◌, ◌≤◌, ◌^◌, true, false, List, [], ◌∷◌, refl, arith}
 use Rattle.std.specs.Prelude.{ℤ, pos, negsuc, nat_abs, ◌≤ℤ◌}
 use Rattle.std.proofs.lemmas.Int.{ints}
@@ -15,7 +15,7 @@ use Rattle.cert_rules.specs.WorkedGaps.{pairs_forms, place_of_l, gap_of_one, Gap
 use Rattle.cert_rules.proofs.GapsInLine.{passed-holds}
 use Rattle.cert_rules.proofs.WorkedAccepted.{of_one}
 
--- a point of one part with numbers within the limit
+-- a point of one part with numbers within the limit has the right shape
 pub one_point : (r : RuleForms) → r.unknowns ≡ 1 → (x : ℤ) (d : ℕ) → nat_abs x ≤ point_limit → d ≤ point_limit
     → IsGapPoint r (scaled (x ∷ []) d)
 one_point r e x d h k = record {
@@ -24,7 +24,7 @@ one_point r e x d h k = record {
   den_limit = k;
 }
 
--- a point of two parts with numbers within the limit
+-- a point of two parts with numbers within the limit has the right shape
 pub pair_point : (r : RuleForms) → r.unknowns ≡ 2 → (x y : ℤ) (d : ℕ) → nat_abs x ≤ point_limit
     → nat_abs y ≤ point_limit → d ≤ point_limit → IsGapPoint r (scaled (x ∷ y ∷ []) d)
 pair_point r e x y d h i k = record {
@@ -35,7 +35,7 @@ pair_point r e x y d h i k = record {
   den_limit = k;
 }
 
--- the shape of a gap of the second rule over itself
+-- a gap of the second rule over itself has the right shape
 pub shape_over : (p : Program) (rule : ℕ → RuleForms) (shut : List SymbolPlace) (move floor kept : ScaledPoint)
     → IsRule p 2 → IsGapPoint (rule 2) move → IsGapPoint (rule 2) floor → IsGapPoint (rule 2) kept
     → HasGapShape p rule (gap_over 2 shut move floor kept)
@@ -50,11 +50,11 @@ shape_over p rule shut move floor kept i m f k = record {
   floor = f;
 }
 
--- a rule without rows is met everywhere
+-- every scaled point meets no rows
 pub no_rows : (z : ScaledPoint) → MeetsAt [] z
 no_rows z = record { each = All-nil (λ r. pos 0 ≤ℤ form_value r (at z.parts) (pos z.den)) }
 
--- one row is met where it is at least 0
+-- a scaled point meets one row if it gives at least 0 there
 pub one_row : (r : Form) (z : ScaledPoint) → pos 0 ≤ℤ value_at r z → MeetsAt (r ∷ []) z
 one_row r z h = record {
   each =
@@ -66,7 +66,7 @@ one_row r z h = record {
 pub row_met : (r : Form) (z : ScaledPoint) → MeetsAt (r ∷ []) z → pos 0 ≤ℤ value_at r z
 row_met r z h = All-head (λ f. pos 0 ≤ℤ form_value f (at z.parts) (pos z.den)) r [] h.each
 
--- the shape of the gaps of the first and of the second program
+-- the gaps of the first and of the second program have the right shape
 pub turning_shape : (shut : List SymbolPlace) (move : ℤ) (m : ℕ) (floor : ℤ) (f : ℕ) (k : ℕ) → nat_abs move ≤ 2 ^ 45
     → nat_abs floor ≤ 1 → m ≤ 2 ^ 45 → f ≤ 1 → k ≤ 2 ^ 45
     → HasGapShape turning turning_forms (gap_of_one shut move m floor f (pos 1) k)
@@ -86,7 +86,7 @@ guessed_shape shut move floor kept a b c =
     (one_point (guessed_forms 2) refl floor 0 b (omega arith))
     (one_point (guessed_forms 2) refl kept 1 (omega (arith, c)) (omega arith))
 
--- a denominator of 1 loses something
+-- the denominator 1 isn't 0
 pub loses_one : (f : ℕ) → ¬ (◌≡◌ {A = ℕ} 1 0 × (f ≡ 0))
 loses_one f e = omega (arith, e.0)
 
@@ -94,7 +94,7 @@ loses_one f e = omega (arith, e.0)
 abbrev pub row : Form
 row = record { coefs = pos 1 ∷ []; constant = negsuc 0 }
 
--- a point at which the row is met, and which is kept
+-- a point that meets the row, and is a point of it
 pub met_at_1 : MeetsAt (row ∷ []) (scaled (pos 1 ∷ []) 1)
 met_at_1 = one_row row (scaled (pos 1 ∷ []) 1) (omega (arith, ints))
 
@@ -124,15 +124,15 @@ pairs_shape =
     (pair_point (pairs_forms 2) refl (pos 1) (negsuc 0) 0 (omega arith) (omega arith) (omega arith))
     (pair_point (pairs_forms 2) refl (pos 1) (pos 1) 1 (omega arith) (omega arith) (omega arith))
 
--- a check that passes, and the ones after it
+-- a check that passes is followed by the checks after it
 pub both : {A B : Type 0} → A → B → A × B
 both a b = (a, b)
 
--- a check that passes, and one after it that fails
+-- a check that passes is followed by a check that fails
 pub behind : {A B C : Type 0} → A → B → C ⊎ (A × B)
 behind a b = inr (a, b)
 
--- a balance that is another number isn't 0
+-- 1 isn't 0
 pub one_is_some : ¬ (pos 1 ≡ pos 0)
 one_is_some e = omega (arith, ints, e)
 
@@ -146,7 +146,7 @@ minus_one_is_some e = omega (arith, ints, e)
 pub past : 2 ^ 45 + 1 ≤ point_limit → ⊥
 past h = omega (arith, h)
 
--- no isn't yes
+-- false isn't true
 differ : false ≡ true → ⊥
 differ h = cc
 

@@ -1,4 +1,4 @@
--- The setting of the rule that costs A says what is true.
+-- The setting of the rule with the cost A is true of it.
 use Rattle.std.proofs.Common.{◌≡◌, ℕ, zero, suc, List, [], ◌++◌, Some, None, refl, sym, ap, subst, arith}
 use Rattle.std.specs.Prelude.{ℤ, pos, ◌≤ℤ◌}
 use Rattle.std.proofs.lemmas.Int.{ints}
@@ -14,7 +14,7 @@ use Rattle.cert_rules.specs.Setting.{costs_of, StepPoint, IsFaithful}
 use Rattle.cert_rules.specs.WorkedCosts.{form_of_A, paying_rule, paying}
 use Rattle.cert_rules.proofs.WorkedFaithful.{folded_val, folded-based, zero_first, first_in_env}
 
--- a step by the rule is a point
+-- a step by the rule is a point of its rows
 pays_at : (c : Config) (free : List ℤ) (d : Config) → Leads paying_rule c free d → StepPoint paying 1 c free d
 pays_at c free d h = record {
   z = λ j. at c.values j;
@@ -72,7 +72,7 @@ costs_at c free d h = record {
     by zero = omega (arith, ints, ap (λ (xs : List ℤ). at xs 0) h.values, first_in_env c.values free h.left)
     by (suc i) = sym (ap (λ (xs : List ℤ). at xs (suc i)) h.values)
 
--- the only rule of the program
+-- a property of the only rule of the program is one of each rule
 module _ (P : ℕ → Rule → Type 0) (here : P 1 paying_rule) where
   only_rule : (t : ℕ) (r : Rule) → rule_at paying.program t ≡ Some r → P t r
   only_rule zero r e = absurd (none_some e)
@@ -88,11 +88,11 @@ module _ (P : ℕ → Rule → Type 0) (here : P 1 paying_rule) where
       none_some : None ≡ Some r → ⊥
       none_some x = cc
 
--- its cost
+-- the cost that is written at the rule is A
 written : (cost : Term) → paying_rule.cost ≡ Some cost → Variable 0 ≡ cost
 written cost e = cc
 
--- the setting says what is true
+-- the setting is true of the program
 pub paying_is_faithful : IsFaithful paying
 paying_is_faithful = record {
   places = λ t r e. only_rule (λ u q. q.left ≡ arity_of paying.program q.source) refl t r e;

@@ -1,4 +1,4 @@
--- The nodes that solve nothing, on small programs.
+-- The worked nodes without an arithmetic certificate are accepted and refused as stated.
 use Rattle.std.proofs.Common.{◌≡◌, ◌≤◌, false, [], ◌∷◌, refl, arith}
 use Rattle.std.specs.Prelude.{pos}
 use Rattle.std.proofs.lemmas.Int.{ints}
@@ -10,7 +10,7 @@ use Rattle.cert_rules.specs.Worked.{empty_loop, PlainNodesAreJudged}
 use Rattle.run_counting.proofs.model.Membership.{no_is_not_yes}
 use Rattle.cert_rules.proofs.WorkedAccepted.{implies_one, small}
 
--- the rows that no point meets
+-- the node of the rule whose rows no point meets is accepted
 empty : Accepts stuck [] (empty_loop (1 ∷ 1 ∷ []))
 empty = record {
   shape = record {
@@ -25,7 +25,7 @@ empty = record {
   empty = implies_one (stuck.rows 2) (1 ∷ 1 ∷ []) _ refl refl (λ u. refl) (omega (arith, ints));
 }
 
--- all that was worked out
+-- the worked values of plain nodes hold
 pub plain_nodes : PlainNodesAreJudged
 plain_nodes = record {
   empty = empty;

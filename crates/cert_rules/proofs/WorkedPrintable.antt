@@ -1,4 +1,4 @@
--- Facts that can be printed and facts that can't.
+-- The worked facts that can be printed, and those that can't.
 use Rattle.std.proofs.Common.{◌+◌, ◌≤◌, ◌<◌, arith}
 use Rattle.std.proofs.lemmas.List.Elements.{All-from_recursion, recursion_from_All}
 use Rattle.run_counting.specs.model.Bounds.{Input, SumOf}
@@ -9,7 +9,7 @@ use Rattle.cert_rules.specs.Printable.{WritesTidy}
 use Rattle.cert_rules.specs.Worked.{one_part, only, once, down_alone}
 use Rattle.cert_rules.specs.WorkedPrintable.{PrintingIsJudged}
 
--- one part isn't two, and the limit plus one is over the limit
+-- 1 isn't at least 2, and the limit plus one is over the limit
 one_is_few : ¬ (2 ≤ 1)
 one_is_few h = omega (arith, h)
 

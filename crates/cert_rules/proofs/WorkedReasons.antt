@@ -1,4 +1,4 @@
--- First reasons of nodes on small programs.
+-- The worked first reasons of nodes on small programs.
 use Rattle.std.proofs.Common.{◌≡◌, ◌≤◌, inl, inr, ℕ, true, false, List, [], ◌∷◌, refl, arith}
 use Rattle.std.specs.Prelude.{pos, negsuc}
 use Rattle.std.proofs.lemmas.Int.{ints}
@@ -21,7 +21,7 @@ use Rattle.cert_rules.proofs.WorkedRefused.{nothing_known, reached}
 use Rattle.cert_rules.proofs.WorkedPlain.{plain_nodes}
 use Rattle.cert_rules.proofs.WorkedSizes.{is_square_too}
 
--- the shape of the function that falls from A, with small multipliers
+-- the function that falls from A, with small multipliers, has the right shape
 down_shape : (k l : ℕ) → k ≤ 1 → l ≤ 1 → HasRankShape counting (down_node (k ∷ []) (l ∷ []))
 down_shape k l h i = record {
   ascending = (omega arith, tt);
@@ -39,7 +39,7 @@ down_shape k l h i = record {
   floor = one_needed l i;
 }
 
--- the shapes of members of the first rule with wrong side bounds
+-- the members of the first rule with wrong side bounds have the right shape
 up_shape : HasMemberShape counting wrong_up
 up_shape = record {
   at = record { rule = enter; numbered = refl; least = omega arith; most = omega arith };
@@ -54,7 +54,7 @@ low_shape = record {
   low = side_bound_shape 1 (pos 1) [] refl (omega arith) (none_needed 1 refl);
 }
 
--- the shape of the loop that squares
+-- the loop that squares has the right shape
 nonlinear_shape : HasCycleShape squaring (nonlinear_member 2 ∷ [])
 nonlinear_shape = record {
   some = omega arith;
@@ -72,7 +72,7 @@ nonlinear_shape = record {
       }) (All-nil (HasMemberShape squaring));
 }
 
--- the shape of the first lemma, which has nothing to do with the rewriting
+-- the multipliers of the first lemma have the right shape under each rewriting
 tower_multipliers : (t : ℕ) (ms : List ℕ) → AreMultipliers counting t ms → AreMultipliers towering t ms
 tower_multipliers t ms h = record { long = h.long; limit = h.limit }
 
@@ -91,7 +91,7 @@ tower_shape =
       floor = tower_multipliers 1 [] h.floor;
     }
 
--- all that was worked out
+-- the worked first reasons are as stated
 pub reasons_worked : ReasonsComeInOrder
 reasons_worked = record {
   shape = inl ((λ h. let low : 2 ≤ 1 = h.earlier in omega (arith, low)), refl);

@@ -1,4 +1,4 @@
--- Node numbers and refusals on small programs.
+-- The worked node numbers and refusals on small programs.
 use Rattle.std.proofs.Common.{◌≡◌, inl, inr, ℕ, ◌≤◌, List, [], ◌∷◌, refl, arith}
 use Rattle.std.proofs.lemmas.List.Elements.{All-nil, All-cons}
 use Rattle.run_counting.specs.model.Facts.{Fact}
@@ -23,7 +23,7 @@ use Rattle.cert_rules.proofs.WorkedAccepted.{once_accepted, entered_accepted, fo
 use Rattle.cert_rules.proofs.WorkedReasons.{reasons_worked}
 use Rattle.cert_rules.proofs.WorkedGaps.{gaps_judged}
 
--- a node before its child isn't the child, and one use isn't the other
+-- a node isn't its premise, and one premise isn't the other
 other_node : ¬ (Cite 1 ≡ Never (Cite 1))
 other_node e = cc
 
@@ -33,7 +33,7 @@ other_number e = omega (arith, same e)
     same : Cite 1 ≡ Cite 2 → ◌≡◌ {A = ℕ} 1 2
     same k = cc
 
--- the numbers that were worked out
+-- the worked nodes are numbered as stated
 pub nodes_numbered : NodesAreNumbered
 nodes_numbered = record {
   cited = refl;
@@ -50,20 +50,20 @@ nodes_numbered = record {
   not_last_use_first = λ e. other_number (same_head _ _ _ _ e);
 }
 
--- a node is the first that fails, after nodes that are accepted
+-- laws for the first node that fails, after nodes that are accepted
 module _ (past : List (List Fact)) where
-  -- a node alone
+  -- a single node with this first reason is the first to fail
   alone : (node : Proof) (r : Reason) → IsFirstReason counting past node r
       → FailsFirst (AcceptsNode counting past) (IsFirstReason counting past) (node ∷ []) 1 r
   alone node r h = first-here (AcceptsNode counting past) (IsFirstReason counting past) node [] r h
 
-  -- a node after another one
+  -- a node with this first reason, after an accepted one, is the second and the first to fail
   behind_one : (x node : Proof) (r : Reason) → AcceptsNode counting past x → IsFirstReason counting past node r
       → FailsFirst (AcceptsNode counting past) (IsFirstReason counting past) (x ∷ node ∷ []) 2 r
   behind_one x node r h k =
       first-behind (AcceptsNode counting past) (IsFirstReason counting past) x (node ∷ []) 1 r h (alone node r k)
 
--- the second lemma has no floor
+-- the second lemma is refused at its second node, which has no floor
 floor_refused : IsRefusedAt counting without_floor 2 2 Floor
 unfolding AcceptsLemmas facts_of_lemmas
 floor_refused = record {
@@ -76,7 +76,7 @@ floor_refused = record {
   first = behind_one first_fact Start (down (0 ∷ []) (0 ∷ [])) Floor tt reasons_worked.floor;
 }
 
--- the refusal if this is the first lemma
+-- without the first lemma, the refusal is at the first lemma
 first_refused : IsRefusedAt counting (down (0 ∷ []) (0 ∷ []) ∷ Cite 2 ∷ []) 1 2 Floor
 unfolding AcceptsLemmas facts_of_lemmas
 first_refused = record {
@@ -89,7 +89,7 @@ first_refused = record {
   first = behind_one [] Start (down (0 ∷ []) (0 ∷ [])) Floor tt reasons_worked.floor;
 }
 
--- a lemma that cites itself
+-- a lemma that cites itself is refused
 itself_refused : IsRefusedAt counting (Cite 1 ∷ []) 1 1 Shape
 unfolding AcceptsLemmas facts_of_lemmas
 itself_refused = record {
@@ -102,7 +102,7 @@ itself_refused = record {
   first = alone [] (Cite 1) Shape (inl ((λ h. let low : 1 ≤ 0 = h.earlier in omega (arith, low)), refl));
 }
 
--- a lemma that cites a lemma 0
+-- a lemma that cites a lemma 0 is refused
 none_refused : IsRefusedAt counting (Cite 0 ∷ []) 1 1 Shape
 unfolding AcceptsLemmas facts_of_lemmas
 none_refused = record {
@@ -115,7 +115,7 @@ none_refused = record {
   first = alone [] (Cite 0) Shape (inl ((λ h. let low : 1 ≤ 0 = h.least in omega (arith, low)), refl));
 }
 
--- a multiplier for a rule without rows
+-- a node with a multiplier for a rule without rows is refused
 multiplier_refused : IsRefusedAt counting (Empty 1 (1 ∷ []) ∷ []) 1 1 Shape
 unfolding AcceptsLemmas facts_of_lemmas
 multiplier_refused = record {
@@ -129,7 +129,7 @@ multiplier_refused = record {
       (inl ((λ h. let same : ◌≡◌ {A = ℕ} 1 0 = h.one_each.long in omega (arith, same)), refl));
 }
 
--- a lemma that cites a later one
+-- a lemma that cites a later one is refused
 later_refused : IsRefusedAt counting (once ∷ Never (Cite 3) ∷ entered ∷ []) 2 1 Shape
 unfolding AcceptsLemmas facts_of_lemmas
 later_refused = record {
@@ -143,7 +143,7 @@ later_refused = record {
       Shape (inl ((λ h. let low : 3 ≤ 1 = h.earlier in omega (arith, low)), refl));
 }
 
--- a node after two uses, without the time of the rule that enters
+-- a node without the time of the rule that enters is refused after its two premises
 third_refused : IsRefusedAt counting (once ∷ entered ∷ without_time ∷ []) 3 3 (MissingTime 1)
 unfolding AcceptsLemmas facts_of_lemmas
 third_refused = record {
@@ -160,7 +160,7 @@ third_refused = record {
       (record { least = omega arith; earlier = omega arith }) reasons_worked.missing_time);
 }
 
--- the refusals that were worked out
+-- the worked lemmas are refused as stated
 pub lemmas_refused : LemmasAreRefused
 lemmas_refused = record {
   four = (refusals-in-line.none counting four_lemmas).0 four_accepted;
@@ -178,7 +178,7 @@ lemmas_refused = record {
       omega (arith, same.0);
 }
 
--- a check that fails alone is the first
+-- a check that fails alone is the first that fails
 alone_first : {R : Type 0} (cs : List (CheckOf R)) (r : R) → FailsAlone cs r → IsFirstAmong cs r
 alone_first [] r h = h
 alone_first (c ∷ cs) r (inl h) = inl (h.0, h.1)
@@ -194,7 +194,7 @@ none_accepted : AcceptsLemmas turning_round []
 unfolding AcceptsLemmas
 none_accepted = tt
 
--- a file whose first gap has this fault
+-- a file whose first gap has this fault is refused at it
 refused_first : (g : Gap) (gs : List Gap) (x : GapFault) → IsFirstFault turning turning_forms g x
     → IsRefusedAtGap turning_round turning_forms (turning_file (g ∷ gs)) 1 x
 refused_first g gs x h = record {
@@ -202,13 +202,13 @@ refused_first g gs x h = record {
   first = first-here (GapHolds turning turning_forms) (IsFirstFault turning turning_forms) g gs x h;
 }
 
--- the floor that moves leaves the place of l unbalanced
+-- the gap with the moved floor is refused, since the place of l is unbalanced
 floor_unbalanced : IsRefusedAtGap turning_round turning_forms (turning_file (moved_floor ∷ [])) 1 (Unbalanced 1 1)
 floor_unbalanced =
     refused_first moved_floor [] (Unbalanced 1 1)
     (alone_first (gap_checks turning turning_forms moved_floor) (Unbalanced 1 1) gaps_judged.place_unbalanced)
 
--- the kept ray is the fault of a gap
+-- the fault of the gap with the kept ray is that the ray isn't a point
 kept_fault : IsFirstFault turning turning_forms kept_ray (NotKept 2)
 kept_fault = alone_first (gap_checks turning turning_forms kept_ray) (NotKept 2) gaps_judged.ray_kept
 
@@ -217,7 +217,7 @@ itself_accepted : ¬ (AcceptsLemmas turning_round (Cite 1 ∷ []))
 unfolding AcceptsLemmas
 itself_accepted h = let low : 1 ≤ 0 = h.0.earlier in omega (arith, low)
 
--- files as they were judged
+-- the worked files are accepted and refused as stated
 pub files_judged : FilesAreJudged
 files_judged = record {
   nothing = record { lemmas = none_accepted; gaps = All-nil (GapHolds turning turning_forms) };

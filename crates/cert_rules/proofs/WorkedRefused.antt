@@ -1,4 +1,4 @@
--- Mistakes that acceptance refuses, and what it accepts beside them.
+-- Mistakes that acceptance refuses, and nodes like them that it accepts.
 use Rattle.std.proofs.Common.{◌≡◌, ℕ, zero, suc, ◌<◌, List, [], ◌∷◌, Some, None, refl, sym, ap, subst, arith}
 use Rattle.std.specs.Prelude.{pos, negsuc}
 use Rattle.std.proofs.lemmas.Int.{ints}
@@ -15,12 +15,12 @@ use Rattle.cert_rules.specs.Acceptance.{Accepts}
 use Rattle.cert_rules.specs.WorkedSettings.{counting, falling, guessing, apart, enter, count_down, rule_over}
 use Rattle.cert_rules.specs.Worked.{only, side_bound, down, down_alone, alone_node, first_fact, first_and_size}
 
--- without rows nothing is combined
+-- the coefficients combined of no rows are 0
 pub no_rows_combine : (ms : List ℕ) (u : ℕ) → combined_coef ms [] u ≡ pos 0
 no_rows_combine [] u = refl
 no_rows_combine (m ∷ ms) u = refl
 
--- no bound is known where there is none
+-- an absent bound is no bound
 pub nothing_known : (b : Bound) → None ≡ Some b → ⊥
 nothing_known b e = cc
 

@@ -1,4 +1,4 @@
--- Moves, side bounds and sizes, on small programs.
+-- The worked side bounds and sizes on small programs.
 use Rattle.std.proofs.Common.{◌≡◌, ◌≤◌, List, ℕ, zero, suc, ◌<◌, ◌==◌, ◌||◌, Bool, true, false, [], ◌∷◌, Some, refl, ap}
 use Rattle.std.proofs.Common.{arith, All}
 use Rattle.std.specs.Prelude.{ℤ, pos, negsuc, nat_abs}
@@ -24,12 +24,12 @@ use Rattle.run_counting.proofs.model.Membership.{no_is_not_yes, same_number-soun
 use Rattle.cert_rules.proofs.WorkedAccepted.{of_one, of_two, small, implies_one, sized}
 use Rattle.cert_rules.proofs.WorkedRefused.{no_rows_combine, nothing_known}
 
--- both variables of the square are the first place
+-- both variables of the square are left variables
 pub below_one : All (λ (v : ℕ). v < 1) (0 ∷ 0 ∷ [])
 below_one = All-cons (λ (v : ℕ). v < 1) 0 (0 ∷ []) (omega arith)
     (All-cons (λ (v : ℕ). v < 1) 0 [] (omega arith) (All-nil (λ (v : ℕ). v < 1)))
 
--- the update of either rule is the square
+-- the update of each of the two rules is the square, in left variables
 is_square : IsPolynomialUpdate squaring (nonlinear_member 1).result_variable
 is_square = record {
   polynomial = square;
@@ -46,7 +46,7 @@ is_square_too = record {
       below_one (All-nil (λ (m : Monomial). All (λ (v : ℕ). v < 1) m.vars));
 }
 
--- the square reads the first place alone
+-- the square reads no place but the first
 pub no_other_place : (j : ℕ) → reads (Some square) Poly (suc j) ≡ true → ⊥
 no_other_place j k = go (suc j == 0) refl
   where
@@ -55,12 +55,12 @@ no_other_place j k = go (suc j == 0) refl
     go false e =
         no_is_not_yes (reads (Some square) Poly (suc j)) (ap (λ (v : Bool). (v || (v || false)) || false) e) k
 
--- that place has its size after the virtual entry
+-- the place that the square reads has its size after the virtual entry
 square_sizes : SideBoundHasSizes squaring (table_of (start_facts squaring.program)) [] (nonlinear_member 1).result_variable Poly 0
 square_sizes zero k l = (Input 0, refl)
 square_sizes (suc j) k l = absurd (no_other_place j k)
 
--- a polynomial side bound outside a loop
+-- a polynomial side bound outside a loop is accepted
 poly : Accepts squaring [] (Spread (nonlinear_member 1) (only Start))
 poly = (
   (tt, tt),
@@ -83,21 +83,21 @@ poly = (
   },
 )
 
--- one that reads a member
+-- a polynomial side bound that reads a member is refused
 nonlinear : ¬ (Accepts squaring one_size (Cycle (nonlinear_member 2 ∷ []) (only (Cite 1))))
 nonlinear h =
     let straight : IsStraight squaring (nonlinear_member 2 ∷ []) (nonlinear_member 2) =
     All-head (IsStraight squaring (nonlinear_member 2 ∷ [])) (nonlinear_member 2) [] h.1.straight in
     no_is_not_yes true (straight.up 2 refl 0 refl) refl
 
--- a loop without the size that comes in
+-- a loop without the size that enters it is refused
 loop_size : ¬ (Accepts counting [] (Cycle (looped_member ∷ []) (only Start)))
 loop_size h =
     let sizes : HasSizesBefore counting (table_of (start_facts counting.program)) (looped_member ∷ []) looped_member =
     All-head (HasSizesBefore counting (table_of (start_facts counting.program)) (looped_member ∷ [])) looped_member [] h.1.sizes in
     let size = (sizes 1 refl).up 0 refl refl in nothing_known size.0 size.1
 
--- the numbers of a side bound that doubles are within the limit
+-- the side bound that doubles has the right shape
 double_side_bound : (a : ℤ) → nat_abs a ≤ 2 → HasLinearShape doubling 2 1 1 (form (a ∷ []) (pos 0)) []
 double_side_bound a h = record {
   over = omega arith;
@@ -111,15 +111,15 @@ double_side_bound a h = record {
   one_each = record { long = refl; limit = All-nil IsInLimit };
 }
 
--- the facts of the two lemmas
+-- the facts of the two lemmas that are cited
 abbrev size_with_time : List Fact
 size_with_time = Size 1 1 (Input 0) ∷ Time 2 (Constant 3) ∷ []
 
--- a property of the member that doubles is one of all
+-- a property of the member that doubles is one of each member
 of_doubled : (P : Member → Type 0) → P doubled_member → All P doubled
 of_doubled P h = All-cons P doubled_member [] h (All-nil P)
 
--- a loop that multiplies by a rule with a time
+-- a loop that multiplies by a rule with a time is accepted
 with_time : Accepts doubling size_and_time (Cycle doubled (AndProof (Cite 1) (only (Cite 2))))
 with_time = (
   (record { least = omega arith; earlier = omega arith }, (record { least = omega arith; earlier = omega arith }, tt)),
@@ -156,7 +156,7 @@ with_time = (
     loop_flows : List Flow
     loop_flows = flows doubling doubled (size_in size_with_time)
 
--- all that was worked out
+-- the worked nodes on sizes are accepted and refused as stated
 pub size_nodes : SizeNodesAreJudged
 size_nodes = record {
   poly = poly;

@@ -53,7 +53,7 @@ AcceptsNode s past (Cycle members uses) = AcceptsCycle s (table_of (joined_facts
 AcceptsNode s past (Weaken child b) = AcceptsWeaken s (facts_of s past child) b
 AcceptsNode s past (Charge node uses) = AcceptsCost s (table_of (joined_facts s past uses)) node
 
--- a derivation is accepted after lemmas with these facts: all of its premises are, and so is its node itself
+-- a derivation is accepted after lemmas with these facts: its premises are accepted, and the checks of its node pass
 abbrev mutual
   pub Accepts : Setting → List (List Fact) → Proof → Type 0
   Accepts s past (Cite n) = AcceptsNode s past (Cite n)
@@ -81,7 +81,7 @@ abbrev pub facts_from : Setting → List (List Fact) → List Proof → List (Li
 facts_from s past [] = past
 facts_from s past (proof ∷ proofs) = facts_from s (past ++ facts_of s past proof ∷ []) proofs
 
--- all lemmas of a list are accepted, and what they state
+-- all lemmas of a list are accepted, and the facts that they state
 unfoldable pub AcceptsLemmas : Setting → List Proof → Type 0
 AcceptsLemmas s proofs = AcceptsFrom s [] proofs
 

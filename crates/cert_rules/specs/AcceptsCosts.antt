@@ -52,7 +52,7 @@ cost_of s t side_bound time size = ProductOf (both_parts (known (time t)) (step_
 abbrev pub side_bound_cost : Setting → Table → ℕ → SideBound → Bound
 side_bound_cost s table t side_bound = cost_of s t side_bound table.time table.size
 
--- a rule that never runs: its time is known, and it is 0
+-- the rule never runs: its time is known, and it is 0
 pub record HasZeroTime (table : Table) (t : ℕ) : Type 0 where
   pub time : IsKnown (table.time t)
   pub zero : is_zero_bound (known (table.time t)) ≡ true
@@ -72,7 +72,7 @@ AcceptsCostBy s table t (EmptyCost multipliers) = Implies (s.cost_rows t) multip
 AcceptsCostBy s table t NeverCost = HasZeroTime table t
 AcceptsCostBy s table t (SideBoundCost side_bound) = AcceptsCostOfSideBound s table t side_bound
 
--- a node on a cost: the rule has one, the numbers are right, and the cost is shown
+-- a node on a cost is accepted: the rule has a cost, the node's numbers have the right shape, and the cost is shown
 pub record AcceptsCost (s : Setting) (table : Table) (node : CostNode) : Type 0 where
   pub shape : HasCostShape s node
   pub by : AcceptsCostBy s table node.rule node.by

@@ -37,11 +37,11 @@ pub record AcceptsEmpty (s : Setting) (t : ℕ) (multipliers : List ℕ) : Type 
   pub shape : HasEmptyShape s t multipliers
   pub empty : Implies (s.rows t) multipliers minus_one
 
--- a rule that may run: no fact says that its time is 0
+-- the rule may run: no fact says that its time is 0
 abbrev pub may_run : List Fact → ℕ → Bool
 may_run facts t = not (has_zero_time facts t)
 
--- the source of a rule isn't reached by rules that are allowed
+-- the source of a rule isn't reached by the rules that pass the test
 abbrev pub IsUnreached : Program → (ℕ → Bool) → ℕ → Type 0
 IsUnreached p is_allowed t = (r : Rule) → rule_at p t ≡ Some r → ¬ (IsReached p is_allowed r.source)
 
@@ -60,7 +60,7 @@ abbrev pub IsZeroTime : List Fact → Type 0
 IsZeroTime (Time t b ∷ facts) = is_zero_bound b ≡ true
 IsZeroTime facts = ⊥
 
--- a rule that never runs: the child has exactly one fact, a time of it, which is 0
+-- a premise shows that a rule never runs: it states exactly one fact, a time of the rule, and this is 0
 pub record AcceptsNever (facts : List Fact) : Type 0 where
   pub shape : IsOneTime facts
   pub zero : IsZeroTime facts
@@ -70,7 +70,7 @@ abbrev pub zero_sizes : ℕ → List ℕ → List Fact
 zero_sizes t [] = []
 zero_sizes t (i ∷ is) = Size t i (Constant 0) ∷ zero_sizes t is
 
--- the places of a symbol, where there is one
+-- the numbers of the places of a symbol, if there is one
 abbrev pub places_at : Program → Option ℕ → List ℕ
 places_at p None = []
 places_at p (Some a) = range_with_len 1 (arity_of p a)
@@ -88,24 +88,25 @@ start_sizes (i ∷ is) = Size 0 i (Input (i - 1)) ∷ start_sizes is
 abbrev pub start_facts : Program → List Fact
 start_facts p = Time 0 (Constant 1) ∷ start_sizes (places_at p (Some p.start))
 
--- a bound as it may be written: its inputs are start arguments, its bases at least 2, its constants below 2^127
+-- the shape of a bound that a `weaken` node writes: its inputs are start arguments, its bases at least 2, its constants
+-- below 2^127
 pub record HasWeakenShape (p : Program) (b : Bound) : Type 0 where
   pub inputs : ReadsBelow (arity_of p p.start) b
   pub numbers : HasTidyNumbers b
 
--- the only fact of the child is below the bound
+-- the only fact of the premise has a bound that is below this one
 abbrev pub IsWeaker : Setting → List Fact → Bound → Type 0
 IsWeaker s (Time t a ∷ []) b = s.below a b ≡ true
 IsWeaker s (Size t i a ∷ []) b = s.below a b ≡ true
 IsWeaker s (Cost t a ∷ []) b = s.below a b ≡ true
 IsWeaker s facts b = ⊥
 
--- a weaker bound: the child has exactly one fact, and its bound is below the new one
+-- a `weaken` node is accepted: its premise states exactly one fact, whose bound is below the new one
 pub record AcceptsWeaken (s : Setting) (facts : List Fact) (b : Bound) : Type 0 where
   pub shape : HasWeakenShape s.program b
   pub weaker : IsWeaker s facts b
 
--- the fact with the new bound
+-- the fact of the premise, with the new bound
 abbrev pub weakened : List Fact → Bound → List Fact
 weakened (Time t a ∷ []) b = Time t b ∷ []
 weakened (Size t i a ∷ []) b = Size t i b ∷ []

@@ -52,11 +52,11 @@ at_source p node t = rank_form node.forms (source_of p t)
 abbrev pub at_target : Program → RankNode → ℕ → Form
 at_target p node t = rank_form node.forms (target_of p t)
 
--- how much the function has to fall by a rule: the denominator for the strict rule, and 0 for the others
+-- the least loss by a rule: the denominator for the strict rule, and 0 for the others
 abbrev pub least_loss : RankNode → ℕ → ℤ
 least_loss node t = cond (t == node.rule) (pos node.den) (pos 0)
 
--- the rows of the rule imply that the function, before it less after it, is at least what has to be lost
+-- the rows of the rule imply that the function loses at least this much: its value before the rule less that after it
 abbrev pub Loses : Setting → RankNode → ℕ → Type 0
 Loses s node t = Implies (s.rows t) (moves_of node.set node.moves t)
     (loss (at_source s.program node t) (at_target s.program node t) (s.new_values t) (least_loss node t))

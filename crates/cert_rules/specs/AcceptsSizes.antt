@@ -102,7 +102,7 @@ pub record HasSizesAfter (s : Setting) (table : Table) (members : List Member) (
   pub up : SideBoundHasSizes s table members m.result_variable m.local.up e
   pub low : SideBoundHasSizes s table members m.result_variable m.local.low e
 
--- this holds after each rule that can come before
+-- the side bounds have their sizes after each rule that can come before
 abbrev pub HasSizesBefore : Setting → Table → List Member → Member → Type 0
 HasSizesBefore s table members m = (e : ℕ) → is_in e (pre s.program m.result_variable.rule) ≡ true
     → HasSizesAfter s table members m e
@@ -111,8 +111,8 @@ HasSizesBefore s table members m = (e : ℕ) → is_in e (pre s.program m.result
 abbrev pub spread_size : Setting → Table → Member → Bound
 spread_size s table m = spread_of s m table.size
 
--- a spread node is accepted: both side bounds are, each place that they read has a size after each rule that can come
--- before, and the composed bound is small
+-- a spread node is accepted: both side bounds are accepted, each place that they read has a size after each rule that
+-- can come before, and the composed bound is small
 pub record AcceptsSpread (s : Setting) (table : Table) (m : Member) : Type 0 where
   pub shape : HasMemberShape s m
   pub up : AcceptsUp s m
@@ -150,8 +150,8 @@ pub record HasCycleShape (s : Setting) (members : List Member) : Type 0 where
   pub ascending : AreAscending members
   pub each : All (HasMemberShape s) members
 
--- a loop node is accepted: all side bounds are, each place that they read outside has a size, no polynomial side bound
--- reads a member, each rule that multiplies or adds has a time, and the composed bound is small
+-- a loop node is accepted: all side bounds are accepted, each place outside the loop that they read has a size, no
+-- polynomial side bound reads a member, each rule that multiplies or adds has a time, and the composed bound is small
 pub record AcceptsCycle (s : Setting) (table : Table) (members : List Member) : Type 0 where
   pub shape : HasCycleShape s members
   pub up : All (AcceptsUp s) members

@@ -27,22 +27,23 @@ use Rattle.cert_rules.specs.Reasons.{Reason, Shape, NotEmpty, Reached, NotZero, 
 use Rattle.cert_rules.specs.Reasons.{MissingTime, MissingSize, Nonlinear, Large, NotWeaker, Check, check, for_each}
 use Rattle.cert_rules.specs.Reasons.{IsFirstAmong}
 
--- the number of nodes of a composed bound that is large: before it is rewritten where it is large then, after it else
+-- the number of nodes that is reported of a large composed bound: that before rewriting if it is large then, else that
+-- after
 abbrev pub large_nodes : (Bound → Bound) → Bound → ℕ
 large_nodes rewrite b = if is_large b then capped_node_count b else capped_node_count (rewrite b)
 
--- the composed bound is small
+-- the check that the composed bound is small
 abbrev pub check_small : Setting → Bound → Check
 check_small s b = check (Large (large_nodes s.rewrite b)) (IsSmallComposed s.rewrite b)
 
--- the rule has a time; the place after a rule has a size
+-- the check that a rule has a time, and the check that a place after a rule has a size
 abbrev pub check_time : Table → ℕ → Check
 check_time table t = check (MissingTime t) (IsKnown (table.time t))
 
 abbrev pub check_size : Table → ResultVariable → Check
 check_size table result_variable = check (MissingSize result_variable.rule result_variable.place) (IsKnown (table.size result_variable.rule result_variable.place))
 
--- places after a rule, numbered from 0 before and from 1 after
+-- result variables: these places, numbered from 0, after the rule, numbered from 1
 abbrev pub result_variables_after : ℕ → List ℕ → List ResultVariable
 result_variables_after e js = map (λ j. record { rule = e; place = suc j }) js
 
@@ -68,7 +69,7 @@ rank_checks s table node =
     (for_each (check_size table) (needed_after_each s node (entries s.program node.set))
     (check_small s (rank_time s node table) ∷ [])))
 
--- the checks of both side bounds of each member, first all that are up and then all that are low
+-- the check that the upper side bound of a member is accepted, and the check that the lower one is
 abbrev pub check_up : Setting → Member → Check
 check_up s m = check (SideBoundUp m.result_variable.rule m.result_variable.place) (AcceptsUp s m)
 
@@ -82,13 +83,14 @@ needed_by s members m side_bound e =
     (filter (λ j. reads (poly_at s m.result_variable) side_bound j && not (is_member members e j))
     (range_with_len 0 (left_of s.program m.result_variable.rule)))
 
--- the sizes that a member needs after these rules, up before low
+-- the sizes that a member needs after these rules: for each rule those of the upper side bound before those of the
+-- lower one
 abbrev pub needed_from : Setting → List Member → Member → List ℕ → List ResultVariable
 needed_from s members m [] = []
 needed_from s members m (e ∷ es) =
     needed_by s members m m.local.up e ++ (needed_by s members m m.local.low e ++ needed_from s members m es)
 
--- the sizes that these members need, after what can come before each
+-- the sizes that these members need after the rules that can come before each
 abbrev pub needed_into : Setting → List Member → List Member → List ResultVariable
 needed_into s members [] = []
 needed_into s members (m ∷ ms) = needed_from s members m (pre s.program m.result_variable.rule) ++ needed_into s members ms

@@ -31,13 +31,13 @@ place_parts (c ∷ cs) den left_out sizes =
     (Part (ProductOf (both_parts (Constant (rounded_up (nat_abs c) den)) (sizes 0)))
     (place_parts cs den (λ j. left_out (suc j)) (λ j. sizes (suc j))))
 
--- a form over a denominator as a bound, except for the places left out: the positive part of the constant over den,
+-- a form over a denominator as a bound, without the places left out: the positive part of the constant over den,
 -- rounded up, and the parts of the places
 abbrev pub rest_bound : Form → ℕ → (ℕ → Bool) → (ℕ → Bound) → Bound
 rest_bound f den left_out sizes =
     SumOf (Part (Constant (rounded_up (height f.constant) den)) (place_parts f.coefs den left_out sizes))
 
--- no place
+-- the test that no place passes
 abbrev pub no_place : ℕ → Bool
 no_place j = false
 
@@ -45,17 +45,17 @@ no_place j = false
 abbrev pub form_bound : Form → ℕ → (ℕ → Bound) → Bound
 form_bound f den sizes = rest_bound f den no_place sizes
 
--- the bounds of the places after rule e; places are numbered from 1 in facts, from 0 in forms
+-- the known size of each place after rule e, or 0; places count from 1 in facts, from 0 in forms
 abbrev pub sizes_after : (ℕ → ℕ → Option Bound) → ℕ → ℕ → Bound
 sizes_after size e j = known (size e (suc j))
 
--- a ranking function's form at a symbol: the first one; where there is none, 0
+-- the form of a ranking function at a symbol: the first form listed for it, or 0 if there is none
 abbrev pub rank_form : List SymbolForm → Option ℕ → Form
 rank_form forms None = constant_form (pos 0)
 rank_form [] (Some a) = constant_form (pos 0)
 rank_form (f ∷ forms) (Some a) = cond (f.symbol == a) f.form (rank_form forms (Some a))
 
--- how often entry e is taken, times the ranking function where it leads to
+-- the time of entry e, times the ranking function at the symbol that it leads to
 abbrev pub entry_bound : Program → RankNode → (ℕ → Option Bound) → (ℕ → ℕ → Option Bound) → ℕ → Bound
 entry_bound p node time size e =
     ProductOf (both_parts (known (time e))

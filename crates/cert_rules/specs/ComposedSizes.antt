@@ -29,7 +29,7 @@ abbrev pub polynomial_bound : Option Polynomial → (ℕ → Bound) → Bound
 polynomial_bound None sizes = Constant 0
 polynomial_bound (Some q) sizes = SumOf (monomial_parts q sizes)
 
--- a side bound as a bound, with a bound for each place
+-- a side bound as a bound, given a bound for each place
 abbrev pub composed_side_bound : Option Polynomial → SideBound → (ℕ → Bound) → Bound
 composed_side_bound poly (Linear den form multipliers) sizes = form_bound form den sizes
 composed_side_bound poly Poly sizes = polynomial_bound poly sizes
@@ -52,13 +52,13 @@ poly_of s t (suc i) = s.poly t i
 abbrev pub poly_at : Setting → ResultVariable → Option Polynomial
 poly_at s result_variable = poly_of s result_variable.rule result_variable.place
 
--- both side bounds of a member at the sizes after rule e
+-- the maximum of both side bounds of a member, at the sizes after rule e
 abbrev pub spread_part : Setting → Member → (ℕ → ℕ → Option Bound) → ℕ → Bound
 spread_part s m size e =
     MaximumOf (both_parts (composed_side_bound (poly_at s m.result_variable) m.local.up (sizes_after size e))
     (composed_side_bound (poly_at s m.result_variable) m.local.low (sizes_after size e)))
 
--- the size of a result variable that doesn't loop: the maximum over the rules that can come before
+-- the size of a result variable that doesn't loop: the maximum over the rules that can come before its rule
 abbrev pub spread_of : Setting → Member → (ℕ → ℕ → Option Bound) → Bound
 spread_of s m size = MaximumOf (parts_for (spread_part s m size) (pre s.program m.result_variable.rule))
 
@@ -66,12 +66,12 @@ spread_of s m size = MaximumOf (parts_for (spread_part s m size) (pre s.program 
 abbrev pub is_member : List Member → ℕ → ℕ → Bool
 is_member members e j = list_any (λ m. (m.result_variable.rule == e) && (m.result_variable.place == suc j)) members
 
--- the absolute coefficients over den, rounded up, of the places inside, added up
+-- the sum, over the places inside, of the absolute coefficient over den, rounded up
 abbrev pub inner_sum : List ℤ → ℕ → (ℕ → Bool) → ℕ
 inner_sum [] den inside = 0
 inner_sum (c ∷ cs) den inside = cond (inside 0) (rounded_up (nat_abs c) den) 0 + inner_sum cs den (λ j. inside (suc j))
 
--- the sum of a side bound's coefficients at members, and its other part
+-- the slope of a side bound: the sum of its coefficients at the places inside; and its offset, a bound on the rest
 abbrev pub slope_of : SideBound → (ℕ → Bool) → ℕ
 slope_of (Linear den form multipliers) inside = inner_sum form.coefs den inside
 slope_of Poly inside = 0
@@ -80,7 +80,8 @@ abbrev pub offset_of : Option Polynomial → SideBound → (ℕ → Bool) → (�
 offset_of poly (Linear den form multipliers) inside sizes = rest_bound form den inside sizes
 offset_of poly Poly inside sizes = polynomial_bound poly sizes
 
--- a flow into a member by one side bound from one rule before: at most slope times the members, plus the offset
+-- a flow into a member by one side bound, after one rule that can come before: at most slope times the members, plus
+-- the offset
 pub record Flow : Type 0 where
   pub rule : ℕ
   pub slope : ℕ
@@ -110,7 +111,7 @@ flows_into s members size (m ∷ ms) =
 abbrev pub flows : Setting → List Member → (ℕ → ℕ → Option Bound) → List Flow
 flows s members size = flows_into s members size members
 
--- the flow takes no member: its slope is 0
+-- the flow reads no member: its slope is 0
 abbrev pub is_outer : Flow → Bool
 is_outer f = f.slope == 0
 
@@ -123,7 +124,7 @@ offsets test (f ∷ fs) = cond (test f) (Part f.offset (offsets test fs)) (offse
 abbrev pub base_of : List Flow → Bound
 base_of fs = MaximumOf (offsets is_outer fs)
 
--- the flow takes members, by rule t
+-- the flow reads members, and is by rule t
 abbrev pub is_inner : ℕ → Flow → Bool
 is_inner t f = (f.rule == t) && not (is_outer f)
 
@@ -140,11 +141,11 @@ factor_of (f ∷ fs) t = cond (f.rule == t) (max f.slope (factor_of fs t)) (fact
 abbrev pub rules_of : Setting → List Member → List ℕ
 rules_of s members = filter (λ t. list_any (λ m. m.result_variable.rule == t) members) (entry_and_rules s.program)
 
--- a rule that multiplies by more than 1
+-- the rule multiplies: its factor is greater than 1
 abbrev pub multiplies : List Flow → ℕ → Bool
 multiplies fs t = nat_lt 1 (factor_of fs t)
 
--- a rule whose addition, rewritten, isn't 0
+-- the rule adds: its addition, rewritten, isn't 0
 abbrev pub adds : Setting → List Flow → ℕ → Bool
 adds s fs t = not (is_zero_bound (s.rewrite (addition_of fs t)))
 

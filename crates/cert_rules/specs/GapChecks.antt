@@ -27,13 +27,13 @@ pub data GapFault : Type 0 where
   Unbalanced : ℕ → ℕ → GapFault
   LosesNothing : GapFault
 
--- a part for each unknown of the rule, and numbers within the limit
+-- a scaled point of a gap has a part for each unknown of the rule, and numbers within the limit
 pub record IsGapPoint (r : RuleForms) (z : ScaledPoint) : Type 0 where
   pub long : length z.parts ≡ r.unknowns
   pub parts_limit : All (λ x. nat_abs x ≤ point_limit) z.parts
   pub den_limit : z.den ≤ point_limit
 
--- of the points of the rules of a set, that of rule t: the one at its position
+-- the point of rule t: the one at the rule's position in the set
 abbrev pub point_of : List ℕ → List ScaledPoint → ℕ → ScaledPoint
 point_of [] zs t = record { parts = []; den = 0 }
 point_of (u ∷ set) [] t = record { parts = []; den = 0 }
@@ -64,15 +64,15 @@ IsPointOf rows z = IsPoint rows (at z.parts) (pos z.den)
 abbrev pub value_at : Form → ScaledPoint → ℤ
 value_at f z = form_value f (at z.parts) (pos z.den)
 
--- the sum at a place of a symbol over the moves of the rules of a set: the values there before, less those after
+-- the net flow at a place of a symbol over the moves of the rules of a set: the values there before, less those after
 abbrev pub net : (ℕ → RuleForms) → Coefficient → List ℕ → List ScaledPoint → ℤ
 net rule c [] zs = pos 0
 net rule c (t ∷ ts) [] = pos 0
 net rule c (t ∷ ts) (z ∷ zs) =
     (value_at (at_source (rule t) c) z -ℤ value_at (at_target (rule t) c) z) +ℤ net rule c ts zs
 
--- the balance of a place of a symbol: what leaves it by the moves, less what arrives there, and what the floor has
--- there where the strict rule leaves the symbol
+-- the balance of a place of a symbol: what leaves it by the moves, less what arrives there, and the value of the floor
+-- there if the strict rule leaves the symbol
 abbrev pub balance : (ℕ → RuleForms) → Gap → Coefficient → ℤ
 balance rule g c = net rule c g.set g.moves +ℤ value_at (at_source (rule g.rule) c) g.floor
 
@@ -99,19 +99,19 @@ pub record GapHolds (p : Program) (rule : ℕ → RuleForms) (g : Gap) : Type 0 
   pub balances : All (λ c. balance rule g c ≡ pos 0) (balanced p g)
   pub loses : ¬ (((point_of g.set g.moves g.rule).den ≡ 0) × (g.floor.den ≡ 0))
 
--- the move of a rule is a point or a ray of its rows
+-- the check that the move of a rule is a point or a ray of its rows
 abbrev pub check_move : (ℕ → RuleForms) → Gap → ℕ → CheckOf GapFault
 check_move rule g t = check (MoveOff t) (MeetsAt (rule t).rows (point_of g.set g.moves t))
 
--- the kept point of a rule is a point of its rows
+-- the check that the kept point of a rule is a point of its rows
 abbrev pub check_kept : (ℕ → RuleForms) → Gap → ℕ → CheckOf GapFault
 check_kept rule g t = check (NotKept t) (IsPointOf (rule t).rows (point_of g.set g.kept t))
 
--- a balance is 0
+-- the check that a balance is 0
 abbrev pub check_balance : (ℕ → RuleForms) → Gap → Coefficient → CheckOf GapFault
 check_balance rule g c = check (Unbalanced c.symbol c.place) (balance rule g c ≡ pos 0)
 
--- the strict rule's move or the floor has a denominator
+-- the check that the strict rule's move or the floor has a denominator that isn't 0
 abbrev pub check_loss : Gap → CheckOf GapFault
 check_loss g = check LosesNothing (¬ (((point_of g.set g.moves g.rule).den ≡ 0) × (g.floor.den ≡ 0)))
 

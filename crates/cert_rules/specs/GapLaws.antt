@@ -1,4 +1,4 @@
--- The claim that a gap proves, and the agreement of its checks with its definition.
+-- What a gap proves, and the agreement of its checks with its definition.
 use Rattle.std.specs.Prelude.{◌≡◌, ◌↔◌, ℕ}
 use Rattle.run_counting.specs.model.Programs.{Program, arity_of}
 use Rattle.rule_forms.specs.linear_forms.RuleQuestions.{RuleForms, RankedSet, symbols_of_set}
@@ -9,8 +9,8 @@ use Rattle.cert_rules.specs.GapChecks.{GapFault, GapHolds, gap_checks}
 use Rattle.cert_rules.specs.Graph.{symbols_of}
 use Rattle.cert_rules.specs.Reasons.{AllPass, IsFirstAmong}
 
--- a gap is about a set of rules of a program: it has the set, the strict rule and the shut places, and the symbols of
--- the set are the sources and targets of rules of the program
+-- a gap is about a set of rules of a program: both have the same rules, strict rule and shut places, and the symbols of
+-- the set are the sources and targets of its rules
 pub record IsAbout (p : Program) (b : RankedSet) (g : Gap) : Type 0 where
   pub same_set : b.set ≡ g.set
   pub same_rule : b.strict ≡ g.rule
@@ -22,11 +22,12 @@ pub record IsAbout (p : Program) (b : RankedSet) (g : Gap) : Type 0 where
 pub record GapsExcludeFunctions : Type 0 where
   pub each : (p : Program) (b : RankedSet) (g : Gap) → IsSetOf b → IsAbout p b g → GapHolds p b.rule g → NoRank b
 
--- no fault of a gap is the first
+-- the gap has no first fault
 pub record HasNoFault (p : Program) (rule : ℕ → RuleForms) (g : Gap) : Type 0 where
   pub none : (x : GapFault) → ¬ (IsFirstAmong (gap_checks p rule g) x)
 
--- the checks of a gap all pass exactly if it holds, which is exactly if no fault is the first; and at most one is
+-- the checks of a gap all pass exactly if it holds, which is exactly if it has no first fault; and it has at most one
+-- first fault
 pub record GapChecksAreInLine : Type 0 where
   pub pass : (p : Program) (rule : ℕ → RuleForms) (g : Gap) → AllPass (gap_checks p rule g) ↔ GapHolds p rule g
   pub none : (p : Program) (rule : ℕ → RuleForms) (g : Gap) → GapHolds p rule g ↔ HasNoFault p rule g

@@ -13,12 +13,12 @@ pub record SymbolPlace : Type 0 where
   pub symbol : ℕ
   pub place : ℕ
 
--- whether place i of symbol a is one of these
+-- whether place i of symbol a is in the list
 abbrev pub is_shut : List SymbolPlace → ℕ → ℕ → Bool
 is_shut shut a i = list_any (λ c. nat_eq c.symbol a && nat_eq c.place i) shut
 
--- why no function ranks a rule over a set: the places at which it may not read, a point for each rule of the set, a
--- second one of the strict rule, and a further point for each rule of the set
+-- a gap: a rule and a set of rules, the shut places, a move (a scaled point) for each rule of the set, the floor (a
+-- second scaled point of the strict rule), and a kept point for each rule of the set
 pub record Gap : Type 0 where
   pub rule : ℕ
   pub set : List ℕ
@@ -27,7 +27,7 @@ pub record Gap : Type 0 where
   pub floor : ScaledPoint
   pub kept : List ScaledPoint
 
--- lemmas, each of which may cite those before it, and gaps
+-- a proof file: lemmas, each of which may cite those before it, and gaps
 pub record ProofFile : Type 0 where
   pub lemmas : List Proof
   pub gaps : List Gap

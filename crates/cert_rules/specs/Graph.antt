@@ -4,7 +4,7 @@ use Rattle.std.specs.List.{list_any, range_with_len}
 use Rattle.run_counting.specs.model.Programs.{Program}
 use Rattle.run_counting.specs.model.Paths.{source_of, target_of, same_symbol}
 
--- a rule of the set leaves the symbol or leads to it
+-- the symbol is the source or the target of a rule of the set
 abbrev pub touches : Program → List ℕ → ℕ → Bool
 touches p set a = list_any (λ t. same_symbol (Some a) (source_of p t) || same_symbol (Some a) (target_of p t)) set
 

@@ -1,14 +1,13 @@
--- The bounds known where a node is checked: a table of bounds, and facts as they are looked up, the first that
--- matches.
+-- The bounds known where a node is checked: as a table, and as facts in which the first that matches is looked up.
 use Rattle.std.specs.Prelude.{◌≡◌, ℕ, zero, ◌==◌, ◌&&◌, Bool, true, false, cond, List, [], ◌∷◌, Option, Some, None}
 use Rattle.run_counting.specs.model.Bounds.{Bound, Constant}
 use Rattle.run_counting.specs.model.Facts.{Fact, Time, Size, Cost}
 
--- the bound is known
+-- there is a bound
 abbrev pub IsKnown : Option Bound → Type 0
 IsKnown o = (b : Bound) × (o ≡ Some b)
 
--- the bound that is known; where none is, 0
+-- the bound, or 0 if there is none
 abbrev pub known : Option Bound → Bound
 known None = Constant 0
 known (Some b) = b
@@ -32,7 +31,7 @@ pub record Table : Type 0 where
   pub time : ℕ → Option Bound
   pub size : ℕ → ℕ → Option Bound
 
--- the table of facts: of each rule the first time, and of each place the first size
+-- the table of facts: the first time of each rule, and the first size of each place after a rule
 abbrev pub table_of : List Fact → Table
 table_of facts = record { time = time_in facts; size = size_in facts }
 
@@ -41,7 +40,7 @@ abbrev pub is_zero_bound : Bound → Bool
 is_zero_bound (Constant zero) = true
 is_zero_bound b = false
 
--- a time of the rule is 0: some fact says so
+-- some fact is a time of the rule that is 0
 abbrev pub has_zero_time : List Fact → ℕ → Bool
 has_zero_time [] t = false
 has_zero_time (Time u b ∷ facts) t = cond ((u == t) && is_zero_bound b) true (has_zero_time facts t)

@@ -19,7 +19,7 @@ pub mod GapChecks
 pub mod Numbering
 pub mod Refusals
 pub mod Feeding
--- laws, and values that were worked out by hand
+-- laws and worked values
 pub mod ReasonLaws
 pub mod GapLaws
 pub mod RefusalLaws
@@ -35,7 +35,7 @@ pub mod WorkedGapSets
 pub mod WorkedGapShapes
 pub mod WorkedRefusals
 pub mod WorkedPrintable
--- the machinery of the functions inside and of the proofs
+-- further definitions, for the proofs
 pub mod Combined
 -- the crates below, which callers name through this one
 pub use Rattle.rule_forms.specs as rule_forms

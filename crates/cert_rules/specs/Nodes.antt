@@ -3,7 +3,7 @@ use Rattle.std.specs.Prelude.{ℕ, List}
 use Rattle.run_counting.specs.model.Bounds.{Bound}
 use Rattle.rule_forms.specs.linear_forms.Forms.{Form}
 
--- a rule, and a place of its target, numbered from 1
+-- a result variable: a rule, and a place of its target, numbered from 1
 pub record ResultVariable : Type 0 where
   pub rule : ℕ
   pub place : ℕ
@@ -14,7 +14,7 @@ pub data SideBound : Type 0 where
   Linear : ℕ → Form → List ℕ → SideBound
   Poly : SideBound
 
--- a local bound: the up side bound is never below the new value, the low one never below its negation
+-- a local bound: the upper side bound is never below the new value, the lower one never below its negation
 pub record LocalBound : Type 0 where
   pub up : SideBound
   pub low : SideBound
@@ -29,8 +29,8 @@ pub record SymbolForm : Type 0 where
   pub symbol : ℕ
   pub form : Form
 
--- the parts of a ranking node besides its uses: the rule whose time it bounds, the set of rules, the function as one
--- form for each symbol over one denominator, the multipliers of each rule of the set, and those of the floor
+-- a ranking node without its premises: the rule whose time it bounds, the set of rules, the function as one form for
+-- each symbol over one denominator, the multipliers of each rule of the set, and those of the floor
 pub record RankNode : Type 0 where
   pub rule : ℕ
   pub set : List ℕ
@@ -46,12 +46,12 @@ pub data CostBy : Type 0 where
   NeverCost : CostBy
   SideBoundCost : SideBound → CostBy
 
--- the parts of a node on the cost of a rule besides its uses
+-- a node on the cost of a rule, without its premises
 pub record CostNode : Type 0 where
   pub rule : ℕ
   pub by : CostBy
 
--- a node with all of its premises, and a list of such nodes
+-- a derivation: a node with the derivations of its premises; and a list of derivations
 mutual
   pub data Proof : Type 0 where
     Cite : ℕ → Proof

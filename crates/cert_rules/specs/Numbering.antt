@@ -3,7 +3,7 @@ use Rattle.std.specs.Prelude.{List, [], ◌∷◌, ◌++◌}
 use Rattle.cert_rules.specs.Nodes.{Proof, Cite, Start, Empty, Unreached, Never, Rank, Spread, Cycle, Weaken, Charge}
 use Rattle.cert_rules.specs.Nodes.{Proofs, NoProof, AndProof}
 
--- each node after its children, and children in order; and so of all uses of a node
+-- the nodes of a derivation: each after its premises, and premises in order; and the nodes of a list of derivations
 abbrev mutual
   pub nodes_of : Proof → List Proof
   nodes_of (Cite n) = Cite n ∷ []

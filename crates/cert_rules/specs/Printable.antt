@@ -18,8 +18,8 @@ use Rattle.cert_rules.specs.Laws.{bound_in}
 abbrev pub HasSmallCoefficients : Polynomial → Type 0
 HasSmallCoefficients q = AllByRecursion (λ m. nat_abs m.coef ≤ constant_limit) q
 
--- a setting makes bounds that can be printed: its polynomials have small coefficients; what it rewrites becomes tidy
--- where its bases and constants are those of a tidy bound, and reads no input that it didn't read before
+-- a setting makes bounds that can be printed: its polynomials have small coefficients; a rewritten bound is tidy if the
+-- bases and constants of the bound before were tidy, and reads no further input
 pub record IsTidying (s : Setting) : Type 0 where
   pub updates : (t i : ℕ) (q : Polynomial) → s.poly t i ≡ Some q → HasSmallCoefficients q
   pub costs : (t : ℕ) (q : Polynomial) → s.cost_poly t ≡ Some q → HasSmallCoefficients q
@@ -34,7 +34,7 @@ HasTidyFactNumbers n f = HasTidyNumbers (bound_in f) × ReadsBelow n (bound_in f
 abbrev pub IsPrintableFact : ℕ → Fact → Type 0
 IsPrintableFact n f = IsTidy (bound_in f) × ReadsBelow n (bound_in f)
 
--- the bound that a node writes is tidy, where it writes one
+-- if the node writes a bound, that bound is tidy
 abbrev pub WritesTidy : Proof → Type 0
 WritesTidy (Weaken child b) = IsTidy b
 WritesTidy _ = ⊤
@@ -43,8 +43,8 @@ WritesTidy _ = ⊤
 abbrev pub WritesTidyBounds : Proof → Type 0
 WritesTidyBounds proof = All WritesTidy (nodes_of proof)
 
--- the facts of accepted lemmas have bounds with tidy numbers over the start arguments alone; and where each bound that
--- the lemmas write is tidy, so is each bound of their facts
+-- the facts of accepted lemmas have bounds with tidy numbers over the start arguments alone; and if each bound that the
+-- lemmas write is tidy, so is each bound of their facts
 pub record AcceptedFactsArePrintable : Type 0 where
   pub numbers : (s : Setting) → IsTidying s → (proofs : List Proof) → AcceptsLemmas s proofs
       → All (All (HasTidyFactNumbers (arity_of s.program s.program.start))) (facts_of_lemmas s proofs)

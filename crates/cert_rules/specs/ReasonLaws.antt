@@ -7,7 +7,7 @@ use Rattle.cert_rules.specs.Acceptance.{AcceptsNode}
 use Rattle.cert_rules.specs.Reasons.{Reason}
 use Rattle.cert_rules.specs.Checks.{IsFirstReason}
 
--- no reason is the first one
+-- the node has no first reason
 pub record HasNoReason (s : Setting) (past : List (List Fact)) (proof : Proof) : Type 0 where
   pub none : (r : Reason) → ¬ (IsFirstReason s past proof r)
 

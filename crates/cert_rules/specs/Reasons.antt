@@ -30,7 +30,7 @@ pub record CheckOf (R : Type 0) : Type 1 where
 abbrev pub Check : Type 1
 Check = CheckOf Reason
 
--- the check that this holds
+-- a check: this condition, with this reason
 abbrev pub check : {R : Type 0} → R → Type 0 → CheckOf R
 check reason holds = record { reason = reason; holds = holds }
 

@@ -1,4 +1,4 @@
--- Refusals agree with acceptance, and what an accepted file proves.
+-- Refusals agree with acceptance, and an accepted file proves what it states.
 use Rattle.std.specs.Prelude.{◌≡◌, ◌↔◌, ℕ, List, All}
 use Rattle.run_counting.specs.model.Programs.{Program}
 use Rattle.run_counting.specs.model.Facts.{Fact, Holds}
@@ -50,12 +50,12 @@ pub record FileRefusalsAreInLine : Type 0 where
 pub record ExcludesFunctions (p : Program) (rule : ℕ → RuleForms) (g : Gap) : Type 0 where
   pub each : (b : RankedSet) → b.rule ≡ rule → IsSetOf b → IsAbout p b g → NoRank b
 
--- of a file every fact of every lemma holds on all runs, and every gap excludes functions
+-- a file holds: every fact of every lemma holds on all runs, and every gap excludes functions
 pub record FileHolds (s : Setting) (rule : ℕ → RuleForms) (f : ProofFile) : Type 0 where
   pub facts : All (All (Holds s.program)) (facts_of_lemmas s f.lemmas)
   pub gaps : All (ExcludesFunctions s.program rule) f.gaps
 
--- an accepted file is worth that, whoever made it
+-- an accepted file holds, whoever made it
 pub record AcceptedFilesHold : Type 0 where
   pub each : (s : Setting) → IsFaithful s → (rule : ℕ → RuleForms) (f : ProofFile) → AcceptsFile s rule f
       → FileHolds s rule f

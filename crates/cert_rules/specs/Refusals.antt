@@ -35,7 +35,7 @@ pub record IsRefusedAt (s : Setting) (proofs : List Proof) (lemma node : ℕ) (r
       FailsFirst (AcceptsNode s (facts_of_lemmas s before)) (IsFirstReason s (facts_of_lemmas s before))
       (nodes_of proof) node reason
 
--- the first fault of a gap: all checks before the one with this fault pass
+-- a gap has this first fault: its check fails, and all checks before it pass
 abbrev pub IsFirstFault : Program → (ℕ → RuleForms) → Gap → GapFault → Type 0
 IsFirstFault p rule g fault = IsFirstAmong (gap_checks p rule g) fault
 

@@ -26,7 +26,7 @@ pub record Setting : Type 0 where
   pub rewrite : Bound → Bound
   pub below : Bound → Bound → Bool
 
--- the polynomial of the only place of a cost rule; a further place has none
+-- the polynomials of a cost rule, which has only one place: a further place has none
 abbrev pub only_place : Option Polynomial → ℕ → Option Polynomial
 only_place poly zero = poly
 only_place poly (suc i) = None
@@ -55,7 +55,7 @@ pub record StepPoint (s : Setting) (t : ℕ) (c : Config) (free : List ℤ) (d :
   pub nonlinear : (i : ℕ) (q : Polynomial) → s.poly t i ≡ Some q → polynomial_value q (c.values ++ free) ≡ at d.values i
 
 -- a step by the cost rule of a rule with a cost: at the values of c and these free values the rule's guard holds, the
--- cost is at least 0, and d has it as its one value
+-- cost is at least 0, and the only value of d is the cost
 pub record IsCostStep (p : Program) (c : Config) (s : Step) (d : Config) : Type 0 where
   pub rule : Rule
   pub numbered : rule_at p s.rule ≡ Some rule
@@ -63,9 +63,9 @@ pub record IsCostStep (p : Program) (c : Config) (s : Step) (d : Config) : Type 
   pub written : rule.cost ≡ Some cost
   pub leads : Leads (cost_rule rule cost) (entering_cost c) s.free d
 
--- the setting says what is true: a rule has as many left variables as its source has places, each step is a point of
--- its rule's rows, each step by a cost rule is a point of the cost rows, a rewriting keeps values and bases, and what is
--- below has no greater value
+-- the setting is true of its program: a rule has as many left variables as its source has places, each step is a point
+-- of its rule's rows, each step by a cost rule is a point of the cost rows, a rewriting keeps values and bases, and if
+-- one bound is below another, its value is never greater
 pub record IsFaithful (s : Setting) : Type 0 where
   pub places : (t : ℕ) (r : Rule) → rule_at s.program t ≡ Some r → r.left ≡ arity_of s.program r.source
   pub steps : (c : Config) (step : Step) (d : Config) → IsStep s.program c step d → StepPoint s step.rule c step.free d

@@ -14,7 +14,7 @@ use Rattle.cert_rules.specs.AcceptsSizes.{Up, AcceptsSideBound}
 use Rattle.cert_rules.specs.Acceptance.{Accepts, facts_of, AcceptsLemmas, facts_of_lemmas}
 use Rattle.cert_rules.specs.WorkedSettings.{form, counting, falling, guessing, apart, two_ways_in, doubling, stuck}
 
--- one part
+-- a list of one part
 abbrev pub one_part : Bound → Parts
 one_part b = Part b NoParts
 
@@ -26,11 +26,11 @@ at_symbol symbol coef constant = record { symbol = symbol; form = form (coef ∷
 abbrev pub side_bound : ℤ → ℤ → List ℕ → SideBound
 side_bound coef constant multipliers = Linear 1 (form (coef ∷ []) constant) multipliers
 
--- uses: the virtual entry, and a lemma
+-- premises: the virtual entry, and a lemma
 abbrev pub only : Proof → Proofs
 only proof = AndProof proof NoProof
 
--- the first rule runs once: the function is 1 at k and 0 at l
+-- the first rule runs once: the ranking function is 1 at k and 0 at l
 abbrev pub once_node : RankNode
 once_node = record {
   rule = 1;
@@ -44,7 +44,8 @@ once_node = record {
 abbrev pub once : Proof
 once = Rank once_node (only Start)
 
--- the second rule falls from A: the function is A at both symbols; the floor's multipliers are given
+-- the second rule falls from A: the ranking function is A at both symbols; the multipliers of the rule and of the floor
+-- are given
 abbrev pub down_node : List ℕ → List ℕ → RankNode
 down_node move floor = record {
   rule = 2;
@@ -58,7 +59,7 @@ down_node move floor = record {
 abbrev pub down : List ℕ → List ℕ → Proof
 down move floor = Rank (down_node move floor) (only Start)
 
--- this node over the second rule alone, which the first one enters; the uses are given
+-- the same function over the second rule alone, which the first one enters; and the node with given premises
 abbrev pub alone_node : RankNode
 alone_node = record {
   rule = 2;
@@ -96,11 +97,12 @@ looped = Cycle (looped_member ∷ []) (only (Cite 3))
 abbrev pub four_lemmas : List Proof
 four_lemmas = once ∷ down (0 ∷ []) (1 ∷ []) ∷ entered ∷ looped ∷ []
 
--- A read as a form over 1: its constant 0, and 1 times A
+-- a bound as the form A over 1: its constant 0, and 1 times the bound
 abbrev pub one_times : Bound → Bound
 one_times b = SumOf (both_parts (Constant 0) (ProductOf (both_parts (Constant 1) b)))
 
--- 1 times 1; 1 times A; the maximum of A and A; and what comes in by the first rule, the second one adding nothing
+-- the composed bounds of the four lemmas: 1 times 1; 1 times A; the maximum of A and A; and the size that enters by the
+-- first rule, as the second one adds nothing
 abbrev pub once_time : Bound
 once_time = SumOf (one_part (ProductOf (both_parts (Constant 1) (SumOf (one_part (Constant 1))))))
 
@@ -131,7 +133,7 @@ pub record FourLemmasAreAccepted : Type 0 where
   pub entered_value : val entered_size (5 ∷ []) ≡ 5
   pub looped_value : val looped_size (5 ∷ []) ≡ 5
 
--- the setting of the program that counts down says what is true, so the laws speak of something
+-- the setting of the program that counts down is true of it, so the laws apply to some setting
 abbrev pub CountingIsFaithful : Type 0
 CountingIsFaithful = IsFaithful counting
 
@@ -142,8 +144,8 @@ first_fact = (Time 1 once_time ∷ []) ∷ []
 abbrev pub first_and_size : List (List Fact)
 first_and_size = (Time 1 once_time ∷ []) ∷ (Size 1 1 entered_size ∷ []) ∷ []
 
--- a floor that isn't shown; a function that falls without a floor; the entry's size as it was before it; an entry
--- without a time; a rule that is reached; a free variable that is taken for 0: none of them is accepted. With the
+-- these are not accepted: a floor that isn't shown; a function that falls without a floor; an entry's size taken before
+-- it; an entry without a time; an unreached node of a rule that is reached; a free variable taken for 0. With the
 -- entry's time and the size after it the same node is accepted
 pub record MistakesAreRefused : Type 0 where
   pub floor_is_looked_at : ¬ (Accepts counting [] (down (0 ∷ []) (0 ∷ [])))
@@ -156,12 +158,13 @@ pub record MistakesAreRefused : Type 0 where
   pub free_is_not_0 : (multipliers : List ℕ)
       → ¬ (AcceptsSideBound guessing (record { rule = 1; place = 1 }) Up (side_bound (pos 1) (pos 0) multipliers))
 
--- no point meets A >= 1 and A <= 0: the two rows add up to -1
+-- an empty node: no point meets A >= 1 and A <= 0, since the two rows add up to -1
 abbrev pub empty_loop : List ℕ → Proof
 empty_loop multipliers = Empty 2 multipliers
 
--- rows that add up to -1, and not to 0; what a rule that never runs gives, and a rule that runs; a weaker bound, a
--- stronger one, one with a base under 2, and one for more facts than one; and a lemma that isn't there
+-- worked values of plain nodes: rows that add up to -1, and others that add up to 0; the facts of a rule that never
+-- runs, and a rule that runs; a weaker bound, a stronger one, one with a base under 2, and one whose premise has
+-- several facts; and a citation of no lemma
 pub record PlainNodesAreJudged : Type 0 where
   pub empty : Accepts stuck [] (empty_loop (1 ∷ 1 ∷ []))
   pub not_empty : ¬ (Accepts stuck [] (empty_loop (1 ∷ 0 ∷ [])))
@@ -205,8 +208,8 @@ half_node = record {
   floor = [];
 }
 
--- each entry is summed; the factor of a rule that doubles is 2, and its power is in the product: what comes in has
--- passed the rule once, and from 8 it goes in three rounds to 64
+-- worked values of formulas: each entry is summed; the factor of a rule that doubles is 2, and its power is multiplied
+-- to the size that enters, so from 8 three rounds lead to 64
 pub record FormulasAreWhole : Type 0 where
   pub both_entries : entries two_ways_in (3 ∷ []) ≡ 1 ∷ 2 ∷ []
   pub both_before : pre two_ways_in 3 ≡ 1 ∷ 2 ∷ 3 ∷ []

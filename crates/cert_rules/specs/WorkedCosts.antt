@@ -41,7 +41,7 @@ one_paying rule rows new_values cost_rows cost_value cost_poly = record {
 abbrev pub form_of_A : Form
 form_of_A = form (pos 1 ∷ []) (pos 0)
 
--- k(A) -> l(A) for a cost of A: its cost rule has the row A >= 0, and the new value A
+-- k(A) -> l(A) with the cost A: its cost rule has the row A >= 0, and the new value A
 abbrev pub paying_rule : Rule
 paying_rule = with_cost (Variable 0) enter
 
@@ -62,7 +62,7 @@ paying_towers = record {
   below = zero_below;
 }
 
--- k(A) -> l(A) where A >= 0, for a cost of -1 - A, which is never at least 0
+-- k(A) -> l(A) where A >= 0, with the cost -1 - A, which is never at least 0
 abbrev pub below_zero : Term
 below_zero = Subtraction (Literal (negsuc 0)) (Variable 0)
 
@@ -75,12 +75,12 @@ never_paying = one_paying never_paying_rule
     (λ t. form_of_A ∷ []) counting_new_values (form_of_A ∷ form (negsuc 0 ∷ []) (negsuc 0) ∷ [])
     (form (negsuc 0 ∷ []) (negsuc 0)) None
 
--- k(A) -> l(A) for a cost of A * A; atoms of degree 2 give no row, and the cost has an unknown of its own
+-- k(A) -> l(A) with the cost A * A; atoms of degree 2 give no row, and the cost has an unknown of its own
 abbrev pub paying_squares : Setting
 paying_squares = one_paying (with_cost (Multiplication (Variable 0) (Variable 0)) enter) no_rows counting_new_values []
     (form (pos 0 ∷ pos 1 ∷ []) (pos 0)) (Some square)
 
--- k(A) -> l(C) for a cost of C * C, where C is free
+-- k(A) -> l(C) with the cost C * C, where C is free
 abbrev pub free_square : Polynomial
 free_square = record { coef = pos 1; vars = 1 ∷ 1 ∷ [] } ∷ []
 
@@ -97,11 +97,11 @@ charge rule by uses = Charge (record { rule = rule; by = by }) uses
 abbrev pub times_A : ℕ → List ℕ → CostBy
 times_A a multipliers = SideBoundCost (side_bound (pos a) (pos 0) multipliers)
 
--- uses: the virtual entry, and the first lemma
+-- premises: the virtual entry, and the first lemma
 abbrev pub start_and_first : Proofs
 start_and_first = AndProof Start (only (Cite 1))
 
--- the rule never runs; it runs once, and never; and its steps cost nothing
+-- the facts of lemmas: a time of 0 for the rule; the times 1 and 0; and a cost of 0
 abbrev pub no_time : List (List Fact)
 no_time = (Time 1 (Constant 0) ∷ []) ∷ []
 
@@ -115,10 +115,10 @@ free_of_charge = (Cost 1 (Constant 0) ∷ []) ∷ []
 abbrev pub cost_of_A : Bound
 cost_of_A = ProductOf (both_parts once_time (MaximumOf (one_part (one_times (Input 0)))))
 
--- a cost of A is accepted with the side bound A, if the rule has a time, and A a size; with the side bound 0 it isn't,
--- nor without this time or size, nor at a rule without a cost. Cost rows that add up to -1, a rule whose first time is
--- 0, and the square of a left argument are accepted, and others not. A cost may be weakened; it is no time, and no
--- rule is dead by it
+-- worked values: a cost of A is accepted with the side bound A, if the rule has a time, and A a size; with the side
+-- bound 0 it isn't, nor without this time or size, nor at a rule without a cost. Cost rows that add up to -1, a rule
+-- whose first time is 0, and the square of a left argument are accepted; other rows, times and squares are not. A fact
+-- on a cost may be weakened; it is no time, and doesn't show that a rule never runs
 pub record CostNodesAreJudged : Type 0 where
   pub side_bound : Accepts paying first_fact (charge 1 (times_A 1 (0 ∷ [])) start_and_first)
   pub side_bound_fact :
@@ -161,6 +161,6 @@ pub record CostReasonsComeInOrder : Type 0 where
   pub never_over_cost : IsFirstReason paying free_of_charge (Never (Cite 1)) Shape
   pub large : IsFirstReason paying_towers first_fact (charge 1 (times_A 1 (0 ∷ [])) start_and_first) (Large 201)
 
--- the setting of the rule that costs A says what is true, also of its cost, so the laws speak of something
+-- the setting of the rule with the cost A is true of it and of its cost, so the laws apply to some setting with a cost
 abbrev pub PayingIsFaithful : Type 0
 PayingIsFaithful = IsFaithful paying

@@ -10,7 +10,7 @@ use Rattle.cert_rules.specs.Reasons.{IsFirstAmong}
 use Rattle.cert_rules.specs.WorkedSettings.{form, rule_over, program_with, enter}
 use Rattle.cert_rules.specs.WorkedGaps.{FailsAlone, plain_forms, scaled, one, nowhere, gap_with}
 
--- a first, a second and a third rule as questions see them
+-- the forms of a first, a second and a third rule, by number
 abbrev pub three_forms : RuleForms → RuleForms → RuleForms → ℕ → RuleForms
 three_forms first second third zero = first
 three_forms first second third (suc zero) = first
@@ -44,7 +44,7 @@ loops = program_with (enter ∷ rule_over 1 1 0 (Variable 0) [] ∷ rule_over 1 
 abbrev pub loops_forms : ℕ → RuleForms
 loops_forms = three_forms (keeping 0 1 []) (keeping 1 1 []) (keeping 1 1 [])
 
--- the ray along the place
+-- the ray along the only place
 abbrev pub along : ScaledPoint
 along = scaled (pos 1 ∷ []) 0
 

@@ -66,8 +66,8 @@ pub record GapShapesAreJudged : Type 0 where
   pub no_kept :
       IsFirstAmong (gap_checks turning turning_forms (gap_with 2 (2 ∷ []) [] (one ∷ []) nowhere [])) WrongShape
 
--- of two faults the first is reported: the shape before the floor and the rest, the floor before a kept point, a kept
--- point before a balance, and a balance before the check that something is lost
+-- of two faults the earlier check's is reported: the shape before the floor and the rest, the floor before a kept
+-- point, a kept point before a balance, and a balance before the check that something is lost
 pub record GapFaultsComeInOrder : Type 0 where
   pub shape_first :
       IsFirstAmong

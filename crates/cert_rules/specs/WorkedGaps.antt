@@ -15,7 +15,7 @@ abbrev pub FailsAlone : {R : Type 0} → List (CheckOf R) → R → Type 0
 FailsAlone [] r = ⊥
 FailsAlone (c ∷ cs) r = (¬ c.holds × (c.reason ≡ r) × AllPass cs) ⊎ (c.holds × FailsAlone cs r)
 
--- a first and a second rule as questions see them
+-- the forms of a first and a second rule, by number
 abbrev pub two_forms : RuleForms → RuleForms → ℕ → RuleForms
 two_forms first second zero = first
 two_forms first second (suc zero) = first
@@ -102,7 +102,7 @@ pairs_forms =
 abbrev pub scaled : List ℤ → ℕ → ScaledPoint
 scaled parts den = record { parts = parts; den = den }
 
--- the point 1, and the ray that goes nowhere
+-- the point 1, and the ray whose direction is 0
 abbrev pub one : ScaledPoint
 one = scaled (pos 1 ∷ []) 1
 

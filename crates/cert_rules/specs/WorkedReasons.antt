@@ -30,14 +30,14 @@ towering = record {
   below = zero_below;
 }
 
--- the place after the first rule that counts down, with 0 on the up side, which A passes
+-- the place after the first rule that counts down, with 0 as the upper side bound, which A exceeds
 abbrev pub wrong_up : Member
 wrong_up = record {
   result_variable = record { rule = 1; place = 1 };
   local = record { up = side_bound (pos 0) (pos 0) []; low = side_bound (pos 1) (pos 0) [] };
 }
 
--- for each reason a node whose first reason it is; if both side bounds are wrong, the up one is reported
+-- for each reason, a node whose first reason it is; if both side bounds are wrong, the upper one is reported
 pub record ReasonsComeInOrder : Type 0 where
   pub shape : IsFirstReason counting first_fact (Cite 2) Shape
   pub not_empty : IsFirstReason stuck [] (empty_loop (1 ∷ 0 ∷ [])) NotEmpty

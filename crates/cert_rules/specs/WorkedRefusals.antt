@@ -17,19 +17,19 @@ use Rattle.cert_rules.specs.Worked.{only, once, down, down_alone, entered, loope
 use Rattle.cert_rules.specs.WorkedGaps.{two_forms, plain_forms, turning, turning_forms, scaled, gap_over}
 use Rattle.cert_rules.specs.WorkedGaps.{gap_of_one}
 
--- a ranking node with two uses, the first of which has a child
+-- a ranking node with two premises, the first of which has a premise
 abbrev pub with_two_uses : Proof
 with_two_uses = down_alone (AndProof (Never (Cite 1)) (only (Cite 2)))
 
--- an unreached rule with two uses, the second of which has a child; and what a rule costs, with one
+-- an unreached rule with two premises, the second of which has a premise; and a node on a cost with one
 abbrev pub unreached_by_two : Proof
 unreached_by_two = Unreached 2 (AndProof (Cite 2) (only (Never (Cite 1))))
 
 abbrev pub charged : Proof
 charged = Charge (record { rule = 1; by = NeverCost }) (only (Cite 1))
 
--- each node comes after its children, the children come in order, and cited lemmas and the virtual entry are nodes; so
--- a node isn't numbered before its child, nor are its uses numbered backwards
+-- each node comes after its premises, premises come in order, and cited lemmas and the virtual entry are nodes; so a
+-- node isn't numbered before its premise, nor are its premises numbered backwards
 pub record NodesAreNumbered : Type 0 where
   pub cited : nodes_of (Cite 3) ≡ Cite 3 ∷ []
   pub never : nodes_of (Never (Cite 1)) ≡ Cite 1 ∷ Never (Cite 1) ∷ []
@@ -48,7 +48,7 @@ pub record NodesAreNumbered : Type 0 where
 abbrev pub without_floor : List Proof
 without_floor = once ∷ down (0 ∷ []) (0 ∷ []) ∷ entered ∷ looped ∷ []
 
--- a loop's time with its uses, without the time of the rule that enters it
+-- the time of a loop with its premises, without the time of the rule that enters it
 abbrev pub without_time : Proof
 without_time = down_alone (AndProof Start (only (Cite 2)))
 
@@ -69,7 +69,7 @@ pub record LemmasAreRefused : Type 0 where
   pub first_lemma : IsRefusedAt counting (down (0 ∷ []) (0 ∷ []) ∷ Cite 2 ∷ []) 1 2 Floor
   pub not_second : ¬ (IsRefusedAt counting (down (0 ∷ []) (0 ∷ []) ∷ Cite 2 ∷ []) 2 1 Shape)
 
--- the rules of the program that counts down, as questions see them
+-- the forms of the rules of the program that counts down
 abbrev pub counting_forms : ℕ → RuleForms
 counting_forms =
     two_forms (plain_forms 0 1 1 [] (form (pos 1 ∷ []) (pos 0) ∷ []))
@@ -97,7 +97,7 @@ turning_round = record {
 abbrev pub file_with : List Proof → List Gap → ProofFile
 file_with lemmas gaps = record { lemmas = lemmas; gaps = gaps }
 
--- the gap of the rule that turns round, and with another floor, another move, another kept point and another set
+-- the gap of the rule l(A) -> l(A), and others with another floor, move, kept point and set
 abbrev pub turning_gap : Gap
 turning_gap = gap_of_one [] (pos 1) 1 (pos 0) 0 (pos 1) 1
 
@@ -117,9 +117,9 @@ other_set = gap_over 1 [] (scaled (pos 1 ∷ []) 1) (scaled (pos 0 ∷ []) 0) (s
 abbrev pub turning_file : List Gap → ProofFile
 turning_file gaps = file_with (Start ∷ []) gaps
 
--- an empty file is accepted. A file of accepted lemmas is accepted without a gap, and with one that holds; a file with
--- one of the other gaps is refused at it and not accepted; of two such gaps the first is reported; and where a lemma is
--- refused no gap is
+-- an empty file is accepted. A file of accepted lemmas is accepted without a gap, and with a gap that holds; a file
+-- with one of the other gaps is refused at it and not accepted; of two such gaps the first is reported; and if a lemma
+-- is refused, no gap is
 pub record FilesAreJudged : Type 0 where
   pub nothing : AcceptsFile turning_round turning_forms (file_with [] [])
   pub four : AcceptsFile counting counting_forms (file_with four_lemmas [])

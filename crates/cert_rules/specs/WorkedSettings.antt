@@ -9,7 +9,7 @@ use Rattle.run_counting.specs.model.Bounds.{NoParts, Part}
 use Rattle.rule_forms.specs.linear_forms.Forms.{Form}
 use Rattle.cert_rules.specs.Setting.{Setting}
 
--- the value of a bound is 0, as its structure shows
+-- the bound is 0, by its structure
 abbrev mutual
   pub is_nothing : Bound → Bool
   is_nothing (Constant zero) = true
@@ -28,7 +28,7 @@ abbrev mutual
   has_nothing NoParts = false
   has_nothing (Part b bs) = is_nothing b || has_nothing bs
 
--- the least rewriting that these programs need: what is 0 becomes the constant 0
+-- the least rewriting that these programs need: a bound that is 0 becomes the constant 0
 abbrev pub folded : Bound → Bound
 folded b = cond (is_nothing b) (Constant 0) b
 
@@ -37,7 +37,7 @@ abbrev pub zero_below : Bound → Bound → Bool
 zero_below (Constant zero) b = true
 zero_below a b = false
 
--- a symbol of one letter, and a form
+-- a symbol with a name of one letter, and a form
 abbrev pub symbol_of : ℕ → ℕ → Symbol
 symbol_of letter places = record { name = letter ∷ []; arity = places }
 
@@ -115,7 +115,7 @@ counting = record {
   below = zero_below;
 }
 
--- this setting without a guard: the value falls for ever
+-- the program that counts down without its guard: the value falls for ever
 abbrev pub falling : Setting
 falling = record {
   program = program_with (enter ∷ rule_over 1 1 0 (Subtraction (Variable 0) (Literal (pos 1))) [] ∷ []);

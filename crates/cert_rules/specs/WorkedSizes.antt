@@ -60,17 +60,17 @@ low_reader = record {
   local = record { up = side_bound (pos 0) (pos 0) []; low = side_bound (pos 1) (pos 0) [] };
 }
 
--- a size after the first rule
+-- the facts of one lemma: a size after the first rule
 abbrev pub one_size : List (List Fact)
 one_size = (Size 1 1 (Input 0) ∷ []) ∷ []
 
--- this size, and how often the second rule occurs
+-- the facts of two lemmas: this size, and how often the second rule occurs
 abbrev pub size_and_time : List (List Fact)
 size_and_time = (Size 1 1 (Input 0) ∷ []) ∷ (Time 2 (Constant 3) ∷ []) ∷ []
 
--- a polynomial side bound outside a loop is accepted, and one that reads a member isn't; nor is a move whose
--- multipliers don't show it, a side bound that isn't over the negation on the low side, a spread or a loop without the
--- size that it reads, on either side, and a loop that multiplies by a rule without a time. With that time the loop is
+-- worked values: a polynomial side bound outside a loop is accepted, but not one that reads a member. Refused are a
+-- move that its multipliers don't show, a lower side bound that isn't over the negation, a spread or a loop without a
+-- size that it reads, on either side, and a loop that multiplies by a rule without a time; with that time the loop is
 -- accepted
 pub record SizeNodesAreJudged : Type 0 where
   pub poly : Accepts squaring [] (Spread (nonlinear_member 1) (only Start))

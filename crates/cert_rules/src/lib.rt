@@ -37,8 +37,8 @@ pub fn accepted_bounds_are_based()
     ensures { AcceptedBoundsAreBased }
 {}
 
-/// The growth of a loop: if each step multiplies the members by a factor and adds to them, they stay within the product
-/// of the factors of all steps, times the base plus all that the steps added.
+/// The growth of a loop: if each step multiplies the members by a factor and adds to them, the members are at most the
+/// product of the factors of all steps, times the base plus all that the steps added.
 pub fn loops_grow()
     ensures { LoopsGrow }
 {}
@@ -55,8 +55,8 @@ pub fn worked_values_hold()
     ensures reasons { ReasonsComeInOrder }
 {}
 
-/// Worked values of nodes on costs, with their first reasons and their facts; and the premises of the laws are met by a
-/// program with a cost.
+/// Worked values of nodes on costs, with their first reasons and their facts; and a program with a cost meets the
+/// premises of the laws.
 pub fn worked_costs_hold()
     ensures faithful { PayingIsFaithful }
     ensures judged { CostNodesAreJudged }
@@ -100,7 +100,8 @@ pub fn refusals_are_in_line()
     ensures files { FileRefusalsAreInLine }
 {}
 
-/// In an accepted file every fact of every lemma holds on all runs, and every gap excludes functions, whoever made it.
+/// In an accepted file every fact of every lemma holds on all runs, and every gap excludes ranking functions, whoever
+/// made the file.
 pub fn accepted_files_hold()
     ensures { AcceptedFilesHold }
 {}
@@ -113,8 +114,8 @@ pub fn worked_refusals_hold()
     ensures files { FilesAreJudged }
 {}
 
-/// Over a setting that makes bounds that can be printed: the facts of accepted lemmas have bounds with tidy numbers
-/// over the start arguments alone, and they are tidy where each bound that the lemmas write is.
+/// If the setting makes bounds that can be printed, the facts of accepted lemmas have bounds with tidy numbers over the
+/// start arguments alone, and these bounds are tidy if each bound that the lemmas write is.
 pub fn accepted_facts_are_printable()
     ensures { AcceptedFactsArePrintable }
 {}

@@ -1,4 +1,4 @@
--- Reading along a text: symbols derive pieces without faults, and the bytes are cut into these pieces.
+-- Reading along a text: the grammar's symbols derive pieces without faults, and the bytes are cut into these pieces.
 use Rattle.std.proofs.Common.{◌≡◌, ℕ, zero, suc, ◌+◌, ◌-◌, false, List, [], ◌∷◌, ◌++◌, drop, Option, Some, None, refl, ap, sym}
 use Rattle.std.proofs.Common.{subst, ◌∙◌, arith, append_assoc}
 use Rattle.std.specs.Prelude.{is_some}
@@ -13,15 +13,15 @@ use Rattle.cert_lexer.specs.declared.piece.Piece.{Piece}
 use Rattle.cert_lexer.specs.declared.piece.Mode.{Mode}
 use Rattle.cert_lexer.specs.Grammar.{class_of, proof_grammar}
 use Rattle.cert_lexer.specs.Lexing.{lexer_of, mode_with}
-use Rattle.cert_text.specs.Against.{against_piece}
+use Rattle.cert_text.specs.NumberFaults.{fault_of_piece}
 use Rattle.cert_text.specs.Reading.{Progress, moved, proof_fold}
 use Rattle.cert_text.specs.Remembered.{State, done}
 
--- the state after pieces without faults
+-- the progress at this state, after pieces without faults
 abbrev pub at : State → Progress
 at s = record { kept = s; broken = false }
 
--- in a mode bytes begin with a piece, and these are the bytes after it
+-- in a mode the bytes begin with a piece, and `rest` are the bytes after it
 pub record IsCutOff (p : Program) (m : Mode) (q : Piece) (whole rest : List ℕ) : Type 0 where
   pub first : ℕ
   pub others : List ℕ
@@ -35,7 +35,7 @@ abbrev pub Cuts : Program → Mode → List Piece → List ℕ → Type 0
 Cuts p m [] whole = whole ≡ []
 Cuts p m (q ∷ qs) whole = (rest : List ℕ) × IsCutOff p m q whole rest × Cuts p (mode_with m q) qs rest
 
--- bytes that are passed over make no token
+-- bytes that are skipped make no token
 pub skipped : (p : Program) (m : Mode) (at n : ℕ) (bytes : List ℕ)
     → (from : ℕ) × (tokens_in (lexer_of p) m at n bytes ≡ tokens_in (lexer_of p) m from 0 (drop n bytes))
 skipped p m at zero bytes = (at, refl)
@@ -57,8 +57,8 @@ cut_tokens p m at (q ∷ qs) whole (rest, c, cs) =
     ∙ ap (λ (bs : List ℕ). pieces (tokens_in (lexer_of p) n s.0 0 bs)) c.behind
     ∙ cut_tokens p n s.0 qs rest cs)
 
--- from a state and a mode on, symbols are read along bytes to their end without a fault, and the state there has this
--- property
+-- from a state and a mode on, these symbols are read along the bytes to their end without a fault, and the state there
+-- has the property Q
 pub record Along (p : Program) (ss : List Symbol) (s : State) (m : Mode) (whole : List ℕ) (Q : State → Type 0) : Type 0
   where
     pub events : List (Event Piece)
@@ -70,7 +70,7 @@ pub record Along (p : Program) (ss : List Symbol) (s : State) (m : Mode) (whole 
     pub cuts : Cuts p m read whole
     pub holds : Q last
 
--- nothing is left
+-- no symbols are read along no bytes
 pub ends : {p : Program} {s : State} {m : Mode} {Q : State → Type 0} → Q s → Along p [] s m [] Q
 ends {s} h = record {
   events = [];
@@ -84,8 +84,8 @@ ends {s} h = record {
 }
 
 module _ {p : Program} {ss : List Symbol} {s : State} {m : Mode} {Q : State → Type 0} where
-  -- a piece is read
-  pub reads : {whole rest : List ℕ} (q : Piece) → against_piece p s q ≡ None → IsCutOff p m q whole rest
+  -- reading a piece, and then the other symbols
+  pub reads : {whole rest : List ℕ} (q : Piece) → fault_of_piece p s q ≡ None → IsCutOff p m q whole rest
       → Along p ss (moved p q s) (mode_with m q) rest Q → Along p (item.Piece (class_of q) ∷ ss) s m whole Q
   reads {whole} {rest} q none cut more =
       let same : (proof_fold p).read q (at s) ≡ at (moved p q s) =
@@ -101,7 +101,7 @@ module _ {p : Program} {ss : List Symbol} {s : State} {m : Mode} {Q : State → 
         holds = more.holds;
       }
 
-  -- the action of a mark is done
+  -- doing the action of a mark, and then reading the other symbols
   pub marks : {whole : List ℕ} (n : ℕ) → Along p ss (done n s) m whole Q → Along p (item.Mark n ∷ ss) s m whole Q
   marks n more = record {
     events = Did n ∷ more.events;
@@ -114,7 +114,7 @@ module _ {p : Program} {ss : List Symbol} {s : State} {m : Mode} {Q : State → 
     holds = more.holds;
   }
 
-  -- a nonterminal is read as one of its alternatives
+  -- reading a nonterminal as one of its alternatives
   pub makes : {whole : List ℕ} (n : ℕ) (body : List Symbol) → Among body (alternatives proof_grammar.rules n)
       → Along p (body ++ ss) s m whole Q → Along p (item.Made n ∷ ss) s m whole Q
   makes n body among more = record {
@@ -128,19 +128,19 @@ module _ {p : Program} {ss : List Symbol} {s : State} {m : Mode} {Q : State → 
     holds = more.holds;
   }
 
-  -- bytes are others
+  -- reading along bytes is reading along equal bytes
   pub spelled_as : {whole others : List ℕ} → whole ≡ others → Along p ss s m others Q → Along p ss s m whole Q
   spelled_as e more = subst (λ (bs : List ℕ). Along p ss s m bs Q) (sym e) more
 
-  -- the state is another one by an equation
+  -- reading from a state is reading from an equal state
   pub becomes : {whole : List ℕ} {t : State} → s ≡ t → Along p ss t m whole Q → Along p ss s m whole Q
   becomes {whole} e more = subst (λ (u : State). Along p ss u m whole Q) (sym e) more
 
-  -- the mode is another
+  -- reading in a mode is reading in an equal mode
   pub in_mode : {whole : List ℕ} {k : Mode} → m ≡ k → Along p ss s k whole Q → Along p ss s m whole Q
   in_mode {whole} e more = subst (λ (k : Mode). Along p ss s k whole Q) (sym e) more
 
--- texts that are put together
+-- texts that are appended one after another
 pub data Chunks : Type 0 where
   Bytes : List ℕ → Chunks
   Then : Chunks → Chunks → Chunks

@@ -1,4 +1,4 @@
--- Reading along a text, read backwards: what symbols that are read along bytes say of these.
+-- Reading along a text, inverted: the first step of reading symbols along bytes, case by case.
 use Rattle.std.proofs.Common.{◌≡◌, ℕ, suc, ◌+◌, ◌-◌, ◌<◌, ◌≤◌, ◌^◌, Bool, true, false, cond, List, [], ◌∷◌, ◌++◌, length, take, drop}
 use Rattle.std.proofs.Common.{length-append, Option, Some, None, refl, ap, sym, subst, ◌∙◌, arith, inl, inr}
 use Rattle.std.specs.Prelude.{⊤, ◌⊎◌, is_some, codes}
@@ -32,13 +32,13 @@ use Rattle.cert_lexer.specs.Lexing.{plain_lexeme, symbol_names, symbol_of, word_
 use Rattle.cert_lexer.proofs.PieceClasses.{class_sign, class_word}
 use Rattle.cert_lexer.proofs.CutBack.{byte_of, bytes_of_word, plain_name, plain_number, plain_sign, word_bytes}
 use Rattle.cert_text.specs.declared.phase.Next.TheVariants as next
-use Rattle.cert_text.specs.Against.{against_piece}
+use Rattle.cert_text.specs.NumberFaults.{fault_of_piece}
 use Rattle.cert_text.specs.Reading.{Progress, moved, proof_fold}
 use Rattle.cert_text.specs.Remembered.{State, done}
 use Rattle.cert_text.proofs.Along.{Along, Cuts, IsCutOff, at}
 use Rattle.cert_text.proofs.Cutting.{Within, Bare, Shut, mode_in}
 
--- a derivation by its first symbol
+-- the first step of a derivation, by its first symbol
 Turns : List Symbol → List (Event Piece) → List Piece → Type 0
 Turns [] es ps = (es ≡ []) × (ps ≡ [])
 Turns (item.Piece c ∷ ss) es ps =
@@ -55,7 +55,7 @@ turned (piece q {rest} {es} {ps} d) = (q, es, ps, refl, refl, refl, d)
 turned (mark m {rest} {es} {ps} d) = (es, refl, d)
 turned (made n body {rest} {es} {ps} a d) = (body, a, d)
 
--- nothing is left
+-- if no symbols are left, no bytes are left, and the state has the property
 pub no_more : {p : Program} {s : State} {m : Mode} {whole : List ℕ} {Q : State → Type 0} → Along p [] s m whole Q
     → (whole ≡ []) × Q s
 unfolding Turns
@@ -66,12 +66,12 @@ no_more {p} {s} {m} {whole} {Q} a =
     sym (ap (λ (es : List (Event Piece)). after (proof_fold p) (at s) es) t.0) ∙ a.comes in
     (cuts, subst Q (sym (ap (λ (t : Progress). t.kept) same)) a.holds)
 
--- ways on, one for each alternative, from what is read of it
+-- a continuation for each alternative, from reading it
 abbrev pub Ways : (List Symbol → Type 0) → Type 0 → List (List Symbol) → Type 0
 Ways From R [] = ⊤
 Ways From R (body ∷ bodies) = (From body → R) × Ways From R bodies
 
--- one of them is taken
+-- a continuation for the alternative that was read
 taken : (From : List Symbol → Type 0) (R : Type 0) (bodies : List (List Symbol)) (body : List Symbol)
     → Among body bodies → From body → Ways From R bodies → R
 taken From R [] body among a ways = absurd among
@@ -79,9 +79,9 @@ taken From R (b ∷ bodies) body (inl e) a ways = ways.0 (subst From e a)
 taken From R (b ∷ bodies) body (inr among) a ways = taken From R bodies body among a ways.1
 
 module _ {p : Program} {ss : List Symbol} {s : State} {m : Mode} {whole : List ℕ} {Q : State → Type 0} where
-  -- a piece of a class was read
+  -- if the first symbol is a class of pieces, a piece of it was read
   pub read_back : {R : Type 0} (c : ℕ) → Along p (item.Piece c ∷ ss) s m whole Q
-      → ((q : Piece) (rest : List ℕ) → class_of q ≡ c → against_piece p s q ≡ None → IsCutOff p m q whole rest
+      → ((q : Piece) (rest : List ℕ) → class_of q ≡ c → fault_of_piece p s q ≡ None → IsCutOff p m q whole rest
       → Along p ss (moved p q s) (mode_with m q) rest Q → R) → R
   unfolding Turns
   read_back {R} c a k = go (turned a.derives)
@@ -106,7 +106,7 @@ module _ {p : Program} {ss : List Symbol} {s : State} {m : Mode} {whole : List �
             holds = a.holds;
           })
 
-  -- the action of a mark was done
+  -- if the first symbol is a mark, its action was done
   pub mark_back : (n : ℕ) → Along p (item.Mark n ∷ ss) s m whole Q → Along p ss (done n s) m whole Q
   unfolding Turns
   mark_back n a =
@@ -121,7 +121,7 @@ module _ {p : Program} {ss : List Symbol} {s : State} {m : Mode} {whole : List �
         holds = a.holds;
       }
 
-  -- a nonterminal was read as some alternative
+  -- if the first symbol is a nonterminal, some alternative of it was read
   pub made_any : (n : ℕ) → Along p (item.Made n ∷ ss) s m whole Q
       → (body : List Symbol) × Among body (alternatives proof_grammar.rules n) × Along p (body ++ ss) s m whole Q
   unfolding Turns
@@ -141,7 +141,7 @@ module _ {p : Program} {ss : List Symbol} {s : State} {m : Mode} {whole : List �
         },
       )
 
-  -- a nonterminal was read as one of its alternatives
+  -- if the first symbol is a nonterminal with these alternatives, one of them was read
   pub made_back : {R : Type 0} (n : ℕ) (bodies : List (List Symbol)) → alternatives proof_grammar.rules n ≡ bodies
       → Along p (item.Made n ∷ ss) s m whole Q
       → Ways (λ xs. Along p (xs ++ ss) s m whole Q) R bodies → R
@@ -149,25 +149,25 @@ module _ {p : Program} {ss : List Symbol} {s : State} {m : Mode} {whole : List �
       let t = made_any n a in
       taken (λ xs. Along p (xs ++ ss) s m whole Q) R bodies t.0 (subst (Among t.0) e t.1) t.2 ways
 
-  -- the state, or the mode, is another one by an equation
+  -- reading in a state or a mode is reading in an equal one
   pub turned_to : {t : State} → s ≡ t → Along p ss s m whole Q → Along p ss t m whole Q
   turned_to e a = subst (λ (u : State). Along p ss u m whole Q) e a
 
   pub mode_to : {k : Mode} → m ≡ k → Along p ss s m whole Q → Along p ss s k whole Q
   mode_to e a = subst (λ (j : Mode). Along p ss s j whole Q) e a
 
--- bytes that begin with some, and others after these
+-- bytes that begin with w and then others, where the others are replaced by equal ones
 pub on : {xs ys zs : List ℕ} (w : List ℕ) → xs ≡ w ++ ys → ys ≡ zs → xs ≡ w ++ zs
 on w e f = e ∙ ap (λ (bs : List ℕ). w ++ bs) f
 
--- the remaining bytes are no longer than before
+-- the bytes after a prefix are no longer than all
 pub shorter : {xs : List ℕ} (w ys : List ℕ) → xs ≡ w ++ ys → length ys ≤ length xs
 shorter {xs} w ys e = let long = ap length e in let both = length-append w ys in omega (arith, long, both)
 
 pub less : {xs ys : List ℕ} (b : ℕ) → xs ≡ b ∷ ys → suc (length ys) ≤ length xs
 less b e = let long = ap length e in omega (arith, long)
 
--- the byte of a sign (a piece of one byte), in each mode
+-- in each mode a sign is cut from its byte
 sign_cut : (p : Program) (m : Mode) (b : ℕ) (bytes : List ℕ) (k : Sign) (some : ℕ)
     → (lexer_of p).lexeme_in m b bytes ≡ record { piece = Some (ASign k); len = suc some } → (b ≡ byte_of k) × (some ≡ 0)
 sign_cut p mode.Beginning b bytes k some h = go (is_first (b ∷ bytes)) h
@@ -209,7 +209,7 @@ sign_cut p mode.ClosedBlank b bytes k some h = plain_sign (symbol_names p) b byt
 sign_cut p mode.To b bytes k some h = plain_sign (symbol_names p) b bytes k some h
 
 module _ {p : Program} {ss : List Symbol} {s : State} {m : Mode} {whole : List ℕ} {Q : State → Type 0} where
-  -- a sign was read
+  -- if the first symbol is a sign's class, the sign's byte was read
   pub sign_back : {R : Type 0} (k : Sign) → Along p (item.Piece (class_of_sign k) ∷ ss) s m whole Q
       → ((rest : List ℕ) → whole ≡ byte_of k ∷ rest
       → Along p ss (moved p (ASign k) s) (mode_with m (ASign k)) rest Q → R) → R
@@ -222,17 +222,17 @@ module _ {p : Program} {ss : List Symbol} {s : State} {m : Mode} {whole : List �
       ∙ ap (λ (bs : List ℕ). byte_of k ∷ bs) (sym (ap (λ (n : ℕ). drop n cut.others) b.1) ∙ cut.behind))
       (subst (λ (x : Piece). Along p ss (moved p x s) (mode_with m x) rest Q) same more))
 
-  -- a word was read
+  -- if the first symbol is a word's class, the word's bytes were read
   pub word_back : {R : Type 0} (w : Word) → ¬ (w ≡ word.Other)
       → ((b : ℕ) (bytes : List ℕ) → (lexer_of p).lexeme_in m b bytes ≡ plain_lexeme (symbol_names p) b bytes)
       → Along p (item.Piece (class_of_word w) ∷ ss) s m whole Q
-      → ((symbol : ℕ) (rest : List ℕ) → against_piece p s (Name w symbol) ≡ None → whole ≡ bytes_of_word w ++ rest
+      → ((symbol : ℕ) (rest : List ℕ) → fault_of_piece p s (Name w symbol) ≡ None → whole ≡ bytes_of_word w ++ rest
       → Along p ss (moved p (Name w symbol) s) (mode_with m (Name w symbol)) rest Q → R) → R
   word_back w proper plain a on_it = read_back (class_of_word w) a (λ q rest is none cut more.
       let c = class_word q w is in
       let n = plain_name (symbol_names p) cut.first cut.others w c.0 cut.some
       (sym (plain cut.first cut.others) ∙ cut.cut ∙ ap (λ (x : Piece). record { piece = Some x; len = suc cut.some }) c.1) in
-      on_it c.0 rest (subst (λ (x : Piece). against_piece p s x ≡ None) c.1 none)
+      on_it c.0 rest (subst (λ (x : Piece). fault_of_piece p s x ≡ None) c.1 none)
       (cut.begins ∙ n.3 ∙ ap (λ (bs : List ℕ). (cut.first ∷ prefix continues_name cut.others) ++ bs) cut.behind
       ∙ ap (λ (bs : List ℕ). bs ++ rest) (spelled (cut.first ∷ prefix continues_name cut.others) n.0
       (word_bytes (cut.first ∷ prefix continues_name cut.others))))

@@ -1,4 +1,4 @@
--- A bound inside a proof that was read along bytes is what these spell.
+-- A bound inside a proof file that was read along bytes is spelled by them.
 use Rattle.std.proofs.Common.{◌≡◌, ℕ, zero, suc, ◌≤◌, ◌<◌, ◌^◌, Bool, true, false, cond, List, [], ◌∷◌, ◌++◌, length, drop}
 use Rattle.std.proofs.Common.{Option, Some, None, refl, ap, sym, subst, ◌∙◌, arith, append-nil, append_assoc}
 use Rattle.its_model.specs.model.Programs.{Program}
@@ -28,7 +28,7 @@ use Rattle.cert_lexer.proofs.CutBack.{plain_no_bound}
 use Rattle.cert_lexer.proofs.InnerBack.{inner_back, inner_only}
 use Rattle.cert_lexer.proofs.PieceClasses.{class_bound}
 use Rattle.cert_lexer.proofs.SpelledBounds.{answered}
-use Rattle.cert_text.specs.Against.{against_answer, against_piece, bound_in}
+use Rattle.cert_text.specs.NumberFaults.{fault_of_answer, fault_of_piece, bound_in}
 use Rattle.cert_text.specs.Reading.{moved}
 use Rattle.cert_text.specs.Remembered.{Draft, State, done}
 use Rattle.cert_text.specs.Spelled.{IsBoundWithin}
@@ -43,7 +43,7 @@ Ends p ss Q =
     → whole ≡ first ∷ others → ((lexer_of p).lexeme_in m first others).piece ≡ Some (InBound q len last)
     → Along p ss s m whole Q → ⊥
 
--- the end of a bound at a piece of another class, also after marks
+-- symbols that begin with a piece of another class, also after marks, begin with no piece of a bound
 pub ends_piece : {p : Program} {ss : List Symbol} {Q : State → Type 0} (c : ℕ) → ¬ (c ≡ 44) → Ends p (item.Piece c ∷ ss) Q
 ends_piece {p} c other s m whole first others q len last e f a = read_back c a (λ r rest is none cut more.
     let same : first ∷ others ≡ cut.first ∷ cut.others = sym e ∙ cut.begins in
@@ -60,14 +60,14 @@ pub ends_mark : {p : Program} {ss : List Symbol} {Q : State → Type 0} (n : ℕ
 ends_mark n h s m whole first others q len last e f a =
     h (done n s) m whole first others q len last e f (mark_back n a)
 
--- the remaining bytes are no longer than before
+-- the bytes after a prefix are no longer than all
 drop_few : (n : ℕ) (xs : List ℕ) → length (drop n xs) ≤ length xs
 drop_few zero xs = omega arith
 drop_few (suc n) [] = omega arith
 drop_few (suc n) (x ∷ xs) = let h = drop_few n xs in omega (arith, h)
 
 -- an answer without a fault is a bound
-stands_so : (a : Answer Bound ProofKind) → against_answer a ≡ None → (w : Bound) × (a ≡ Stands w) × (bound_in a ≡ w)
+stands_so : (a : Answer Bound ProofKind) → fault_of_answer a ≡ None → (w : Bound) × (a ≡ Stands w) × (bound_in a ≡ w)
 stands_so (Stands w) h = (w, refl, refl)
 stands_so (Refused x) h = cc
 
@@ -87,7 +87,7 @@ ended_so p depth before (b ∷ bytes) q behind ends is cut =
     ∙ ap (λ (bs : List ℕ). (lexer_of p).lexeme_in (mode.InBound depth before) cut.first bs) two ∙ cut.cut
     ∙ ap (λ (x : Piece). record { piece = Some x; len = suc cut.some }) c.3)
 
--- before a bound has ended, no other piece follows
+-- before a bound has ended, only pieces of it follow
 goes_so : (p : Program) {ss : List Symbol} {Q : State → Type 0} → Ends p ss Q → (s : State) (depth before : ℕ)
     (rest : List ℕ) → false ≡ ends_before depth rest → Along p ss s (mode.InBound depth before) rest Q → ⊥
 goes_so p ends s depth before [] on a = cc
@@ -95,7 +95,7 @@ goes_so p ends s depth before (b ∷ bytes) on a =
     let i = inner_only (symbol_names p) p.start_names depth before b bytes (sym on) in
     ends s (mode.InBound depth before) (b ∷ bytes) b bytes i.0 i.1 i.2 refl i.3 a
 
--- where a bound is read to its end, these are its pieces
+-- if a bound is read to its end, these are its pieces
 abbrev Whole : Program → List Symbol → (State → Type 0) → Type 0 → Base → Last → Draft → List ℕ → List Inner → Type 0
 Whole p ss Q R c l d whole xs =
     (ys : List Inner) (w : Bound) (behind : ℕ) (rest : List ℕ)
@@ -105,7 +105,7 @@ Whole p ss Q R c l d whole xs =
 
 module _ {p : Program} {ss : List Symbol} {Q : State → Type 0} {R : Type 0} (sure : Sure p) (c : Base) (l : Last) (d : Draft)
     (ends : Ends p ss Q) where
-  -- the remaining pieces, after some
+  -- the remaining pieces of a bound that was read along bytes are spelled by them
   inside_back : (f : ℕ) {whole : List ℕ} → length whole < f → (xs : List Inner) (depth before : ℕ)
       → Along p (item.Piece 44 ∷ item.Made 40 ∷ ss) (held c l d xs) (mode.InBound depth before) whole Q → Whole p ss Q R c l d whole xs → R
   inside_back zero few xs depth before a k = absurd (omega (arith, few))
@@ -119,14 +119,14 @@ module _ {p : Program} {ss : List Symbol} {Q : State → Type 0} {R : Type 0} (s
       let behind = ap length cut.behind in
       go e.0 e.1 e.2 rest (i.ends ∙ ap (ends_before (depth_behind depth e.0)) cut.behind)
       (λ kept. cut.begins ∙ i.spells kept ∙ ap (λ (bs : List ℕ). spelled p.start_names (piece_of e.0) ++ bs) cut.behind)
-      (subst (λ (x : Piece). against_piece p (held c l d xs) x ≡ None) e.3 none)
+      (subst (λ (x : Piece). fault_of_piece p (held c l d xs) x ≡ None) e.3 none)
       (subst (λ (x : Piece). Along p (item.Made 40 ∷ ss) (moved p x (held c l d xs)) (mode_with (mode.InBound depth before) x)
       rest Q) e.3 more)
       (λ ys n m y on_it. inside_back f (omega (arith, few, long, left, behind)) ys n m y on_it))
     where
       go : (q : BoundPiece) (len : ℕ) (last : Bool) (rest : List ℕ) → last ≡ ends_before (depth_behind depth q) rest
           → (KeptPiece (length p.start_names) (piece_of q) → whole ≡ spelled p.start_names (piece_of q) ++ rest)
-          → against_piece p (held c l d xs) (InBound q len last) ≡ None
+          → fault_of_piece p (held c l d xs) (InBound q len last) ≡ None
           → Along p (item.Made 40 ∷ ss) (moved p (InBound q len last) (held c l d xs))
           (mode_with (mode.InBound depth before) (InBound q len last)) rest Q
           → ((ys : List Inner) (n m : ℕ)
@@ -161,7 +161,7 @@ module _ {p : Program} {ss : List Symbol} {Q : State → Type 0} {R : Type 0} (s
             ),
           )
 
-  -- a bound is within the limits, and the bytes are its text
+  -- a bound that was read along bytes is within the limits, and the bytes are its text
   pub bound_back : {whole : List ℕ}
       → Along p (item.Piece 44 ∷ item.Made 40 ∷ ss) (st c l d) (mode.InBound 0 0) whole Q
       → ((w : Bound) (behind : ℕ) (rest : List ℕ) → IsBoundWithin p w → whole ≡ text_of p.start_names w ++ rest

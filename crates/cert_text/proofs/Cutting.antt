@@ -1,4 +1,4 @@
--- Pieces that are read by their bytes: marks, words and numbers.
+-- Reading pieces by their bytes: signs, words and numbers.
 use Rattle.std.proofs.Common.{◌≡◌, ℕ, suc, ◌<◌, ◌≤◌, ◌^◌, min, Bool, true, false, cond, List, [], ◌∷◌, ◌++◌, length}
 use Rattle.std.proofs.Common.{Some, None, refl, ap, sym, subst, ◌∙◌, arith, inl, inr}
 use Rattle.std.specs.Prelude.{◌==◌, codes}
@@ -29,11 +29,11 @@ use Rattle.cert_lexer.specs.Grammar.{class_of_number, class_of_word, proof_gramm
 use Rattle.cert_lexer.specs.Lexing.{digits_lexeme, lexeme, lexer_of, mode_with, name_lexeme, place_lexeme}
 use Rattle.cert_lexer.specs.Lexing.{plain_lexeme, sign_at, symbol_names, symbol_of, word_of}
 use Rattle.cert_text.specs.declared.phase.Next.TheVariants as next
-use Rattle.cert_text.specs.Against.{against_piece}
+use Rattle.cert_text.specs.NumberFaults.{fault_of_piece}
 use Rattle.cert_text.specs.Remembered.{State}
 use Rattle.cert_text.proofs.Along.{Along, IsCutOff, in_mode, makes, reads}
 
--- the context of numbers and marks: with nothing open, or in a list of shut places
+-- where numbers and signs are read: with nothing open, or in a list of shut places
 pub data Within : Type 0 where
   Bare : Within
   Shut : Within
@@ -42,7 +42,7 @@ abbrev pub mode_in : Within → Mode
 mode_in Bare = mode.Plain
 mode_in Shut = mode.InShut
 
--- the end of a node: a bracket, a bound, or another piece
+-- how a node ends: with a bracket, a bound, or another piece
 pub data Ending : Type 0 where
   AtPlain : Ending
   AtClosed : Ending
@@ -53,13 +53,13 @@ mode_at AtPlain = mode.Plain
 mode_at AtClosed = mode.Closed
 mode_at AtBound = mode.InBound 0 0
 
--- a byte is cut off
+-- a sign is cut from its byte
 abbrev pub byte_cut : (p : Program) (m : Mode) (q : Piece) (b : ℕ) (rest : List ℕ)
     → (lexer_of p).lexeme_in m b rest ≡ record { piece = Some q; len = 1 } → IsCutOff p m q (b ∷ rest) rest
 byte_cut p m q b rest e = record { first = b; others = rest; some = 0; begins = refl; cut = e; behind = refl }
 
 module _ {p : Program} {ss : List Symbol} {s : State} {rest : List ℕ} {Q : State → Type 0} where
-  -- signs are read
+  -- the byte of a sign is read as that sign
   pub blank : (x : Within) → Along p ss s (mode_in x) rest Q
       → Along p (item.Piece 32 ∷ ss) s (mode_in x) (32 ∷ rest) Q
   blank Bare more = reads (ASign sign.Blank) refl (byte_cut p mode.Plain (ASign sign.Blank) 32 rest refl) more
@@ -95,7 +95,7 @@ module _ {p : Program} {ss : List Symbol} {s : State} {rest : List ℕ} {Q : Sta
   pub feed : Along p ss s mode.Plain rest Q → Along p (item.Piece 33 ∷ ss) s mode.Plain (10 ∷ rest) Q
   feed more = reads (ASign sign.LineFeed) refl (byte_cut p mode.Plain (ASign sign.LineFeed) 10 rest refl) more
 
-  -- the bytes after a node are cut
+  -- the byte after a node is read as its sign
   pub feed_at : (x : Ending) → Along p ss s mode.Plain rest Q → Along p (item.Piece 33 ∷ ss) s (mode_at x) (10 ∷ rest) Q
   feed_at AtPlain more = reads (ASign sign.LineFeed) refl (byte_cut p mode.Plain (ASign sign.LineFeed) 10 rest refl) more
   feed_at AtClosed more = reads (ASign sign.LineFeed) refl (byte_cut p mode.Closed (ASign sign.LineFeed) 10 rest refl) more
@@ -127,7 +127,7 @@ module _ {p : Program} {ss : List Symbol} {s : State} {rest : List ℕ} {Q : Sta
   bracket_at AtBound more =
       reads (ASign sign.Close) refl (byte_cut p (mode.InBound 0 0) (ASign sign.Close) 41 rest refl) more
 
-  -- a blank after a bracket, and after `to`
+  -- a blank after a closing bracket, and after `to`, is read
   pub blank_closed : Along p ss s mode.ClosedBlank rest Q
       → Along p (item.Piece 32 ∷ ss) s mode.Closed (32 ∷ rest) Q
   blank_closed more = reads (ASign sign.Blank) refl (byte_cut p mode.Closed (ASign sign.Blank) 32 rest refl) more
@@ -144,7 +144,7 @@ name_lexed symbols b others rest begins all stops =
     (cond (is_ascii_digit b) (digits_lexeme (b ∷ prefix is_ascii_digit (others ++ rest))) (lexeme (sign_at b) 1))) begins
     ∙ ap (λ (xs : List ℕ). name_lexeme symbols (b ∷ xs)) (prefix-append continues_name others rest all stops)
 
--- the piece of a name
+-- the piece of a name, given its bytes
 abbrev pub named : Program → ℕ → List ℕ → Piece
 named p b others = Name (word_of (b ∷ others)) (symbol_of (symbol_names p) (b ∷ others))
 
@@ -160,17 +160,17 @@ name_cut p b others rest begins all stops = record {
   behind = drop-append_seam others rest;
 }
 
--- a word is read
+-- the bytes of a word are read as that word
 pub word : {p : Program} {ss : List Symbol} {s : State} {rest : List ℕ} {Q : State → Type 0} (b : ℕ) (others : List ℕ)
     → begins_name b ≡ true → list_all continues_name others ≡ true → Stops continues_name rest
-    → against_piece p s (named p b others) ≡ None
+    → fault_of_piece p s (named p b others) ≡ None
     → Along p ss (record s { symbol = symbol_of (symbol_names p) (b ∷ others); coming = next.Nothing })
     (mode_with mode.Plain (named p b others)) rest Q
     → Along p (item.Piece (class_of_word (word_of (b ∷ others))) ∷ ss) s mode.Plain (b ∷ (others ++ rest)) Q
 word {p} {ss} {s} {rest} b others begins all stops none more =
     reads (named p b others) none (name_cut p b others rest begins all stops) more
 
--- `to` after a bracket and a blank
+-- `to` after a closing bracket and a blank is read
 pub to_cut : (p : Program) (rest : List ℕ) → Stops continues_name rest
     → IsCutOff p mode.ClosedBlank (named p 116 (codes "o")) (116 ∷ 111 ∷ rest) rest
 to_cut p rest stops = record {
@@ -215,7 +215,7 @@ digits_of n small = go (decimal n) d.0.0 (digits_pass (decimal n) d.0.1) refl
 digit_no_name : (c : ℕ) → is_ascii_digit c ≡ true → begins_name c ≡ false
 digit_no_name c h = grind (arith, nat_tests)
 
--- digits are cut off before a byte that doesn't continue them
+-- digits are cut before a byte that is no digit
 number_lexed : (symbols : List NameBytes) (n : ℕ) (d : Digits n) (rest : List ℕ) → n < 2 ^ 127 → Stops is_ascii_digit rest
     → plain_lexeme symbols d.first (d.others ++ rest) ≡ record { piece = Some (Number n); len = suc (length d.others) }
 number_lexed symbols n d rest small stops =
@@ -254,7 +254,8 @@ number_cut p x n rest small stops = go x (digits_of n small)
       behind = drop-append_seam d.others rest;
     }
 
--- the class of a number is one of those of numbers, and from 1 on one of those of positive ones
+-- the class of a number is one of the classes of numbers, and that of a number from 1 on one of those of positive
+-- numbers
 number_class : (n : ℕ) → Among (item.Piece (class_of_number n) ∷ []) (alternatives proof_grammar.rules 8)
 number_class n = go (n == 0) (n == 1) (n == 2)
   where
@@ -276,14 +277,14 @@ positive_class n some =
     go false true = inr (inl refl)
     go false false = inr (inr (inl refl))
 
--- after a number the mode is the same
+-- the mode after a number is that before it
 number_mode : (x : Within) (n : ℕ) → mode_with (mode_in x) (Number n) ≡ mode_in x
 number_mode Bare n = refl
 number_mode Shut n = refl
 
 module _ {p : Program} {ss : List Symbol} {s : State} {rest : List ℕ} {Q : State → Type 0} (x : Within) (n : ℕ)
-    (small : n < 2 ^ 127) (stops : Stops is_ascii_digit rest) (none : against_piece p s (Number n) ≡ None) where
-  -- a number is read, and one from 1 on
+    (small : n < 2 ^ 127) (stops : Stops is_ascii_digit rest) (none : fault_of_piece p s (Number n) ≡ None) where
+  -- the digits of a number are read as it; and those of a number from 1 on
   pub number : Along p ss (record s { number = n; coming = next.Nothing }) (mode_in x) rest Q
       → Along p (item.Made 8 ∷ ss) s (mode_in x) (decimal n ++ rest) Q
   number more =

@@ -40,7 +40,7 @@ use Rattle.cert_text.specs.Remembered.{Draft, State, Whole, begun, no_draft}
 use Rattle.cert_text.specs.Spelled.{AreLemmasWithin, IsFileWithin, IsGapWithin, IsPlaceOf, IsPointWithin, IsTextWithin}
 use Rattle.cert_text.specs.Texts.{first_line, gap_lines, gap_text, has_cost, lemma_lines, node_text, symbol_place_text, point_text}
 use Rattle.cert_text.specs.Texts.{some_has_cost, text_of}
-use Rattle.cert_text.specs.Told.{refusal_in}
+use Rattle.cert_text.specs.StatedErrors.{refusal_in}
 use Rattle.cert_text.proofs.Along.{Along, Bytes, IsCutOff, Then, becomes, cut_tokens, ends, flatten, makes, marks, reads}
 use Rattle.cert_text.proofs.Along.{spelled_as}
 use Rattle.cert_text.proofs.Cutting.{Bare, Shut, blank, byte_cut, feed, feed_at, word}
@@ -52,7 +52,7 @@ use Rattle.cert_text.proofs.PointTexts.{places, point, points}
 use Rattle.cert_text.proofs.States.{Base, Last, Sure, st}
 
 module _ {p : Program} {ss : List Symbol} {rest : List ℕ} {Q : State → Type 0} (sure : Sure p) (b : Base) where
-  -- a gap is read
+  -- a gap is read along its text
   gap : (g : Gap) → IsGapWithin p g → (l : Last) (d : Draft)
       → ((m : Last) → Along p ss (st (record b { in_gap = true }) m
       (bare (record no_draft { rule = g.rule; set = g.set; shut = g.shut; gap_moves = g.moves; floor = g.floor; points = g.kept })))
@@ -88,7 +88,7 @@ module _ {p : Program} {ss : List Symbol} {rest : List ℕ} {Q : State → Type 
       (record no_draft { rule = g.rule; set = g.set; shut = g.shut; gap_moves = g.moves; floor = g.floor })
       more)))))))))))))))))))))))))
 
--- between lines
+-- the state between two lines
 abbrev pub line : Bool → Bool → List Proof → List Gap → Base
 line priced paid lemmas gaps = record {
   priced = priced;
@@ -102,7 +102,7 @@ line priced paid lemmas gaps = record {
 }
 
 module _ {p : Program} (sure : Sure p) (Q : State → Type 0) (priced : Bool) where
-  -- the gaps that are left, and the last line
+  -- the gaps that are left, and the last line, are read along their text
   gaps_read : (gs : List Gap) (paid : Bool) (lemmas : List Proof) (gaps : List Gap) (l : Last) (d : Draft)
       → AllByRecursion (IsGapWithin p) gs → length gaps + length gs ≤ 1000 → (priced && not paid) ≡ false
       → ((m : Last) (g : Draft) → Q (st (line priced paid lemmas (gaps ++ gs)) m g))
@@ -126,7 +126,7 @@ module _ {p : Program} (sure : Sure p) (Q : State → Type 0) (priced : Bool) wh
       (λ n e. subst (λ (hs : List Gap). Q (st (line priced paid lemmas hs) n e)) (sym (append_assoc gaps (g ∷ []) gs))
       (more n e)))))))))
 
-  -- the lemmas that are left, the gaps and the last line
+  -- the lemmas that are left, the gaps and the last line are read along their text
   lemmas_read : (vs : List Proof) (gs : List Gap) (paid : Bool) (lemmas : List Proof) (l : Last) (d : Draft)
       → AreLemmasWithin p (length lemmas) vs → length lemmas + length vs ≤ 100000 → (some_has_cost vs ≡ true → priced ≡ true)
       → AllByRecursion (IsGapWithin p) gs → length gs ≤ 1000 → (priced && not (paid || some_has_cost vs)) ≡ false
@@ -162,7 +162,7 @@ module _ {p : Program} (sure : Sure p) (Q : State → Type 0) (priced : Bool) wh
       (subst (λ (ws : List Proof). Q (st (line priced (paid || (has_cost v || some_has_cost vs)) ws gs) n e))
       (sym (append_assoc lemmas (v ∷ []) vs)) (more n e)))))))))))
 
--- the first word is cut off
+-- the first word is cut from its bytes
 first_cut : (p : Program) (rest : List ℕ)
     → IsCutOff p mode.Beginning First (codes "koat-proof" ++ 32 ∷ rest) (32 ∷ rest)
 first_cut p rest =
@@ -184,7 +184,7 @@ first_cut p rest =
 abbrev nothing_read : Last
 nothing_read = record { number = 0; negative = false; symbol = 0; node = Start; bound = Constant 0 }
 
--- a whole file is read
+-- a whole file is read along its text
 whole : (p : Program) → Sure p → (f : ProofFile) → IsFileWithin p f
     → Along p (item.Made 0 ∷ []) begun mode.Beginning (text_of p f) (λ s. file_in s ≡ f)
 unfolding text_of
@@ -232,10 +232,10 @@ text_stands p sure bytes f h =
     ∙ ap (λ (g : ProofFile). Stands g) a.holds
 
 -- a result that agrees with the answer is the file
-pub tells_back : (p : Program) (bytes : List ℕ) (f : ProofFile) (result : Result code_file.ProofFile ProofTextError)
+pub agreeing_reads_back : (p : Program) (bytes : List ℕ) (f : ProofFile) (result : Result code_file.ProofFile ProofTextError)
     → answer (reader (proofs_of p)) (length bytes) (tokens p bytes) ≡ Stands f
     → Tells file_of refusal_in (answer (reader (proofs_of p)) (length bytes) (tokens p bytes)) result → GivesBack f result
-tells_back p bytes f result e h = go result (subst (λ (a : Answer ProofFile ProofKind). Tells file_of refusal_in a result) e h)
+agreeing_reads_back p bytes f result e h = go result (subst (λ (a : Answer ProofFile ProofKind). Tells file_of refusal_in a result) e h)
   where
     go : (result : Result code_file.ProofFile ProofTextError) → Tells file_of refusal_in (Stands f) result → GivesBack f result
     go (Ok file) s = s

@@ -1,4 +1,4 @@
--- Bytes that were read as a proof file are its text, and it is within the limits.
+-- Bytes that were read as a proof file are the text of a file within the limits.
 use Rattle.std.proofs.Common.{◌≡◌, ℕ, zero, suc, ◌+◌, ◌-◌, ◌<◌, ◌≤◌, ◌^◌, Bool, true, false, cond, List, [], ◌∷◌, ◌++◌, length}
 use Rattle.std.proofs.Common.{map, drop, Option, Some, None, refl, ap, sym, subst, ◌∙◌, arith, inl, inr, append-nil}
 use Rattle.std.proofs.Common.{append_assoc, length-append}
@@ -53,7 +53,7 @@ use Rattle.cert_text.specs.Remembered.{Draft, State, begun, done, no_draft}
 use Rattle.cert_text.specs.Spelled.{AreLemmasWithin, IsFileWithin, IsGapWithin, IsPlaceOf, IsPointWithin, IsTextWithin}
 use Rattle.cert_text.specs.Texts.{first_line, gap_lines, gap_text, has_cost, lemma_lines, node_text, symbol_place_text, point_text}
 use Rattle.cert_text.specs.Texts.{some_has_cost, text_of}
-use Rattle.cert_text.specs.Told.{refusal_in}
+use Rattle.cert_text.specs.StatedErrors.{refusal_in}
 use Rattle.cert_text.proofs.Along.{Along, Bytes, Cuts, IsCutOff, Then, at, flatten, skipped}
 use Rattle.cert_text.proofs.Back.{less, made_back, mark_back, mode_to, no_more, on, read_back, shorter, sign_back, turned_to}
 use Rattle.cert_text.proofs.Back.{word_back}
@@ -68,7 +68,7 @@ use Rattle.cert_text.proofs.PointsBack.{places_back, point_back, points_back}
 use Rattle.cert_text.proofs.States.{Base, Last, Sure, st}
 
 module _ {p : Program} {ss : List Symbol} {whole : List ℕ} {Q : State → Type 0} {R : Type 0} (sure : Sure p) (b : Base) where
-  -- a gap was read
+  -- a gap that was read along bytes is spelled by them, and within the limits
   gap_back : (l : Last) (d : Draft) → Along p (item.Made 32 ∷ ss) (st b l d) mode.Plain whole Q
       → ((g : Gap) (m : Last) (rest : List ℕ) → IsGapWithin p g → whole ≡ gap_text p g ++ rest
       → Along p ss (st (record b { in_gap = true }) m
@@ -124,7 +124,7 @@ module _ {p : Program} {ss : List Symbol} {whole : List ℕ} {Q : State → Type
       )
 
 module _ {p : Program} (sure : Sure p) {Q : State → Type 0} {R : Type 0} (priced : Bool) where
-  -- the gaps that are left, and the last line
+  -- gaps and the last line that were read along bytes are spelled by them
   gaps_back : (f : ℕ) {whole : List ℕ} → length whole < f → (paid : Bool) (lemmas : List Proof) (gaps : List Gap) (l : Last)
       (d : Draft) → length gaps ≤ 1000
       → Along p (item.Made 3 ∷ []) (st (line priced paid lemmas gaps) l d) mode.Plain whole Q
@@ -160,7 +160,7 @@ module _ {p : Program} (sure : Sure p) {Q : State → Type 0} {R : Type 0} (pric
         ),
       )
 
-  -- the lemmas that are left, the gaps and the last line
+  -- lemmas, gaps and the last line that were read along bytes are spelled by them
   lemmas_back : (f : ℕ) {whole : List ℕ} → length whole < f → (paid : Bool) (lemmas : List Proof) (l : Last) (d : Draft)
       → length lemmas ≤ 100000
       → Along p (item.Made 2 ∷ []) (st (line priced paid lemmas []) l d) mode.Plain whole Q
@@ -215,7 +215,7 @@ module _ {p : Program} (sure : Sure p) {Q : State → Type 0} {R : Type 0} (pric
       either true b f g h = f refl
       either false b f g h = g h
 
--- the numbers of the first line
+-- the only number of class 29 is 1
 one_only : (n : ℕ) → class_of_number n ≡ 29 → n ≡ 1
 one_only n h = go (n == 0) refl (n == 1) refl (n == 2) h
   where
@@ -237,7 +237,7 @@ two_only n h = go (n == 0) refl (n == 1) refl (n == 2) refl h
     go false e false f false g h = absurd (omega (arith, h))
 
 module _ {p : Program} {ss : List Symbol} {s : State} {whole : List ℕ} {Q : State → Type 0} {R : Type 0} where
-  -- one of these numbers was read
+  -- a version that was read is spelled by its digit
   version_back : (n : ℕ) → n < 10 → ((m : ℕ) → class_of_number m ≡ class_of_number n → m ≡ n)
       → Along p (item.Piece (class_of_number n) ∷ ss) s mode.Plain whole Q
       → ((rest : List ℕ) → whole ≡ (48 + n) ∷ rest → Along p ss (moved p (Number n) s) mode.Plain rest Q → R) → R
@@ -251,7 +251,7 @@ module _ {p : Program} {ss : List Symbol} {s : State} {whole : List ℕ} {Q : St
       ∙ ap (λ (bs : List ℕ). bs ++ rest) (decimal_digit n low))
       (subst (λ (y : Piece). Along p ss (moved p y s) (mode_with mode.Plain y) rest Q) same more))
 
--- the first line says whether something costs
+-- the version in the first line says whether some lemma has a cost
 first_so : (vs : List Proof) (v : Bool) → (some_has_cost vs ≡ true → v ≡ true)
     → (v && not (false || some_has_cost vs)) ≡ false → first_line vs ≡ cond v (codes "koat-proof 2\n") (codes "koat-proof 1\n")
 first_so vs v f h = ap (λ (w : Bool). cond w (codes "koat-proof 2\n") (codes "koat-proof 1\n")) (go (some_has_cost vs) v f h)
@@ -317,7 +317,7 @@ whole_back p sure bytes f a =
           };
         }))
 
--- each lexeme is a piece
+-- the lexeme has a piece
 record HasPiece (l : Lexeme (Option Piece)) : Type 0 where
   pub piece : Piece
   pub is : l.piece ≡ Some piece
@@ -350,13 +350,13 @@ some_piece p mode.Closed b bytes = plain_piece p b bytes
 some_piece p mode.ClosedBlank b bytes = plain_piece p b bytes
 some_piece p mode.To b bytes = plain_piece p b bytes
 
--- the remaining bytes are no longer than before
+-- the bytes after a prefix are no longer than all
 drop_few : (n : ℕ) (xs : List ℕ) → length (drop n xs) ≤ length xs
 drop_few zero xs = omega arith
 drop_few (suc n) [] = omega arith
 drop_few (suc n) (x ∷ xs) = let h = drop_few n xs in omega (arith, h)
 
--- bytes are cut into the pieces of their tokens
+-- bytes without a fault are cut into the pieces of their tokens
 tokens_cut : (p : Program) (f : ℕ) (m : Mode) (at : ℕ) (whole : List ℕ) → length whole < f
     → Cuts p m (pieces (tokens_in (lexer_of p) m at 0 whole)) whole
 tokens_cut p zero m at whole few = absurd (omega (arith, few))
@@ -407,7 +407,7 @@ unbroken p (Read q ∷ es) s h =
     let w = unbroken p es (moved p q s) (subst (λ (t : Progress). Passes (proof_fold p) t es) same h.1) in
     (w.0, ap (λ (t : Progress). after (proof_fold p) t es) same ∙ w.1)
 
--- the file that is the answer is within the limits, and the bytes are its text
+-- a file that is the answer is within the limits, and the bytes are its text
 pub answer_spelled : (p : Program) → Sure p → (bytes : List ℕ) (f : ProofFile)
     → answer (reader (proofs_of p)) (length bytes) (tokens p bytes) ≡ Stands f → IsTextWithin p bytes f
 answer_spelled p sure bytes f e =
@@ -425,11 +425,11 @@ answer_spelled p sure bytes f e =
       holds = sym (ap (λ (s : Progress). file_in s.kept) (state_after (proof_fold p) [] w.0 ∙ u.1)) ∙ w.2;
     })
 
--- the file of a result that agrees with the answer is the one that the bytes spell
-pub tells_spelled : (p : Program) → Sure p → (bytes : List ℕ) (result : Result code_file.ProofFile ProofTextError)
+-- the file of a result that agrees with the answer is within the limits, and the bytes are its text
+pub agreeing_is_spelled : (p : Program) → Sure p → (bytes : List ℕ) (result : Result code_file.ProofFile ProofTextError)
     → Tells file_of refusal_in (answer (reader (proofs_of p)) (length bytes) (tokens p bytes)) result
     → IfOk result (λ file. IsTextWithin p bytes (file_of file))
-tells_spelled p sure bytes result h = go (answer (reader (proofs_of p)) (length bytes) (tokens p bytes)) refl result h
+agreeing_is_spelled p sure bytes result h = go (answer (reader (proofs_of p)) (length bytes) (tokens p bytes)) refl result h
   where
     go : (a : Answer ProofFile ProofKind) → answer (reader (proofs_of p)) (length bytes) (tokens p bytes) ≡ a
         → (result : Result code_file.ProofFile ProofTextError) → Tells file_of refusal_in a result

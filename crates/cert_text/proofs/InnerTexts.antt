@@ -21,13 +21,13 @@ use Rattle.cert_lexer.proofs.BoundCuts.{Goes, behind_bracket, pieces_go}
 use Rattle.cert_lexer.proofs.BoundBack.{depth_same, ends_so, first_no_end, inner_cut, inner_of, inners, inners_are, is_last}
 use Rattle.cert_lexer.proofs.BoundBack.{marked_close, piece_found}
 use Rattle.cert_lexer.proofs.BoundTexts.{bound_stands}
-use Rattle.cert_text.specs.Against.{against_answer, bound_in}
+use Rattle.cert_text.specs.NumberFaults.{fault_of_answer, bound_in}
 use Rattle.cert_text.specs.Remembered.{Draft, State}
 use Rattle.cert_text.specs.Spelled.{IsBoundWithin}
 use Rattle.cert_text.proofs.Along.{Along, IsCutOff, becomes, in_mode, makes, reads}
 use Rattle.cert_text.proofs.States.{Base, Last, Sure, held, st}
 
--- a piece of a bound is cut off, before pieces that continue it and bytes that end it
+-- a piece of a bound is cut from its bytes, before pieces that continue the bound or bytes that end it
 bound_cut : (p : Program) → Sure p → (depth before : ℕ) (q : Piece) (qs : List Piece) (b : ℕ) (others : List ℕ)
     → Goes (length p.start_names) depth (q ∷ qs) → ends_bound 0 b ≡ true → Closes (b ∷ others)
     → IsCutOff p (mode.InBound depth before)
@@ -59,14 +59,14 @@ bound_cut p sure depth before q qs b others goes ends closed =
 
 module _ {p : Program} {ss : List Symbol} {Q : State → Type 0} (sure : Sure p) (c : Base) (l : Last) (d : Draft) (w : Bound)
     (x : ℕ) (others : List ℕ) (ends : ends_bound 0 x ≡ true) (closed : Closes (x ∷ others)) where
-  -- the remaining pieces, after some
+  -- the remaining pieces of a bound are read
   inside : (q : Piece) (qs : List Piece) (xs : List Inner) (depth before : ℕ) → Goes (length p.start_names) depth (q ∷ qs)
       → bound_answer (length p.start_names) (xs ++ inners p.start_names (q ∷ qs)) ≡ Stands w
       → Along p ss (st c (record l { bound = w }) d) (mode.InBound 0 0) (x ∷ others) Q
       → Along p (item.Piece 44 ∷ item.Made 40 ∷ ss) (held c l d xs) (mode.InBound depth before)
       (bytes_of p.start_names (q ∷ qs) ++ x ∷ others) Q
   inside q [] xs depth before goes stands more =
-      reads (InBound (bound_piece (length p.start_names) 0 q) (length (spelled p.start_names q)) true) (ap against_answer stands)
+      reads (InBound (bound_piece (length p.start_names) 0 q) (length (spelled p.start_names q)) true) (ap fault_of_answer stands)
       (bound_cut p sure depth before q [] x others goes ends closed)
       (in_mode (ap (λ (k : ℕ). mode.InBound k 0) (depth_same (length p.start_names) depth q goes.3 ∙ goes.4))
       (becomes (ap (λ (a : Answer Bound ProofKind). held c (record l { bound = bound_in a }) d []) stands)
@@ -80,7 +80,7 @@ module _ {p : Program} {ss : List Symbol} {Q : State → Type 0} (sure : Sure p)
       (ap (bound_answer (length p.start_names))
       (append_assoc xs (inner_of p.start_names q ∷ []) (inners p.start_names (r ∷ rs))) ∙ stands) more)))
 
-  -- a bound within the limits is read, and ends there
+  -- a whole bound within the limits is read along its text
   pub whole_bound : IsBoundWithin p w → Along p ss (st c (record l { bound = w }) d) (mode.InBound 0 0) (x ∷ others) Q
       → Along p (item.Piece 44 ∷ item.Made 40 ∷ ss) (st c l d) (mode.InBound 0 0) (text_of p.start_names w ++ x ∷ others) Q
   whole_bound h more =

@@ -1,4 +1,4 @@
--- Reading a proof file piece by piece gives the answer to all of it.
+-- Reading a proof file piece by piece gives the answer to the whole text.
 use Rattle.std.proofs.Common.{◌≡◌, ℕ, ◌+◌, Bool, true, false, cond, ◌||◌, List, ◌∷◌, length, Option, Some, None, refl, ap}
 use Rattle.std.proofs.Common.{sym, subst, ◌∙◌, arith}
 use Rattle.std.specs.Prelude.{Result, Ok, Err, IfSome, is_some}
@@ -29,14 +29,14 @@ use Rattle.cert_lexer.specs.declared.kind.ProofKind.{ProofKind}
 use Rattle.cert_lexer.specs.declared.piece.Piece.{Piece}
 use Rattle.cert_lexer.specs.declared.piece.Mode.TheVariants as mode
 use Rattle.cert_text.specs.declared.error.ProofTextError.{ProofTextError}
-use Rattle.cert_text.specs.Against.{against_piece, position_of}
+use Rattle.cert_text.specs.NumberFaults.{fault_of_piece, position_of}
 use Rattle.cert_text.specs.Reading.{Progress, against, moved, proof_fold, proofs_of}
 use Rattle.cert_text.specs.Refused.{Answers, kind_at, refusal_of}
 use Rattle.cert_text.specs.Remembered.{State, done}
-use Rattle.cert_text.specs.Told.{refusal_in}
+use Rattle.cert_text.specs.StatedErrors.{refusal_in}
 use Rattle.cert_text.proofs.Lawful.{lawful}
 
--- the tokens of a proof file are in order
+-- the tokens of a proof file are in order of their positions
 pub tokens_in_order : (p : Program) (bytes : List ℕ) → AreInOrder 0 (tokens p bytes) (length bytes)
 tokens_in_order p bytes =
     let o = in_order_in (lexer_of p) (lexes_within (symbol_names p) p.start_names) bytes mode.Beginning 0 0 (omega arith) in
@@ -44,10 +44,10 @@ tokens_in_order p bytes =
     omega arith in e) (subst (λ (n : ℕ). AreInOrder n (tokens p bytes) (0 + length bytes))
     (let e : 0 + 0 ≡ 0 = omega arith in e) o)
 
--- a result that says what the answer is is right
-pub tells_answers : (p : Program) (bytes : List ℕ) (result : Result ProofFile ProofTextError)
+-- a result that agrees with the answer is right
+pub agreeing_answers : (p : Program) (bytes : List ℕ) (result : Result ProofFile ProofTextError)
     → Tells file_of refusal_in (answer (reader (proofs_of p)) (length bytes) (tokens p bytes)) result → Answers p bytes result
-tells_answers p bytes result h =
+agreeing_answers p bytes result h =
     go (answer (reader (proofs_of p)) (length bytes) (tokens p bytes))
     (answer_is (reader (proofs_of p)) (reader_laws (proofs_of p) (lawful p)) (length bytes) (tokens p bytes)) result h
   where
@@ -64,7 +64,7 @@ tells_answers p bytes result h =
     go (Refused y) i (Ok made) s = absurd s
     go (Refused y) i (Err error) s = first y i (refusal_in error) s
 
--- how far reading has come
+-- the progress with this state, and whether there was a fault
 abbrev pub progress : State → Bool → Progress
 progress s broken = record { kept = s; broken = broken }
 
@@ -73,7 +73,7 @@ shown_kind : (p : Program) (o : Option ProofKind) (at : ℕ) → first_shown (pr
 shown_kind p None at = refl
 shown_kind p (Some k) at = refl
 
--- after a refusal no other one is shown
+-- after a fault no other one is shown
 pub shown_behind : (p : Program) (es : List (Event Piece)) (s : State) (broken : Bool) (piece : Piece) (at : ℕ)
     → progress s broken ≡ state (proof_fold p) es
     → cond broken None (refusal_of p s piece at)
@@ -85,7 +85,7 @@ shown_behind p es s broken piece at e =
     go : (v : Bool) → cond v None (refusal_of p s piece at)
         ≡ first_shown (proofs_of p) None (refusals (against p (progress s v) piece) (position_of p s piece at))
     go true = refl
-    go false = sym (shown_kind p (against_piece p s piece) (position_of p s piece at))
+    go false = sym (shown_kind p (fault_of_piece p s piece) (position_of p s piece at))
 
 -- a fault is reported exactly if a piece has one
 refusal_is_some : (first_refusal : Option (code_fault.Fault ProofKind)) (o : Option ProofKind) (at : ℕ) → fault_of first_refusal ≡ kind_at o at → is_some first_refusal ≡ is_some o
@@ -94,7 +94,7 @@ refusal_is_some None (Some k) at e = cc
 refusal_is_some (Some x) None at e = cc
 refusal_is_some (Some x) (Some k) at e = refl
 
--- a piece is read
+-- the code's progress after one more piece
 pub progressed : (p : Program) (es : List (Event Piece)) (piece : Piece) (at : ℕ) (old new : State) (broken behind : Bool)
     (first_refusal : Option (code_fault.Fault ProofKind)) → progress old broken ≡ state (proof_fold p) es
     → new ≡ moved p piece old → fault_of first_refusal ≡ refusal_of p old piece at → behind ≡ (broken || is_some first_refusal)
@@ -102,10 +102,10 @@ pub progressed : (p : Program) (es : List (Event Piece)) (piece : Piece) (at : �
 progressed p es piece at old new broken behind first_refusal k m t b =
     ap (λ (s : State). progress s behind) m
     ∙ ap (progress (moved p piece old))
-    (b ∙ ap (λ (v : Bool). broken || v) (refusal_is_some first_refusal (against_piece p old piece) (position_of p old piece at) t))
+    (b ∙ ap (λ (v : Bool). broken || v) (refusal_is_some first_refusal (fault_of_piece p old piece) (position_of p old piece at) t))
     ∙ ap (λ (s : Progress). (proof_fold p).read piece s) k
 
--- a mark is done
+-- the code's progress after one more mark
 pub marked : (p : Program) (es : List (Event Piece)) (mark : ℕ) (old new : State) (broken : Bool)
     → progress old broken ≡ state (proof_fold p) es → new ≡ done mark old
     → progress new broken ≡ state (proof_fold p) (Did mark ∷ es)

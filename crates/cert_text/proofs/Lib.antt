@@ -1,15 +1,15 @@
--- small files worked out by hand
+-- Worked values of small files.
 pub mod WorkedTexts
 pub mod WorkedLimits
 pub mod WorkedBreaks
 pub mod WorkedFaults
 pub mod Lawful
--- reading in the code
+-- laws of the code that reads
 pub mod KeptLaws
 pub mod BoundBytes
 pub mod Judging
 pub mod TokenTextLaws
--- reading along the text of a file
+-- the text of a file is read along
 pub mod Along
 pub mod States
 pub mod Cutting
@@ -20,7 +20,7 @@ pub mod PointTexts
 pub mod InnerTexts
 pub mod NodeTexts
 pub mod FileTexts
--- backwards: bytes that were read as a file are its text, and it is within the limits
+-- bytes that were read as a file are its text, and it is within the limits
 pub mod Back
 pub mod ListsBack
 pub mod PartsBack

@@ -15,14 +15,14 @@ use Rattle.text_grammar.specs.declared.symbol.Symbol.TheVariants as item
 use Rattle.cert_lexer.specs.declared.kind.ProofKind.{ProofKind}
 use Rattle.cert_lexer.specs.declared.kind.ProofKind.TheVariants as kind
 use Rattle.cert_lexer.specs.declared.piece.Mode.TheVariants as mode
-use Rattle.cert_text.specs.Against.{or_else}
+use Rattle.cert_text.specs.NumberFaults.{or_else}
 use Rattle.cert_text.specs.Lists.{each_before, each_behind, listed, numbers_text, ending_in}
 use Rattle.cert_text.specs.Remembered.{Draft, State, in_32, in_64}
 use Rattle.cert_text.proofs.Along.{Along, Bytes, Then, becomes, flatten, makes, marks, spelled_as}
 use Rattle.cert_text.proofs.Cutting.{Within, Bare, mode_in, blank, closes, minus, number, opens, positive}
 use Rattle.cert_text.proofs.States.{Base, Last, Sure, limit_of, limit_least, limit_most, none_large, now, rule_low, st}
 
--- numbers as their types hold them
+-- a number that its type holds isn't changed by capping
 pub same_32 : (n : ℕ) → n < 2 ^ 32 → in_32 n ≡ n
 same_32 n l = omega (arith, l)
 
@@ -35,7 +35,7 @@ same_63 b n l = let m = limit_most b in omega (arith, l, m)
 pub small_number : (b : Base) (n : ℕ) → n ≤ limit_of b → n < 2 ^ 127
 small_number b n l = let m = limit_most b in omega (arith, l, m)
 
--- a number of an existing rule has no fault
+-- the number of a rule that exists has no fault
 rule_none : (p : Program) (limit r : ℕ) → r ≤ limit → IsRule p r
     → or_else (when (nat_lt limit r) kind.NumberTooLarge) (when (not (is_some (rule_at p r))) kind.BadReference) ≡ None
 rule_none p limit r l is =
@@ -44,7 +44,7 @@ rule_none p limit r l is =
     ∙ ap (λ (o : Option Rule). when (not (is_some o)) kind.BadReference) is.numbered
 
 module _ {p : Program} {ss : List Symbol} {rest : List ℕ} {Q : State → Type 0} (b : Base) (l : Last) (d : Draft) where
-  -- the number of a rule
+  -- the number of a rule is read
   pub rule : (r : ℕ) → Sure p → IsRule p r → Stops is_ascii_digit rest
       → Along p ss (st b (record l { number = r }) (record d { rule = r })) mode.Plain rest Q
       → Along p (item.Made 9 ∷ ss) (st b l d) mode.Plain (decimal r ++ rest) Q
@@ -57,7 +57,7 @@ module _ {p : Program} {ss : List Symbol} {rest : List ℕ} {Q : State → Type 
       (marks 20 (becomes (ap (λ (n : ℕ). st b (record l { number = r }) (record d { rule = n }))
       (same_32 r (omega (arith, low)))) more))))
 
-  -- one of a set
+  -- the number of a rule in a set is read
   pub set_rule : (r : ℕ) → Sure p → IsRule p r → Stops is_ascii_digit rest
       → Along p ss (st b (record l { number = r }) (record d { set = d.set ++ r ∷ [] })) mode.Plain rest Q
       → Along p (item.Made 13 ∷ ss) (st b l d) mode.Plain (decimal r ++ rest) Q
@@ -70,7 +70,7 @@ module _ {p : Program} {ss : List Symbol} {rest : List ℕ} {Q : State → Type 
       (marks 21 (becomes (ap (λ (n : ℕ). st b (record l { number = r }) (record d { set = d.set ++ n ∷ [] }))
       (same_32 r (omega (arith, low)))) more))))
 
-  -- a denominator
+  -- a denominator is read
   pub plain : (n : ℕ) → n ≤ limit_of b → Stops is_ascii_digit rest
       → Along p ss (st b (record l { number = n }) (record d { den = n })) mode.Plain rest Q
       → Along p (item.Made 10 ∷ ss) (st b l d) mode.Plain (decimal n ++ rest) Q
@@ -80,7 +80,7 @@ module _ {p : Program} {ss : List Symbol} {rest : List ℕ} {Q : State → Type 
       (marks 23 (becomes (ap (λ (m : ℕ). st b (record l { number = n }) (record d { den = m }))
       (same_64 b n small)) more))))
 
-  -- a multiplier of a list
+  -- a natural number in a list is read
   pub list_number : (n : ℕ) → n ≤ limit_of b → Stops is_ascii_digit rest
       → Along p ss (st b (record l { number = n }) (record d { numbers = d.numbers ++ n ∷ [] })) mode.Plain rest Q
       → Along p (item.Made 17 ∷ ss) (st b l d) mode.Plain (decimal n ++ rest) Q
@@ -90,7 +90,7 @@ module _ {p : Program} {ss : List Symbol} {rest : List ℕ} {Q : State → Type 
       (marks 25 (becomes (ap (λ (m : ℕ). st b (record l { number = n }) (record d { numbers = d.numbers ++ m ∷ [] }))
       (same_64 b n small)) more))))
 
-  -- a number that may have a sign
+  -- a number that may have a sign is read
   pub integer : (x : Within) (z : ℤ) → nat_abs z ≤ limit_of b → Stops is_ascii_digit rest
       → ((n : ℕ) (v : Bool) → Along p ss (st b (now l n v) (record d { integers = d.integers ++ z ∷ [] })) (mode_in x) rest Q)
       → Along p (item.Made 19 ∷ ss) (st b l d) (mode_in x) (signed_decimal z ++ rest) Q
@@ -108,24 +108,24 @@ module _ {p : Program} {ss : List Symbol} {rest : List ℕ} {Q : State → Type 
       (record d { integers = d.integers ++ neg_ℤ (pos k) ∷ [] })) (same_63 b (suc n) small))
       (more (suc n) true))))))
 
--- a blank or what closes a list stops a number
+-- a blank, or the bracket that closes a list, ends a number
 list_stops : (ws : List (List ℕ)) (rest : List ℕ)
     → Stops is_ascii_digit (each_behind (codes " ") ws ++ (93 ∷ rest))
 list_stops [] rest = refl
 list_stops (w ∷ ws) rest = refl
 
--- a word with others after it
+-- the text of a word with others after it, a blank before each
 pub word_then : (w : List ℕ) (ws : List (List ℕ)) (rest : List ℕ)
     → each_behind (codes " ") (w ∷ ws) ++ rest ≡ 32 ∷ (w ++ (each_behind (codes " ") ws ++ rest))
 word_then w ws rest = ap (λ (bs : List ℕ). 32 ∷ bs) (append_assoc w (each_behind (codes " ") ws) rest)
 
--- a list with one word at least
+-- the text of a list of at least one word
 pub words_then : (w : List ℕ) (ws : List (List ℕ)) (rest : List ℕ)
     → ((w ++ each_behind (codes " ") ws) ++ codes "]") ++ rest ≡ w ++ (each_behind (codes " ") ws ++ (93 ∷ rest))
 words_then w ws rest =
     flatten (Then (Then (Bytes w) (Bytes (each_behind (codes " ") ws))) (Bytes (codes "]"))) rest
 
--- a word with others after it, with a semicolon and a blank between
+-- the text of a word with others after it, with a semicolon and a blank before each
 pub next_then : (w : List ℕ) (ws : List (List ℕ)) (rest : List ℕ)
     → each_behind (codes "; ") (w ∷ ws) ++ rest ≡ 59 ∷ 32 ∷ (w ++ (each_behind (codes "; ") ws ++ rest))
 next_then w ws rest = ap (λ (bs : List ℕ). 59 ∷ 32 ∷ bs) (append_assoc w (each_behind (codes "; ") ws) rest)
@@ -137,7 +137,7 @@ list_then w ws rest =
     (flatten (Then (Then (Bytes w) (Bytes (each_behind (codes "; ") ws))) (Bytes (codes "]"))) rest)
 
 module _ {p : Program} {ss : List Symbol} {rest : List ℕ} {Q : State → Type 0} (sure : Sure p) (b : Base) where
-  -- further rules of a set
+  -- the further rules of a set are read
   more_rules : (rs : List ℕ) → AllByRecursion (IsRule p) rs → (l : Last) (d : Draft)
       → ((m : Last) → Along p ss (st b m (record d { set = d.set ++ rs })) mode.Plain rest Q)
       → Along p (item.Made 14 ∷ ss) (st b l d) mode.Plain (each_behind (codes " ") (map decimal rs) ++ (93 ∷ rest)) Q
@@ -151,7 +151,7 @@ module _ {p : Program} {ss : List Symbol} {rest : List ℕ} {Q : State → Type 
       (more_rules rs all.1 (record l { number = r }) (record d { set = d.set ++ r ∷ [] })
       (λ m. becomes (ap (λ (ns : List ℕ). st b m (record d { set = ns })) (append_assoc d.set (r ∷ []) rs)) (more m))))))
 
-  -- a set of rules, where none was read before
+  -- a set of rules is read
   pub rules : (rs : List ℕ) → AllByRecursion (IsRule p) rs → (l : Last) (d : Draft)
       → ((m : Last) → Along p ss (st b m (record d { set = d.set ++ rs })) mode.Plain rest Q)
       → Along p (item.Made 11 ∷ ss) (st b l d) mode.Plain (numbers_text rs ++ rest) Q
@@ -168,7 +168,7 @@ module _ {p : Program} {ss : List Symbol} {rest : List ℕ} {Q : State → Type 
       (λ m. becomes (ap (λ (ns : List ℕ). st b m (record d { set = ns })) (append_assoc d.set (r ∷ []) rs)) (more m)))))))
 
 module _ {p : Program} {ss : List Symbol} {rest : List ℕ} {Q : State → Type 0} (b : Base) where
-  -- further multipliers
+  -- the further numbers of a list are read
   more_numbers : (ns : List ℕ) → AllByRecursion (λ n. n ≤ limit_of b) ns → (l : Last) (d : Draft)
       → ((m : Last) → Along p ss (st b m (record d { numbers = d.numbers ++ ns })) mode.Plain rest Q)
       → Along p (item.Made 18 ∷ ss) (st b l d) mode.Plain (each_behind (codes " ") (map decimal ns) ++ (93 ∷ rest)) Q
@@ -184,7 +184,7 @@ module _ {p : Program} {ss : List Symbol} {rest : List ℕ} {Q : State → Type 
       (λ m. becomes (ap (λ (ks : List ℕ). st b m (record d { numbers = ks })) (append_assoc d.numbers (n ∷ []) ns))
       (more m))))))
 
-  -- a list of multipliers
+  -- a list of natural numbers is read
   pub numbers : (ns : List ℕ) → AllByRecursion (λ n. n ≤ limit_of b) ns → (l : Last) (d : Draft)
       → ((m : Last) → Along p ss (st b m (record d { numbers = ns; integers = [] })) mode.Plain rest Q)
       → Along p (item.Made 15 ∷ ss) (st b l d) mode.Plain (numbers_text ns ++ rest) Q
@@ -198,7 +198,7 @@ module _ {p : Program} {ss : List Symbol} {rest : List ℕ} {Q : State → Type 
       (list_number b l (record d { numbers = []; integers = [] }) n all.0 (list_stops (map decimal ns) rest)
       (more_numbers ns all.1 (record l { number = n }) (record d { numbers = n ∷ []; integers = [] }) more))))))
 
-  -- numbers with signs up to the last one, and what closes their list
+  -- integers up to the last one, and the bracket that closes their list, are read
   integers_from : (x : Within) (zs : List ℤ) (z : ℤ) → AllByRecursion (λ y. nat_abs y ≤ limit_of b) zs
       → nat_abs z ≤ limit_of b → (l : Last) (d : Draft)
       → ((n : ℕ) (v : Bool) → Along p ss (st b (now l n v) (record d { integers = d.integers ++ (zs ++ z ∷ []) })) mode.Plain rest
@@ -214,7 +214,7 @@ module _ {p : Program} {ss : List Symbol} {rest : List ℕ} {Q : State → Type 
       (λ k w. becomes (ap (λ (ks : List ℤ). st b (now l k w) (record d { integers = ks }))
       (append_assoc d.integers (y ∷ []) (ys ++ z ∷ []))) (more k w))))))
 
-  -- coefficients and a constant
+  -- a list of coefficients and a constant is read
   pub integers : (x : Within) (zs : List ℤ) (z : ℤ) → AllByRecursion (λ y. nat_abs y ≤ limit_of b) zs
       → nat_abs z ≤ limit_of b → (l : Last) (d : Draft)
       → ((n : ℕ) (v : Bool) → Along p ss (st b (now l n v) (record d { numbers = []; integers = zs ++ z ∷ [] })) mode.Plain rest

@@ -1,4 +1,4 @@
--- Numbers, rules and their lists that were read along bytes are what these spell.
+-- Numbers, rules and their lists that were read along bytes are spelled by them.
 use Rattle.std.proofs.Common.{◌≡◌, ℕ, zero, suc, ◌+◌, ◌-◌, ◌<◌, ◌≤◌, ◌^◌, min, Bool, true, false, cond, List, [], ◌∷◌, ◌++◌}
 use Rattle.std.proofs.Common.{length, take, drop, map, Option, Some, None, refl, ap, sym, subst, ◌∙◌, arith, inl, inr, append-nil}
 use Rattle.std.proofs.Common.{append_assoc}
@@ -31,7 +31,7 @@ use Rattle.cert_lexer.specs.Lexing.{symbol_names, symbol_of}
 use Rattle.cert_lexer.proofs.PieceClasses.{class_number}
 use Rattle.cert_lexer.proofs.CutBack.{plain_number}
 use Rattle.cert_text.specs.declared.phase.Next.TheVariants as next
-use Rattle.cert_text.specs.Against.{against_piece, or_else}
+use Rattle.cert_text.specs.NumberFaults.{fault_of_piece, or_else}
 use Rattle.cert_text.specs.Reading.{moved}
 use Rattle.cert_text.specs.Lists.{each_before, each_behind, listed, numbers_text, ending_in}
 use Rattle.cert_text.specs.Remembered.{Draft, State, in_32, in_64}
@@ -41,12 +41,12 @@ use Rattle.cert_text.proofs.Cutting.{Within, Bare, Shut, mode_in}
 use Rattle.cert_text.proofs.Listing.{list_then, next_then, same_32, same_63, same_64, small_number, word_then, words_then}
 use Rattle.cert_text.proofs.States.{Base, Last, Sure, limit_of, limit_most, now, rule_low, st}
 
--- two tests find no first fault only if neither finds one
+-- if there is no first of two kinds, there is neither
 pub or_none : (a b : Option ProofKind) → or_else a b ≡ None → (a ≡ None) × (b ≡ None)
 or_none None b h = (refl, h)
 or_none (Some k) b h = cc
 
--- a test that reports nothing fails
+-- if a test gives no kind, it fails
 pub when_none : (v : Bool) (k : ProofKind) → when v k ≡ None → v ≡ false
 when_none true k h = cc
 when_none false k h = refl
@@ -55,11 +55,11 @@ pub not_none : (v : Bool) (k : ProofKind) → when (not v) k ≡ None → v ≡ 
 not_none true k h = refl
 not_none false k h = cc
 
--- a number that isn't too large is within the limit
+-- a number that isn't reported as too large is within the limit
 pub none_small : (limit n : ℕ) → when (nat_lt limit n) kind.NumberTooLarge ≡ None → n ≤ limit
 none_small limit n h = lt_false limit n (when_none (nat_lt limit n) kind.NumberTooLarge h)
 
--- a number without a fault has a rule
+-- the number of a rule that isn't reported is that of a rule
 pub rule_there : (p : Program) (r : ℕ) → when (not (is_some (rule_at p r))) kind.BadReference ≡ None → IsRule p r
 rule_there p r h = go (rule_at p r) refl (not_none (is_some (rule_at p r)) kind.BadReference h)
   where
@@ -67,7 +67,7 @@ rule_there p r h = go (rule_at p r) refl (not_none (is_some (rule_at p r)) kind.
     go None e k = cc
     go (Some x) e k = record { rule = x; numbered = e }
 
--- where a number was found
+-- a number below 2^127 was cut from its digits
 number_cut : (p : Program) (x : Within) (b : ℕ) (bytes : List ℕ) (n some : ℕ) → n < 2 ^ 127
     → (lexer_of p).lexeme_in (mode_in x) b bytes ≡ record { piece = Some (Number n); len = suc some }
     → b ∷ bytes ≡ decimal n ++ drop some bytes
@@ -93,12 +93,12 @@ number_cut p Shut b bytes n some small h = go (begins_name b) h
         (ap (λ (l : Lexeme (Option Piece)). l.piece) e))
     go false e = plain_number (symbol_names p) b bytes n some small e
 
--- after a number the mode is the same
+-- the mode after a number is that before it
 number_mode : (x : Within) (n : ℕ) → mode_with (mode_in x) (Number n) ≡ mode_in x
 number_mode Bare n = refl
 number_mode Shut n = refl
 
--- the closing bracket of a list ends the mode of shut places, and other bytes don't
+-- the closing bracket of a list ends the mode of shut places
 close_mode : (x : Within) → mode_with (mode_in x) (ASign sign.CloseSquare) ≡ mode.Plain
 close_mode Bare = refl
 close_mode Shut = refl
@@ -111,30 +111,30 @@ open_mode : (x : Within) → mode_with (mode_in x) (ASign sign.OpenSquare) ≡ m
 open_mode Bare = refl
 open_mode Shut = refl
 
--- the numbers of a class from 29 on aren't 0
+-- numbers of the classes from 29 on aren't 0
 some_number : (n : ℕ) → 29 ≤ class_of_number n → 1 ≤ n
 some_number zero h = absurd (omega (arith, h))
 some_number (suc n) h = omega arith
 
 module _ {p : Program} {ss : List Symbol} {s : State} {whole : List ℕ} {Q : State → Type 0} {R : Type 0} (x : Within)
-    (small : (n : ℕ) → against_piece p s (Number n) ≡ None → n < 2 ^ 127) where
-  -- a number of a class
+    (small : (n : ℕ) → fault_of_piece p s (Number n) ≡ None → n < 2 ^ 127) where
+  -- a number of this class that was read is spelled by its digits
   class_back : (c : ℕ) → Along p (item.Piece (class_of_number c) ∷ ss) s (mode_in x) whole Q
-      → ((n : ℕ) (rest : List ℕ) → against_piece p s (Number n) ≡ None → class_of_number n ≡ class_of_number c
+      → ((n : ℕ) (rest : List ℕ) → fault_of_piece p s (Number n) ≡ None → class_of_number n ≡ class_of_number c
       → whole ≡ decimal n ++ rest
       → Along p ss (record s { number = n; coming = next.Nothing }) (mode_in x) rest Q → R) → R
   class_back c a k = read_back (class_of_number c) a (λ q rest is none cut more.
       let f = class_number q c is in
-      let none' : against_piece p s (Number f.0) ≡ None = subst (λ (y : Piece). against_piece p s y ≡ None) f.1 none in
+      let none' : fault_of_piece p s (Number f.0) ≡ None = subst (λ (y : Piece). fault_of_piece p s y ≡ None) f.1 none in
       let b = number_cut p x cut.first cut.others f.0 cut.some (small f.0 none')
       (cut.cut ∙ ap (λ (y : Piece). record { piece = Some y; len = suc cut.some }) f.1) in
       k f.0 rest none' f.2 (cut.begins ∙ b ∙ ap (λ (bs : List ℕ). decimal f.0 ++ bs) cut.behind)
       (mode_to (number_mode x f.0)
       (subst (λ (y : Piece). Along p ss (moved p y s) (mode_with (mode_in x) y) rest Q) f.1 more)))
 
-  -- any number, and one from 1 on
+  -- a number that was read, any or one from 1 on, is spelled by its digits
   pub number_back : Along p (item.Made 8 ∷ ss) s (mode_in x) whole Q
-      → ((n : ℕ) (rest : List ℕ) → against_piece p s (Number n) ≡ None → whole ≡ decimal n ++ rest
+      → ((n : ℕ) (rest : List ℕ) → fault_of_piece p s (Number n) ≡ None → whole ≡ decimal n ++ rest
       → Along p ss (record s { number = n; coming = next.Nothing }) (mode_in x) rest Q → R) → R
   number_back a k =
       made_back 8 ((item.Piece 28 ∷ []) ∷ (item.Piece 29 ∷ []) ∷ (item.Piece 30 ∷ []) ∷ (item.Piece 31 ∷ []) ∷ []) refl a (
@@ -149,7 +149,7 @@ module _ {p : Program} {ss : List Symbol} {s : State} {whole : List ℕ} {Q : St
       )
 
   pub positive_back : Along p (item.Made 20 ∷ ss) s (mode_in x) whole Q
-      → ((n : ℕ) (rest : List ℕ) → 1 ≤ n → against_piece p s (Number n) ≡ None → whole ≡ decimal n ++ rest
+      → ((n : ℕ) (rest : List ℕ) → 1 ≤ n → fault_of_piece p s (Number n) ≡ None → whole ≡ decimal n ++ rest
       → Along p ss (record s { number = n; coming = next.Nothing }) (mode_in x) rest Q → R) → R
   positive_back a k =
       made_back 20 ((item.Piece 29 ∷ []) ∷ (item.Piece 30 ∷ []) ∷ (item.Piece 31 ∷ []) ∷ []) refl a (
@@ -160,7 +160,7 @@ module _ {p : Program} {ss : List Symbol} {s : State} {whole : List ℕ} {Q : St
         ),
       )
 
--- the number of a rule that there is, and one that isn't too large, is small
+-- the number of a rule, within the limit, is unchanged by capping
 rule_small : (p : Program) (b : Base) (n : ℕ) → or_else (when (nat_lt (limit_of b) n) kind.NumberTooLarge)
     (when (not (is_some (rule_at p n))) kind.BadReference) ≡ None → n < 2 ^ 127
 rule_small p b n h =
@@ -174,7 +174,7 @@ number_small b n h = let m = limit_most b in let k = none_small (limit_of b) n h
 
 module _ {p : Program} {ss : List Symbol} {whole : List ℕ} {Q : State → Type 0} {R : Type 0} (b : Base) (l : Last) (d : Draft)
   where
-    -- the number of a rule
+    -- the number of a rule that was read is spelled by its digits
     pub rule_back : Sure p → Along p (item.Made 9 ∷ ss) (st b l d) mode.Plain whole Q
         → ((r : ℕ) (rest : List ℕ) → IsRule p r → whole ≡ decimal r ++ rest
         → Along p ss (st b (record l { number = r }) (record d { rule = r })) mode.Plain rest Q → R) → R
@@ -191,7 +191,7 @@ module _ {p : Program} {ss : List Symbol} {whole : List ℕ} {Q : State → Type
           tt,
         )
 
-    -- one of a set
+    -- the number of a rule in a set that was read is spelled by its digits
     pub set_rule_back : Sure p → Along p (item.Made 13 ∷ ss) (st b l d) mode.Plain whole Q
         → ((r : ℕ) (rest : List ℕ) → IsRule p r → whole ≡ decimal r ++ rest
         → Along p ss (st b (record l { number = r }) (record d { set = d.set ++ r ∷ [] })) mode.Plain rest Q → R) → R
@@ -208,7 +208,7 @@ module _ {p : Program} {ss : List Symbol} {whole : List ℕ} {Q : State → Type
           tt,
         )
 
-    -- a denominator
+    -- a denominator that was read is spelled by its digits
     pub plain_back : Along p (item.Made 10 ∷ ss) (st b l d) mode.Plain whole Q
         → ((n : ℕ) (rest : List ℕ) → n ≤ limit_of b → whole ≡ decimal n ++ rest
         → Along p ss (st b (record l { number = n }) (record d { den = n })) mode.Plain rest Q → R) → R
@@ -222,7 +222,7 @@ module _ {p : Program} {ss : List Symbol} {whole : List ℕ} {Q : State → Type
           tt,
         )
 
-    -- a multiplier of a list
+    -- a natural number in a list that was read is spelled by its digits
     pub list_number_back : Along p (item.Made 17 ∷ ss) (st b l d) mode.Plain whole Q
         → ((n : ℕ) (rest : List ℕ) → n ≤ limit_of b → whole ≡ decimal n ++ rest
         → Along p ss (st b (record l { number = n }) (record d { numbers = d.numbers ++ n ∷ [] })) mode.Plain rest Q → R) → R
@@ -236,7 +236,7 @@ module _ {p : Program} {ss : List Symbol} {whole : List ℕ} {Q : State → Type
           tt,
         )
 
-    -- a number that may have a sign
+    -- a number that may have a sign that was read is spelled by the bytes
     pub integer_back : (x : Within) → Along p (item.Made 19 ∷ ss) (st b l d) (mode_in x) whole Q
         → ((z : ℤ) (n : ℕ) (v : Bool) (rest : List ℕ) → nat_abs z ≤ limit_of b → whole ≡ signed_decimal z ++ rest
         → Along p ss (st b (now l n v) (record d { integers = d.integers ++ z ∷ [] })) (mode_in x) rest Q → R) → R
@@ -270,7 +270,7 @@ module _ {p : Program} {ss : List Symbol} {whole : List ℕ} {Q : State → Type
             (record d { integers = d.integers ++ neg_ℤ (pos j) ∷ [] })) (same_63 b (suc n) small)) y)
 
 module _ {p : Program} {ss : List Symbol} {Q : State → Type 0} {R : Type 0} (sure : Sure p) (b : Base) where
-  -- further rules of a set
+  -- the further rules of a set that were read are spelled by the bytes
   more_rules_back : (f : ℕ) {whole : List ℕ} → length whole < f → (l : Last) (d : Draft)
       → Along p (item.Made 14 ∷ ss) (st b l d) mode.Plain whole Q
       → ((rs : List ℕ) (m : Last) (rest : List ℕ) → AllByRecursion (IsRule p) rs
@@ -292,7 +292,7 @@ module _ {p : Program} {ss : List Symbol} {Q : State → Type 0} {R : Type 0} (s
         ),
       )
 
-  -- a set of rules
+  -- a set of rules that was read is spelled by the bytes
   pub rules_back : {whole : List ℕ} (l : Last) (d : Draft) → Along p (item.Made 11 ∷ ss) (st b l d) mode.Plain whole Q
       → ((rs : List ℕ) (m : Last) (rest : List ℕ) → AllByRecursion (IsRule p) rs → whole ≡ numbers_text rs ++ rest
       → Along p ss (st b m (record d { set = d.set ++ rs })) mode.Plain rest Q → R) → R
@@ -316,7 +316,7 @@ module _ {p : Program} {ss : List Symbol} {Q : State → Type 0} {R : Type 0} (s
       )
 
 module _ {p : Program} {ss : List Symbol} {Q : State → Type 0} {R : Type 0} (b : Base) where
-  -- further multipliers
+  -- the further numbers of a list that were read are spelled by the bytes
   more_numbers_back : (f : ℕ) {whole : List ℕ} → length whole < f → (l : Last) (d : Draft)
       → Along p (item.Made 18 ∷ ss) (st b l d) mode.Plain whole Q
       → ((ns : List ℕ) (m : Last) (rest : List ℕ) → AllByRecursion (λ n. n ≤ limit_of b) ns
@@ -339,7 +339,7 @@ module _ {p : Program} {ss : List Symbol} {Q : State → Type 0} {R : Type 0} (b
         ),
       )
 
-  -- a list of multipliers
+  -- a list of natural numbers that was read is spelled by the bytes
   pub numbers_back : {whole : List ℕ} (l : Last) (d : Draft) → Along p (item.Made 15 ∷ ss) (st b l d) mode.Plain whole Q
       → ((ns : List ℕ) (m : Last) (rest : List ℕ) → AllByRecursion (λ n. n ≤ limit_of b) ns → whole ≡ numbers_text ns ++ rest
       → Along p ss (st b m (record d { numbers = ns; integers = [] })) mode.Plain rest Q → R) → R
@@ -360,7 +360,7 @@ module _ {p : Program} {ss : List Symbol} {Q : State → Type 0} {R : Type 0} (b
         tt,
       )
 
-  -- further numbers with signs, and what closes their list
+  -- the further integers that were read, with the bracket that closes their list, are spelled by the bytes
   more_integers_back : (f : ℕ) {whole : List ℕ} → length whole < f → (x : Within) (l : Last) (d : Draft)
       → Along p (item.Made 19 ∷ item.Made 22 ∷ ss) (st b l d) (mode_in x) whole Q
       → ((zs : List ℤ) (z : ℤ) (n : ℕ) (v : Bool) (rest : List ℕ) → AllByRecursion (λ y. nat_abs y ≤ limit_of b) zs
@@ -386,7 +386,7 @@ module _ {p : Program} {ss : List Symbol} {Q : State → Type 0} {R : Type 0} (b
         ),
       ))
 
-  -- coefficients and a constant
+  -- a list of coefficients and a constant that was read is spelled by the bytes
   pub integers_back : {whole : List ℕ} (x : Within) (l : Last) (d : Draft)
       → Along p (item.Made 21 ∷ ss) (st b l d) (mode_in x) whole Q
       → ((zs : List ℤ) (z : ℤ) (n : ℕ) (v : Bool) (rest : List ℕ) → AllByRecursion (λ y. nat_abs y ≤ limit_of b) zs

@@ -26,17 +26,17 @@ use Rattle.cert_text.proofs.Listing.{list_then, next_then, numbers, rule, same_3
 use Rattle.cert_text.proofs.PartTexts.{Scratch, side_bound, fine, place_none, placed, scratch}
 use Rattle.cert_text.proofs.States.{Base, Last, Sure, limit_of, limit_least, st}
 
--- the rule of a place is one
+-- the rule of an existing place exists
 result_variable_rule : (p : Program) (sp : ResultVariable) → IsResultVariableOf p sp → IsRule p sp.rule
 result_variable_rule p sp h = record { rule = h.rule; numbered = h.numbered }
 
--- a place is low
+-- the number of an existing place is at most 32
 pub result_variable_low : (p : Program) (sp : ResultVariable) → Sure p → IsResultVariableOf p sp → sp.place ≤ 32
 result_variable_low p sp sure h = let m = h.most in let f = sure.few_places h.rule.target in omega (arith, m, f)
 
 module _ {p : Program} {ss : List Symbol} {rest : List ℕ} {Q : State → Type 0} (sure : Sure p) (b : Base)
     (outside : b.in_gap ≡ false) where
-  -- both side bounds of a place
+  -- both side bounds of a place are read
   side_bounds : (m : Member) → IsMemberWithin p m → Stops continues_name rest → (l : Last) (g : Scratch) (d : Draft)
       → ((n : Last) (h : Scratch) → Along p ss
       (st b n (placed h m.result_variable.rule m.result_variable (record d { members = d.members ++ m ∷ [] }))) mode.Plain rest Q)
@@ -54,7 +54,7 @@ module _ {p : Program} {ss : List Symbol} {rest : List ℕ} {Q : State → Type 
       (record (placed k m.result_variable.rule m.result_variable d) { up = m.local.up })
       (λ o j. marks 34 (more o j))))))))))
 
-  -- a place with its local bound
+  -- a place with its local bound is read
   pub member : (m : Member) → IsMemberWithin p m → Stops continues_name rest → (l : Last) (g : Scratch) (r : ℕ)
       (sp : ResultVariable) (d : Draft)
       → ((n : Last) (h : Scratch) → Along p ss
@@ -83,7 +83,7 @@ members_stop (w ∷ ws) rest = refl
 
 module _ {p : Program} {ss : List Symbol} {rest : List ℕ} {Q : State → Type 0} (sure : Sure p) (b : Base)
     (outside : b.in_gap ≡ false) where
-  -- further places
+  -- the further places of a loop are read
   more_members : (ms : List Member) → AllByRecursion (IsMemberWithin p) ms → (l : Last) (g : Scratch) (r : ℕ) (sp : ResultVariable)
       (d : Draft)
       → ((n : Last) (h : Scratch) (k : ℕ) (sq : ResultVariable) → Along p ss
@@ -102,7 +102,7 @@ module _ {p : Program} {ss : List Symbol} {rest : List ℕ} {Q : State → Type 
       (λ o i k sq. becomes (ap (λ (ks : List Member). st b o (placed i k sq (record d { members = ks })))
       (append_assoc d.members (m ∷ []) ms)) (more o i k sq)))))))
 
-  -- the places of a loop
+  -- the places of a loop are read
   pub members : (ms : List Member) → 1 ≤ length ms → AllByRecursion (IsMemberWithin p) ms → (l : Last) (g : Scratch)
       (r : ℕ) (sp : ResultVariable) (d : Draft)
       → ((n : Last) (h : Scratch) (k : ℕ) (sq : ResultVariable) → Along p ss
@@ -117,7 +117,7 @@ module _ {p : Program} {ss : List Symbol} {rest : List ℕ} {Q : State → Type 
       (λ o i k sq. becomes (ap (λ (ks : List Member). st b o (placed i k sq (record d { members = ks })))
       (append_assoc d.members (m ∷ []) ms)) (more o i k sq)))))
 
-  -- how the cost of a rule is shown
+  -- how the cost of a rule is shown is read
   pub by : (y : CostBy) → IsCostByWithin y → Stops continues_name rest → (l : Last) (r : ℕ)
       → ((n : Last) (g : Scratch) → Along p ss
       (st b n (scratch g (record no_draft { rule = r; by = y }))) mode.Plain rest Q)

@@ -1,4 +1,4 @@
--- Places with their local bounds, and how costs are shown, that were read along bytes are what these spell.
+-- Places with their local bounds, and how costs are shown, that were read along bytes are spelled by them.
 use Rattle.std.proofs.Common.{◌≡◌, ℕ, zero, suc, ◌≤◌, ◌<◌, ◌^◌, false, List, [], ◌∷◌, ◌++◌, map, length, None, refl, ap, sym}
 use Rattle.std.proofs.Common.{subst, ◌∙◌, arith, inl, inr, append-nil, append_assoc}
 use Rattle.std.specs.Prelude.{codes, nat_lt, not}
@@ -14,7 +14,7 @@ use Rattle.cert_lexer.specs.declared.kind.ProofKind.TheVariants as kind
 use Rattle.cert_lexer.specs.declared.piece.Word.TheVariants as word
 use Rattle.cert_lexer.specs.declared.piece.Sign.TheVariants as sign
 use Rattle.cert_lexer.specs.declared.piece.Mode.TheVariants as mode
-use Rattle.cert_text.specs.Against.{has_place, or_else}
+use Rattle.cert_text.specs.NumberFaults.{has_place, or_else}
 use Rattle.cert_text.specs.Lists.{each_behind, listed, numbers_text}
 use Rattle.cert_text.specs.Remembered.{Draft, State, no_draft}
 use Rattle.cert_text.specs.Spelled.{IsCostByWithin, IsMemberWithin}
@@ -29,7 +29,7 @@ use Rattle.cert_text.proofs.PartTexts.{Scratch, placed, scratch}
 use Rattle.cert_text.proofs.PartsBack.{side_bound_back, numbers_within, place_there}
 use Rattle.cert_text.proofs.States.{Base, Last, Sure, limit_of, limit_most, st}
 
--- a place that isn't too large is small
+-- the number of a place, within the limit, is unchanged by capping
 place_small : (p : Program) (b : Base) (r n : ℕ) → or_else (when (nat_lt (limit_of b) n) kind.NumberTooLarge)
     (when (not (has_place p (rule_at p r) n)) kind.BadReference) ≡ None → n < 2 ^ 127
 place_small p b r n h =
@@ -41,7 +41,7 @@ place_small p b r n h =
 
 module _ {p : Program} {ss : List Symbol} {Q : State → Type 0} {R : Type 0} (sure : Sure p) (b : Base)
     (outside : b.in_gap ≡ false) where
-  -- a place with its local bound
+  -- a place with its local bound that was read is spelled by the bytes
   pub member_back : {whole : List ℕ} (l : Last) (g : Scratch) (r : ℕ) (sp : ResultVariable) (d : Draft)
       → Along p (item.Made 28 ∷ ss) (st b l (placed g r sp d)) mode.Plain whole Q
       → ((m : Member) (n : Last) (h : Scratch) (rest : List ℕ) → IsMemberWithin p m → whole ≡ member_text m ++ rest
@@ -83,7 +83,7 @@ module _ {p : Program} {ss : List Symbol} {Q : State → Type 0} {R : Type 0} (s
 
 module _ {p : Program} {ss : List Symbol} {Q : State → Type 0} {R : Type 0} (sure : Sure p) (b : Base)
     (outside : b.in_gap ≡ false) where
-  -- further places
+  -- the further places of a loop that were read are spelled by the bytes
   pub more_members_back : (f : ℕ) {whole : List ℕ} → length whole < f → (l : Last) (g : Scratch) (r : ℕ) (sp : ResultVariable) (d : Draft)
       → Along p (item.Made 29 ∷ ss) (st b l (placed g r sp d)) mode.Plain whole Q
       → ((ms : List Member) (n : Last) (h : Scratch) (j : ℕ) (sq : ResultVariable) (rest : List ℕ)
@@ -110,7 +110,7 @@ module _ {p : Program} {ss : List Symbol} {Q : State → Type 0} {R : Type 0} (s
         ),
       )
 
-  -- the places of a loop
+  -- the places of a loop that were read are spelled by the bytes
   pub members_back : {whole : List ℕ} (l : Last) (g : Scratch) (r : ℕ) (sp : ResultVariable) (d : Draft)
       → Along p (item.Piece 34 ∷ item.Made 28 ∷ item.Made 29 ∷ ss) (st b l (placed g r sp d)) mode.Plain whole Q
       → ((ms : List Member) (n : Last) (h : Scratch) (j : ℕ) (sq : ResultVariable) (rest : List ℕ) → 1 ≤ length ms
@@ -125,7 +125,7 @@ module _ {p : Program} {ss : List Symbol} {Q : State → Type 0} {R : Type 0} (s
       (turned_to (ap (λ (ks : List Member). st b o (placed i j sq (record d { members = ks })))
       (append_assoc d.members (m ∷ []) ms)) u))))
 
-  -- how the cost of a rule is shown
+  -- how the cost of a rule is shown, if it was read, is spelled by the bytes
   pub by_back : {whole : List ℕ} (l : Last) (r : ℕ)
       → Along p (item.Made 31 ∷ ss) (st b l (record no_draft { rule = r })) mode.Plain whole Q
       → ((y : CostBy) (n : Last) (g : Scratch) (rest : List ℕ) → IsCostByWithin y → whole ≡ cost_by_text y ++ rest

@@ -1,4 +1,4 @@
--- Nodes with all that they rest on are read along their texts.
+-- Nodes with all of their premises are read along their texts.
 use Rattle.std.proofs.Common.{◌≡◌, ℕ, suc, ◌+◌, ◌-◌, ◌<◌, ◌≤◌, ◌^◌, Bool, true, false, List, [], ◌∷◌, ◌++◌, length, map}
 use Rattle.std.proofs.Common.{None, refl, ap, sym, ◌∙◌, arith, inl, inr, append-nil, append_assoc}
 use Rattle.std.specs.Prelude.{nat_lt, nat_le, ◌||◌, ◌&&◌, not, codes, All, Option}
@@ -30,7 +30,7 @@ use Rattle.cert_lexer.specs.declared.piece.Mode.TheVariants as mode
 use Rattle.cert_lexer.specs.Grammar.{class_of_word}
 use Rattle.cert_lexer.specs.Lexing.{ends_bound, mode_with, symbol_names, symbol_of, word_of}
 use Rattle.cert_text.specs.declared.phase.Next.TheVariants as next
-use Rattle.cert_text.specs.Against.{against_node, or_else}
+use Rattle.cert_text.specs.NumberFaults.{fault_of_node, or_else}
 use Rattle.cert_text.specs.Lists.{listed, numbers_text}
 use Rattle.cert_text.specs.Remembered.{Draft, Inside, State, in_64, no_draft}
 use Rattle.cert_text.specs.Spelled.{AreProofsWithin, IsProofWithin, IsMemberWithin}
@@ -58,7 +58,7 @@ byte_of Semi = 59
 byte_of Brace = 125
 byte_of Bracket = 41
 
--- it ends a bound, a name and a number
+-- the piece after a node ends a bound, a name and a number
 ender_ends : (e : Ender) → ends_bound 0 (byte_of e) ≡ true
 ender_ends Feed = refl
 ender_ends Semi = refl
@@ -77,7 +77,7 @@ name_stops e others = (ender_closes e others).0
 digit_stops : (e : Ender) (others : List ℕ) → Stops is_ascii_digit (byte_of e ∷ others)
 digit_stops e others = (ender_closes e others).1
 
--- uses stop a name and a number
+-- the premises of a node end a name and a number
 uses_name : (p : Program) (us : Proofs) (rest : List ℕ) → Stops continues_name (uses_text p us ++ rest)
 uses_name p NoProof rest = refl
 uses_name p (AndProof v us) rest = refl
@@ -86,7 +86,7 @@ uses_digit : (p : Program) (us : Proofs) (rest : List ℕ) → Stops is_ascii_di
 uses_digit p NoProof rest = refl
 uses_digit p (AndProof v us) rest = refl
 
--- nodes as a list
+-- derivations as a list
 abbrev pub list_in : Proofs → List Proof
 list_in NoProof = []
 list_in (AndProof v us) = v ∷ list_in us
@@ -95,7 +95,7 @@ pub uses_same : (us : Proofs) → uses_of (list_in us) ≡ us
 uses_same NoProof = refl
 uses_same (AndProof v us) = ap (λ (ws : Proofs). AndProof v ws) (uses_same us)
 
--- tests
+-- the disjunction with false is the other test
 pub or_false : (a : Bool) → a ≡ (a || false)
 or_false true = refl
 or_false false = refl
@@ -116,11 +116,11 @@ pub or_right : (a b : Bool) → b ≡ true → (a || b) ≡ true
 or_right true b h = refl
 or_right false b h = h
 
--- one level deeper
+-- the state one level deeper
 abbrev pub deeper : Base → Base
 deeper b = record b { levels = suc b.levels }
 
--- a node that costs, or doesn't
+-- the state after a node that is on a cost or isn't
 abbrev pub paid : Base → Bool → Base
 paid b v = record b { paid = v }
 
@@ -128,7 +128,7 @@ paid b v = record b { paid = v }
 deep_none : (level : ℕ) → level ≤ 64 → when (nat_lt 64 level) kind.TooDeep ≡ None
 deep_none level l = ap (λ (v : Bool). when v kind.TooDeep) (false_lt 64 level l)
 
--- an earlier lemma has no fault
+-- the number of an earlier lemma has no fault
 lemma_none : (limit count n : ℕ) → n ≤ limit → 1 ≤ n → n ≤ count
     → or_else (when (nat_lt limit n) kind.NumberTooLarge) (when (not (nat_lt 0 n && nat_le n count)) kind.BadReference)
     ≡ None
@@ -139,7 +139,7 @@ lemma_none limit count n small some few =
     (none_large limit n small)
     ∙ ap (λ (v : Bool). when (not v) kind.BadReference) (both_true (nat_lt 0 n) (nat_le n count) first last)
 
--- where a node ends, the level is the one round it
+-- after a node the level is the one around it
 pub ended : (b : Base) (v w : Bool) (m : Last) (u : Proof) → v ≡ w
     → st (record (paid b v) { levels = suc b.levels - 1 }) (record m { node = u; bound = Constant 0 }) no_draft
     ≡ st (paid b w) (record m { node = u; bound = Constant 0 }) no_draft
@@ -152,7 +152,7 @@ module _ {p : Program} {ss : List Symbol} {rest : List ℕ} {Q : State → Type 
   -- a node begins with its word
   begins : (c : ℕ) (others : List ℕ) → suc b.levels ≤ 64 → begins_name c ≡ true → list_all continues_name others ≡ true
       → Stops continues_name rest
-      → against_node (record (st (deeper b) l no_draft) { coming = next.Node }) (word_of (c ∷ others)) ≡ None
+      → fault_of_node (record (st (deeper b) l no_draft) { coming = next.Node }) (word_of (c ∷ others)) ≡ None
       → Along p ss (st (deeper b) (record l { symbol = symbol_of (symbol_names p) (c ∷ others) }) no_draft)
       (mode_with mode.Plain (named p c others)) rest Q
       → Along p (item.Mark 4 ∷ item.Piece (class_of_word (word_of (c ∷ others))) ∷ ss) (st b l d) mode.Plain
@@ -162,7 +162,7 @@ module _ {p : Program} {ss : List Symbol} {rest : List ℕ} {Q : State → Type 
       marks 4 (becomes (ap (λ (n : ℕ). record (st (record b { levels = n }) l no_draft) { coming = next.Node }) more_levels)
       (word c others first all stops none more))
 
--- the bytes after the remaining uses
+-- the bytes after the premises that are left
 record Tail (bytes : List ℕ) : Type 0 where
   pub ender : Ender
   pub others : List ℕ
@@ -172,7 +172,7 @@ tail_of : (p : Program) (us : Proofs) (rest : List ℕ) → Tail (more_uses_text
 tail_of p NoProof rest = record { ender = Brace; others = rest; is = refl }
 tail_of p (AndProof v us) rest = record { ender = Semi; others = _; is = refl }
 
--- lists of multipliers within the limit
+-- lists of multipliers that are within the limit by `All` are so by recursion
 each_list : (nss : List (List ℕ)) → All AreInLimit nss
     → AllByRecursion (AllByRecursion (λ n. n ≤ certificate_limit)) nss
 each_list nss h = go nss (all-from AreInLimit nss h)
@@ -184,7 +184,7 @@ each_list nss h = go nss (all-from AreInLimit nss h)
 
 module _ {p : Program} (sure : Sure p) where
   mutual
-    -- a node is read
+    -- a node with all of its premises is read
     pub node : (v : Proof) {ss : List Symbol} {Q : State → Type 0} (b : Base) (l : Last) (d : Draft) (e : Ender)
         (others : List ℕ) → b.in_gap ≡ false → length b.lemmas ≤ 100000
         → IsProofWithin p (length b.lemmas) (suc b.levels) v → (has_cost v ≡ true → b.priced ≡ true)
@@ -364,7 +364,7 @@ module _ {p : Program} (sure : Sure p) where
         ∙ ended b true (b.paid || true) m4 (Charge n us) (or_true b.paid))
         (more (record m4 { node = Charge n us; bound = Constant 0 }) no_draft AtPlain refl))))))))))
 
-    -- the uses of a node are read
+    -- the premises of a node are read
     uses : (us : Proofs) {ss : List Symbol} {Q : State → Type 0} (b : Base) (l : Last) (d : Draft) (rest : List ℕ)
         → b.in_gap ≡ false → length b.lemmas ≤ 100000 → AreProofsWithin p (length b.lemmas) (suc b.levels) us
         → (have_cost us ≡ true → b.priced ≡ true)
@@ -398,7 +398,7 @@ module _ {p : Program} (sure : Sure p) where
         (λ n. becomes (ap (λ (w : Bool). st (paid b w) n (record d { uses = v ∷ list_in us }))
         (or_assoc b.paid (has_cost v) (have_cost us))) (more n)))))))))))))))
 
-    -- the uses that are left are read
+    -- the premises that are left are read
     more_uses : (us : Proofs) {ss : List Symbol} {Q : State → Type 0} (b : Base) (l : Last) (g : Draft) (k : Ending)
         (d : Draft) (xs : List Proof) (q : Bool) (rest : List ℕ) → b.in_gap ≡ false → length b.lemmas ≤ 100000
         → AreProofsWithin p (length b.lemmas) (suc b.levels) us → (have_cost us ≡ true → b.priced ≡ true)

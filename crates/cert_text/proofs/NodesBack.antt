@@ -1,4 +1,4 @@
--- Nodes with all that they rest on that were read along bytes are what these spell.
+-- Nodes with all of their premises that were read along bytes are spelled by them.
 use Rattle.std.proofs.Common.{◌≡◌, ℕ, zero, suc, ◌+◌, ◌-◌, ◌<◌, ◌≤◌, ◌^◌, min, Bool, true, false, List, [], ◌∷◌, ◌++◌, length}
 use Rattle.std.proofs.Common.{length-append, map, None, refl, ap, sym, subst, ◌∙◌, arith, inl, inr, append-nil, append_assoc}
 use Rattle.std.specs.Prelude.{nat_lt, nat_le, ◌||◌, ◌&&◌, not, codes}
@@ -29,7 +29,7 @@ use Rattle.cert_lexer.specs.Grammar.{class_of_word}
 use Rattle.cert_lexer.specs.Lexing.{mode_with}
 use Rattle.cert_lexer.proofs.CutBack.{bytes_of_word}
 use Rattle.cert_text.specs.declared.phase.Next.TheVariants as next
-use Rattle.cert_text.specs.Against.{is_cost, or_else}
+use Rattle.cert_text.specs.NumberFaults.{is_cost, or_else}
 use Rattle.cert_text.specs.Lists.{listed, numbers_text}
 use Rattle.cert_text.specs.Remembered.{Draft, Inside, State, in_64, no_draft}
 use Rattle.cert_text.specs.Spelled.{AreProofsWithin, IsProofWithin, IsMemberWithin, IsSymbolFormWithin}
@@ -47,7 +47,7 @@ use Rattle.cert_text.proofs.NodeTexts.{deeper, ended, list_in, or_assoc, or_fals
 use Rattle.cert_text.proofs.PartsBack.{forms_back, in_limit, moves_back, numbers_within}
 use Rattle.cert_text.proofs.States.{Base, Last, Sure, limit_of, st}
 
--- the end of a node: a bracket, a bound, or another piece
+-- how a node ended: with a bracket, a bound, or another piece
 pub data Ended : Type 0 where
   AtPlain : Ended
   AtClosed : Ended
@@ -79,12 +79,12 @@ bracket_mode AtPlain = refl
 bracket_mode AtClosed = refl
 bracket_mode (AtBound depth) = refl
 
--- of two tests that say the same
+-- a result from either of two tests that pass, if their disjunction passes
 either : {X : Type 0} (a b : Bool) → (a ≡ true → X) → (b ≡ true → X) → (a || b) ≡ true → X
 either true b f g h = f refl
 either false b f g h = g h
 
--- a number of an earlier lemma
+-- a number without a fault is that of an earlier lemma
 lemma_there : (limit count n : ℕ)
     → or_else (when (nat_lt limit n) kind.NumberTooLarge) (when (not (nat_lt 0 n && nat_le n count)) kind.BadReference)
     ≡ None → (1 ≤ n) × (n ≤ count)
@@ -95,14 +95,14 @@ lemma_there limit count n h =
     let some = t.0 in
     ((let l : 1 ≤ n = grind (arith, nat_tests) in l), leb-true n count t.1)
 
--- costs are priced
+-- a node on costs has no fault only under version 2
 priced_so : (v : Bool) → (true && not v) ≡ false → v ≡ true
 priced_so true h = refl
 priced_so false h = cc
 
 module _ {p : Program} {ss : List Symbol} {whole : List ℕ} {Q : State → Type 0} {R : Type 0} (b : Base) (l : Last) (d : Draft)
   where
-    -- a node begins with its word, at a level that isn't too deep
+    -- a node that was read begins with its word, at a level that isn't too deep
     begin_back : (w : Word) → ¬ (w ≡ word.Other)
         → Along p (item.Mark 4 ∷ item.Piece (class_of_word w) ∷ ss) (st b l d) mode.Plain whole Q
         → ((symbol : ℕ) (rest : List ℕ) → suc b.levels ≤ 64 → (is_cost w && not b.priced) ≡ false
@@ -117,7 +117,7 @@ module _ {p : Program} {ss : List Symbol} {whole : List ℕ} {Q : State → Type
         k symbol rest level (when_none (is_cost w && not b.priced) kind.Syntax f.0) e
         (turned_to (ap (λ (n : ℕ). st (record b { levels = n }) (record l { symbol = symbol }) no_draft) same) x))
 
--- no piece of a bound follows uses
+-- no piece of a bound follows premises
 ends_more : {p : Program} {ss : List Symbol} {Q : State → Type 0} → Ends p (item.Made 7 ∷ ss) Q
 ends_more s m whole first others q len last e f a =
     made_back 7 ((item.Piece 37 ∷ []) ∷ (item.Piece 40 ∷ item.Piece 32 ∷ item.Made 4 ∷ item.Mark 17 ∷ item.Made 7 ∷ []) ∷ [])
@@ -133,7 +133,7 @@ NodeRead p ss Q R b whole =
     → (has_cost v ≡ true → b.priced ≡ true) → m.node ≡ v → whole ≡ node_text p v ++ rest
     → Along p ss (st (paid b (b.paid || has_cost v)) m g) (mode_of k) rest Q → R
 
--- the parts of a ranking node in order
+-- the text of a ranking node, part by part
 abbrev RankFlat : Program → RankNode → List ℕ → List ℕ
 RankFlat p n rest =
     codes "rank " ++ (decimal n.rule ++ (codes " set " ++ (numbers_text n.set ++ (codes " den " ++ (decimal n.den
@@ -157,7 +157,7 @@ rank_few {whole} p f n rest few e =
 
 module _ {p : Program} {Q : State → Type 0} {R : Type 0} (sure : Sure p) where
   mutual
-    -- a node was read
+    -- a node that was read is spelled by the bytes, and within the limits
     pub node_back : (f : ℕ) {ss : List Symbol} {whole : List ℕ} → length whole < f → (b : Base) (l : Last) (d : Draft)
         → b.in_gap ≡ false → length b.lemmas ≤ 100000 → Ends p ss Q
         → Along p (item.Made 4 ∷ ss) (st b l d) mode.Plain whole Q → NodeRead p ss Q R b whole → R
@@ -389,7 +389,7 @@ module _ {p : Program} {Q : State → Type 0} {R : Type 0} (sure : Sure p) where
           ),
         )
 
-    -- the uses of a node were read
+    -- the premises of a node that were read are spelled by the bytes
     uses_back : (f : ℕ) {ss : List Symbol} {whole : List ℕ} → length whole < f → (b : Base) (l : Last) (d : Draft)
         → b.in_gap ≡ false → length b.lemmas ≤ 100000 → Along p (item.Made 5 ∷ ss) (st b l d) mode.Plain whole Q
         → ((us : Proofs) (m : Last) (rest : List ℕ) → AreProofsWithin p (length b.lemmas) (suc b.levels) us
@@ -435,7 +435,7 @@ module _ {p : Program} {Q : State → Type 0} {R : Type 0} (sure : Sure p) where
           tt,
         )
 
-    -- the uses that are left were read
+    -- the premises that are left, once read, are spelled by the bytes
     more_uses_back : (f : ℕ) {ss : List Symbol} {whole : List ℕ} → length whole < f → (b : Base) (l : Last) (g : Draft)
         (j : Ended) (d : Draft) (xs : List Proof) (q : Bool) → b.in_gap ≡ false → length b.lemmas ≤ 100000
         → Along p (item.Made 7 ∷ item.Mark 18 ∷ ss) (st (record (paid b q) { outer = Inside d b.used b.outer; used = xs }) l g)

@@ -26,7 +26,7 @@ use Rattle.cert_lexer.specs.declared.kind.ProofKind.{ProofKind}
 use Rattle.cert_lexer.specs.declared.kind.ProofKind.TheVariants as kind
 use Rattle.cert_lexer.specs.Grammar.{class_of_word, proof_grammar}
 use Rattle.cert_lexer.specs.Lexing.{mode_with, symbol_names, symbol_of, word_of}
-use Rattle.cert_text.specs.Against.{has_place, or_else}
+use Rattle.cert_text.specs.NumberFaults.{has_place, or_else}
 use Rattle.cert_text.specs.Lists.{each_behind, listed, numbers_text}
 use Rattle.cert_text.specs.Remembered.{Draft, State, done, form_in, no_form, last_of}
 use Rattle.cert_text.specs.Spelled.{IsSideBoundWithin, IsResultVariableOf, IsSymbolFormWithin}
@@ -79,11 +79,11 @@ unfolding list_mode
 name_mode word.Shut symbol = refl
 name_mode w symbol = refl
 
--- no list of multipliers is open
+-- the parts without a list of multipliers
 abbrev pub bare : Draft → Draft
 bare d = record d { numbers = []; integers = [] }
 
--- the state after a side bound
+-- the parts after a side bound
 pub record Scratch : Type 0 where
   pub den : ℕ
   pub numbers : List ℕ
@@ -93,7 +93,7 @@ pub record Scratch : Type 0 where
 abbrev pub scratch : Scratch → Draft → Draft
 scratch g d = record d { den = g.den; numbers = g.numbers; integers = g.integers; form = g.form }
 
--- the effect of a place with its local bound
+-- the parts with a place and its local bound added
 abbrev pub placed : Scratch → ℕ → ResultVariable → Draft → Draft
 placed g r sp d = record (scratch g d) { rule = r; result_variable = sp; up = Poly; side_bound = Poly }
 
@@ -104,12 +104,12 @@ form_same f =
     (before_behind f.coefs f.constant)
     ∙ ap (λ (z : ℤ). record { coefs = f.coefs; constant = z }) (last_behind f.coefs f.constant)
 
--- both tests that are true are true
+-- the conjunction of two true tests is true
 pub both_true : (a b : Bool) → a ≡ true → b ≡ true → (a && b) ≡ true
 both_true true b h k = k
 both_true false b h k = cc
 
--- a place that a rule has has no fault
+-- the number of an existing place has no fault
 pub place_none : (p : Program) (limit r n : ℕ) (sp : ResultVariable) → IsResultVariableOf p sp → r ≡ sp.rule → n ≡ sp.place → n ≤ limit
     → or_else (when (nat_lt limit n) kind.NumberTooLarge) (when (not (has_place p (rule_at p r) n)) kind.BadReference)
     ≡ None
@@ -124,7 +124,7 @@ place_none p limit r n sp is e f l =
 
 module _ {p : Program} {ss : List Symbol} {rest : List ℕ} {Q : State → Type 0} (sure : Sure p) (b : Base) (l : Last)
     (d : Draft) where
-  -- the name of a symbol
+  -- the name of a symbol is read
   pub symbol : (s : ℕ) → s < length p.symbols → Stops continues_name rest
       → ((x : Within) → Along p ss (st b (record l { symbol = s }) d) (mode_in x) rest Q)
       → Along p (item.Made 41 ∷ ss) (done 28 (st b l d)) mode.Plain (name_at p s ++ rest) Q
@@ -141,7 +141,7 @@ module _ {p : Program} {ss : List Symbol} {rest : List ℕ} {Q : State → Type 
       (becomes (ap (λ (k : ℕ). st b (record l { symbol = k }) d) h.found) (more (list_mode w))))))
 
 module _ (b : Base) (outside : b.in_gap ≡ false) where
-  -- multipliers within the limit
+  -- multipliers within the limit of certificates are within the limit of the state
   pub fine : (ns : List ℕ) → AllByRecursion (λ n. n ≤ certificate_limit) ns → AllByRecursion (λ n. n ≤ limit_of b) ns
   fine [] h = tt
   fine (n ∷ ns) h = (limit_outside b outside n h.0, fine ns h.1)
@@ -153,7 +153,7 @@ module _ (b : Base) (outside : b.in_gap ≡ false) where
 
 module _ {p : Program} {ss : List Symbol} {rest : List ℕ} {Q : State → Type 0} (sure : Sure p) (b : Base)
     (outside : b.in_gap ≡ false) where
-  -- a form, with its symbol
+  -- the form at a symbol is read
   pub form : (f : SymbolForm) → IsSymbolFormWithin p f → (l : Last) (d : Draft)
       → ((m : Last) → Along p ss (st b m (bare (record d { forms = d.forms ++ f ∷ [] }))) mode.Plain rest Q)
       → Along p (item.Made 24 ∷ ss) (st b l (bare d)) mode.Plain (form_text p f ++ rest) Q
@@ -171,7 +171,7 @@ module _ {p : Program} {ss : List Symbol} {rest : List ℕ} {Q : State → Type 
 
 module _ {p : Program} {ss : List Symbol} {rest : List ℕ} {Q : State → Type 0} (sure : Sure p) (b : Base)
     (outside : b.in_gap ≡ false) where
-  -- further forms
+  -- the further forms are read
   more_forms : (fs : List SymbolForm) → AllByRecursion (IsSymbolFormWithin p) fs → (l : Last) (d : Draft)
       → ((m : Last) → Along p ss (st b m (bare (record d { forms = d.forms ++ fs }))) mode.Plain rest Q)
       → Along p (item.Made 25 ∷ ss) (st b l (bare d)) mode.Plain
@@ -188,7 +188,7 @@ module _ {p : Program} {ss : List Symbol} {rest : List ℕ} {Q : State → Type 
       (λ n. becomes (ap (λ (gs : List SymbolForm). st b n (bare (record d { forms = gs })))
       (append_assoc d.forms (f ∷ []) fs)) (more n)))))))
 
-  -- all forms
+  -- a list of forms is read
   pub forms : (fs : List SymbolForm) → 1 ≤ length fs → AllByRecursion (IsSymbolFormWithin p) fs → (l : Last)
       (d : Draft) → ((m : Last) → Along p ss (st b m (bare (record d { forms = d.forms ++ fs }))) mode.Plain rest Q)
       → Along p (item.Made 23 ∷ ss) (st b l (bare d)) mode.Plain (listed (map (form_text p) fs) ++ rest) Q
@@ -201,7 +201,7 @@ module _ {p : Program} {ss : List Symbol} {rest : List ℕ} {Q : State → Type 
       (λ n. becomes (ap (λ (gs : List SymbolForm). st b n (bare (record d { forms = gs })))
       (append_assoc d.forms (f ∷ []) fs)) (more n))))))
 
-  -- further lists of multipliers
+  -- the further lists of multipliers are read
   more_moves : (nss : List (List ℕ)) → AllByRecursion (AllByRecursion (λ n. n ≤ certificate_limit)) nss
       → (l : Last) (d : Draft)
       → ((m : Last) → Along p ss (st b m (bare (record d { moves = d.moves ++ nss }))) mode.Plain rest Q)
@@ -219,7 +219,7 @@ module _ {p : Program} {ss : List Symbol} {rest : List ℕ} {Q : State → Type 
       (λ n. becomes (ap (λ (gs : List (List ℕ)). st b n (bare (record d { moves = gs })))
       (append_assoc d.moves (ns ∷ []) nss)) (more n))))))))
 
-  -- all of them
+  -- all lists of multipliers are read
   pub moves : (nss : List (List ℕ)) → 1 ≤ length nss → AllByRecursion (AllByRecursion (λ n. n ≤ certificate_limit)) nss
       → (l : Last) (d : Draft)
       → ((m : Last) → Along p ss (st b m (bare (record d { moves = d.moves ++ nss }))) mode.Plain rest Q)
@@ -233,7 +233,7 @@ module _ {p : Program} {ss : List Symbol} {rest : List ℕ} {Q : State → Type 
       (λ n. becomes (ap (λ (gs : List (List ℕ)). st b n (bare (record d { moves = gs })))
       (append_assoc d.moves (ns ∷ []) nss)) (more n)))))))
 
-  -- a side bound
+  -- a side bound is read
   pub side_bound : (a : SideBound) → IsSideBoundWithin a → Stops continues_name rest → (l : Last) (d : Draft)
       → ((m : Last) (g : Scratch) → Along p ss (st b m (scratch g (record d { side_bound = a }))) mode.Plain rest Q)
       → Along p (item.Made 30 ∷ ss) (st b l d) mode.Plain (side_bound_text a ++ rest) Q

@@ -1,4 +1,4 @@
--- Forms, side bounds and further parts of a node that were read along bytes are those that the bytes spell.
+-- Forms, side bounds and further parts of a node that were read along bytes are spelled by them.
 use Rattle.std.proofs.Common.{◌≡◌, ℕ, zero, suc, ◌-◌, ◌<◌, ◌≤◌, ◌^◌, min, Bool, true, false, cond, List, [], ◌∷◌, ◌++◌, length, map}
 use Rattle.std.proofs.Common.{Option, Some, None, slice_index_or, refl, ap, sym, subst, ◌∙◌, arith, inl, inr, append-nil}
 use Rattle.std.proofs.Common.{append_assoc}
@@ -34,7 +34,7 @@ use Rattle.cert_lexer.specs.Grammar.{class_of_word, proof_grammar}
 use Rattle.cert_lexer.specs.Lexing.{mode_with, symbol_names, symbol_of}
 use Rattle.cert_lexer.proofs.PieceClasses.{class_word}
 use Rattle.cert_lexer.proofs.CutBack.{plain_name}
-use Rattle.cert_text.specs.Against.{against_piece, has_place, or_else}
+use Rattle.cert_text.specs.NumberFaults.{fault_of_piece, has_place, or_else}
 use Rattle.cert_text.specs.Lists.{each_behind, listed, numbers_text}
 use Rattle.cert_text.specs.Reading.{moved}
 use Rattle.cert_text.specs.Remembered.{Draft, State, done, form_in, no_form}
@@ -81,7 +81,7 @@ name_word body (inr (inr (inr (inr (inr (inr (inr (inr (inr (inr (inr (inr (inr 
 name_word body (inr (inr (inr (inr (inr (inr (inr (inr (inr (inr (inr (inr (inr (inr (inr (inr (inr (inr (inr (inr (inr (inr (inr (inr (inr (inr (inl e))))))))))))))))))))))))))) = (word.Other, e)
 name_word body (inr (inr (inr (inr (inr (inr (inr (inr (inr (inr (inr (inr (inr (inr (inr (inr (inr (inr (inr (inr (inr (inr (inr (inr (inr (inr (inr x))))))))))))))))))))))))))) = absurd x
 
--- a name whose symbol there is is the name of that symbol
+-- a name without a fault is that of its symbol
 pub name_found : (p : Program) → Sure p → (name : List ℕ) (s : ℕ) → symbol_of (symbol_names p) name ≡ s
     → s < length p.symbols → name_at p s ≡ name
 name_found p sure name s e low =
@@ -92,7 +92,7 @@ name_found p sure name s e low =
     sym (name_read p.symbols s) ∙ ap (λ (k : ℕ). slice_index_or (symbol_names p) k []) (sym here)
     ∙ at_position (symbol_names p) name there
 
--- numbers within the limit of certificates
+-- outside a gap the limit of numbers is that of certificates
 pub in_limit : (b : Base) → b.in_gap ≡ false → limit_of b ≡ certificate_limit
 in_limit b outside = ap (λ (v : Bool). cond v point_limit certificate_limit) outside
 
@@ -133,7 +133,7 @@ place_there p r n h = go (rule_at p r) refl (not_none (has_place p (rule_at p r)
 
 module _ {p : Program} {ss : List Symbol} {whole : List ℕ} {Q : State → Type 0} {R : Type 0} (sure : Sure p) (b : Base)
     (l : Last) (d : Draft) where
-  -- the name of a symbol
+  -- the name of a symbol that was read is spelled by the bytes
   pub symbol_back : Along p (item.Made 41 ∷ ss) (done 28 (st b l d)) mode.Plain whole Q
       → ((s : ℕ) (x : Within) (rest : List ℕ) → s < length p.symbols → whole ≡ name_at p s ++ rest
       → Along p ss (st b (record l { symbol = s }) d) (mode_in x) rest Q → R) → R
@@ -145,8 +145,8 @@ module _ {p : Program} {ss : List Symbol} {whole : List ℕ} {Q : State → Type
       let c = class_word q w.0 is in
       let n = plain_name (symbol_names p) cut.first cut.others w.0 c.0 cut.some
       (cut.cut ∙ ap (λ (x : Piece). record { piece = Some x; len = suc cut.some }) c.1) in
-      let none' : against_piece p (done 28 (st b l d)) (Name w.0 c.0) ≡ None =
-      subst (λ (x : Piece). against_piece p (done 28 (st b l d)) x ≡ None) c.1 none in
+      let none' : fault_of_piece p (done 28 (st b l d)) (Name w.0 c.0) ≡ None =
+      subst (λ (x : Piece). fault_of_piece p (done 28 (st b l d)) x ≡ None) c.1 none in
       let low = le_false (length p.symbols) c.0 (when_none (nat_le (length p.symbols) c.0) kind.BadReference none') in
       k c.0 (list_mode w.0) rest low
       (cut.begins ∙ n.3 ∙ ap (λ (bs : List ℕ). (cut.first ∷ prefix continues_name cut.others) ++ bs) cut.behind
@@ -157,7 +157,7 @@ module _ {p : Program} {ss : List Symbol} {whole : List ℕ} {Q : State → Type
 
 module _ {p : Program} {ss : List Symbol} {Q : State → Type 0} {R : Type 0} (sure : Sure p) (b : Base)
     (outside : b.in_gap ≡ false) where
-  -- a form, with its symbol
+  -- the form at a symbol that was read is spelled by the bytes
   pub form_back : {whole : List ℕ} (l : Last) (d : Draft) → Along p (item.Made 24 ∷ ss) (st b l (bare d)) mode.Plain whole Q
       → ((f : SymbolForm) (m : Last) (rest : List ℕ) → IsSymbolFormWithin p f → whole ≡ form_text p f ++ rest
       → Along p ss (st b m (bare (record d { forms = d.forms ++ f ∷ [] }))) mode.Plain rest Q → R) → R
@@ -180,7 +180,7 @@ module _ {p : Program} {ss : List Symbol} {Q : State → Type 0} {R : Type 0} (s
 
 module _ {p : Program} {ss : List Symbol} {Q : State → Type 0} {R : Type 0} (sure : Sure p) (b : Base)
     (outside : b.in_gap ≡ false) where
-  -- further forms
+  -- the further forms that were read are spelled by the bytes
   more_forms_back : (f : ℕ) {whole : List ℕ} → length whole < f → (l : Last) (d : Draft)
       → Along p (item.Made 25 ∷ ss) (st b l (bare d)) mode.Plain whole Q
       → ((fs : List SymbolForm) (m : Last) (rest : List ℕ) → AllByRecursion (IsSymbolFormWithin p) fs
@@ -205,7 +205,7 @@ module _ {p : Program} {ss : List Symbol} {Q : State → Type 0} {R : Type 0} (s
         ),
       )
 
-  -- all forms
+  -- a list of forms that was read is spelled by the bytes
   pub forms_back : {whole : List ℕ} (l : Last) (d : Draft) → Along p (item.Made 23 ∷ ss) (st b l (bare d)) mode.Plain whole Q
       → ((fs : List SymbolForm) (m : Last) (rest : List ℕ) → 1 ≤ length fs → AllByRecursion (IsSymbolFormWithin p) fs
       → whole ≡ listed (map (form_text p) fs) ++ rest
@@ -221,7 +221,7 @@ module _ {p : Program} {ss : List Symbol} {Q : State → Type 0} {R : Type 0} (s
         tt,
       )
 
-  -- further lists of multipliers
+  -- the further lists of multipliers that were read are spelled by the bytes
   more_moves_back : (f : ℕ) {whole : List ℕ} → length whole < f → (l : Last) (d : Draft)
       → Along p (item.Made 27 ∷ ss) (st b l (bare d)) mode.Plain whole Q
       → ((nss : List (List ℕ)) (m : Last) (rest : List ℕ) → AllByRecursion AreInLimit nss
@@ -247,7 +247,7 @@ module _ {p : Program} {ss : List Symbol} {Q : State → Type 0} {R : Type 0} (s
         ),
       )
 
-  -- all of them
+  -- all lists of multipliers that were read are spelled by the bytes
   pub moves_back : {whole : List ℕ} (l : Last) (d : Draft) → Along p (item.Made 26 ∷ ss) (st b l (bare d)) mode.Plain whole Q
       → ((nss : List (List ℕ)) (m : Last) (rest : List ℕ) → 1 ≤ length nss → AllByRecursion AreInLimit nss
       → whole ≡ listed (map numbers_text nss) ++ rest
@@ -263,7 +263,7 @@ module _ {p : Program} {ss : List Symbol} {Q : State → Type 0} {R : Type 0} (s
         tt,
       )
 
-  -- a side bound
+  -- a side bound that was read is spelled by the bytes
   pub side_bound_back : {whole : List ℕ} (l : Last) (d : Draft) → Along p (item.Made 30 ∷ ss) (st b l d) mode.Plain whole Q
       → ((y : SideBound) (m : Last) (g : Scratch) (rest : List ℕ) → IsSideBoundWithin y → whole ≡ side_bound_text y ++ rest
       → Along p ss (st b m (scratch g (record d { side_bound = y }))) mode.Plain rest Q → R) → R

@@ -27,7 +27,7 @@ use Rattle.cert_lexer.specs.declared.piece.Piece.{Piece}
 use Rattle.cert_lexer.specs.declared.piece.Piece.TheVariants.{Place}
 use Rattle.cert_lexer.specs.Lexing.{behind_dot, behind_last_dot, lexeme, place_in, place_lexeme, plain_lexeme, symbol_names}
 use Rattle.cert_lexer.specs.Lexing.{symbol_of}
-use Rattle.cert_text.specs.Against.{or_else}
+use Rattle.cert_text.specs.NumberFaults.{or_else}
 use Rattle.cert_text.specs.Lists.{bracketed, each_before, each_behind, joined, listed}
 use Rattle.cert_text.specs.Remembered.{Draft, State, last_of, point_in}
 use Rattle.cert_text.specs.Spelled.{IsPlaceOf, IsPointWithin}
@@ -40,7 +40,7 @@ use Rattle.cert_text.proofs.PartTexts.{bare, both_true}
 use Rattle.cert_text.proofs.States.{Base, HasName, Last, Sure, limit_inside, limit_of, limit_least, none_large, now, st}
 use Rattle.cert_text.proofs.States.{symbol_name}
 
--- parts and a denominator are a point
+-- the parts of a point and its denominator make the point
 pub point_same : (z : ScaledPoint) → point_in (z.parts ++ pos z.den ∷ []) ≡ z
 point_same z =
     ap (λ (xs : List ℤ). record { parts = xs; den = nat_abs (last_of (z.parts ++ pos z.den ∷ [])) })
@@ -48,7 +48,7 @@ point_same z =
     ∙ ap (λ (x : ℤ). record { parts = z.parts; den = nat_abs x }) (last_behind z.parts (pos z.den))
 
 module _ {p : Program} {ss : List Symbol} {rest : List ℕ} {Q : State → Type 0} (b : Base) where
-  -- parts with signs up to the denominator, and what closes the point
+  -- the parts of a point up to its denominator, and the bracket that closes it, are read
   parts : (zs : List ℤ) (den : ℕ) → AllByRecursion (λ y. nat_abs y ≤ limit_of b) zs → den ≤ limit_of b → (l : Last)
       (d : Draft)
       → ((m : Last) → Along p ss (st b m (record d { integers = d.integers ++ (zs ++ pos den ∷ []) })) mode.Plain rest Q)
@@ -79,14 +79,14 @@ module _ {p : Program} {ss : List Symbol} {rest : List ℕ} {Q : State → Type 
       (λ m. becomes (ap (λ (ks : List ℤ). st b m (record d { integers = ks }))
       (append_assoc d.integers (negsuc n ∷ []) (ys ++ pos den ∷ []))) (more m))))))))))
 
--- parts within the limit
+-- numbers within the limit of points are within the limit of the state in a gap
 fine_parts : (b : Base) → b.in_gap ≡ true → (zs : List ℤ) → AllByRecursion (λ z. nat_abs z ≤ 2 ^ 45) zs
     → AllByRecursion (λ z. nat_abs z ≤ limit_of b) zs
 fine_parts b inside [] h = tt
 fine_parts b inside (z ∷ zs) h = (limit_inside b inside (nat_abs z) h.0, fine_parts b inside zs h.1)
 
 module _ {p : Program} {ss : List Symbol} {rest : List ℕ} {Q : State → Type 0} (b : Base) (inside : b.in_gap ≡ true) where
-  -- a point
+  -- a scaled point is read
   pub point : (z : ScaledPoint) → IsPointWithin z → (l : Last) (d : Draft)
       → ((m : Last) → Along p ss (st b m (bare (record d { points = d.points ++ z ∷ [] }))) mode.Plain rest Q)
       → Along p (item.Made 37 ∷ ss) (st b l (bare d)) mode.Plain (point_text z ++ rest) Q
@@ -100,7 +100,7 @@ module _ {p : Program} {ss : List Symbol} {rest : List ℕ} {Q : State → Type 
       (point_same z)) (more m)))))))
 
 module _ {p : Program} {ss : List Symbol} {rest : List ℕ} {Q : State → Type 0} (b : Base) (inside : b.in_gap ≡ true) where
-  -- further points
+  -- the further points are read
   more_points : (zs : List ScaledPoint) → AllByRecursion IsPointWithin zs → (l : Last) (d : Draft)
       → ((m : Last) → Along p ss (st b m (bare (record d { points = d.points ++ zs }))) mode.Plain rest Q)
       → Along p (item.Made 36 ∷ ss) (st b l (bare d)) mode.Plain
@@ -117,7 +117,7 @@ module _ {p : Program} {ss : List Symbol} {rest : List ℕ} {Q : State → Type 
       (λ n. becomes (ap (λ (ys : List ScaledPoint). st b n (bare (record d { points = ys })))
       (append_assoc d.points (z ∷ []) zs)) (more n)))))))
 
-  -- all points
+  -- a list of points is read
   pub points : (zs : List ScaledPoint) → 1 ≤ length zs → AllByRecursion IsPointWithin zs → (l : Last) (d : Draft)
       → ((m : Last) → Along p ss (st b m (bare (record d { points = d.points ++ zs }))) mode.Plain rest Q)
       → Along p (item.Made 35 ∷ ss) (st b l (bare d)) mode.Plain (listed (map point_text zs) ++ rest) Q
@@ -157,7 +157,7 @@ digits_go_on (c ∷ cs) h = go (is_ascii_digit c) refl h (λ k. digits_go_on cs 
     go true e k ih = both_true (continues_name c) (list_all continues_name cs) (digit_goes_on c e) (ih k)
     go false e k ih = cc
 
--- the digits of a place follow its last dot
+-- digits have no dot
 no_dot : (o : Option (List ℕ)) (ds : List ℕ) → list_all is_ascii_digit ds ≡ true → behind_last_dot o ds ≡ o
 no_dot o [] h = refl
 no_dot o (c ∷ cs) h = go (is_ascii_digit c) refl h (λ k. no_dot o cs k)
@@ -204,7 +204,7 @@ place_found symbols s n w d small found =
     ∙ ap (λ (k : ℕ). Place s (behind.Number k))
     (ap (λ (k : ℕ). min k (2 ^ 127)) d.value ∙ (let k : min n (2 ^ 127) ≡ n = omega (arith, small) in k))
 
--- a place is cut off where a name ends
+-- a place is cut before a byte that doesn't continue a name
 place_cut : (p : Program) (s n : ℕ) (h : HasName p s) (rest : List ℕ) → n < 2 ^ 127 → Stops continues_name rest
     → IsCutOff p mode.InShut (Place s (behind.Number n)) ((name_at p s ++ 46 ∷ decimal n) ++ rest) rest
 place_cut p s n h rest small stops = go (digits_of n small)
@@ -229,7 +229,7 @@ place_cut p s n h rest small stops = go (digits_of n small)
           behind = drop-append_seam tail rest;
         }
 
--- a place that a symbol has has no fault
+-- an existing place of a symbol has no fault
 shut_none : (p : Program) (limit s n : ℕ) → s < length p.symbols → 1 ≤ n → n ≤ arity_of p s → n ≤ limit
     → or_else (when (nat_le (length p.symbols) s) kind.BadReference) (or_else (when (nat_lt limit n) kind.NumberTooLarge)
     (when ((n == 0) || nat_lt (arity_of p s) n) kind.BadReference)) ≡ None
@@ -243,7 +243,7 @@ shut_none p limit s n low some few small =
 
 module _ {p : Program} {ss : List Symbol} {rest : List ℕ} {Q : State → Type 0} (sure : Sure p) (b : Base) (l : Last)
     (d : Draft) where
-  -- one shut place
+  -- a shut place is read
   pub place : (s : SymbolPlace) → IsPlaceOf p s → Stops continues_name rest
       → Along p ss (st b l (record d { shut = d.shut ++ s ∷ [] })) mode.InShut rest Q
       → Along p (item.Piece 43 ∷ ss) (st b l d) mode.InShut (symbol_place_text p s ++ rest) Q
@@ -264,7 +264,7 @@ places_stop [] rest = refl
 places_stop (w ∷ ws) rest = refl
 
 module _ {p : Program} {ss : List Symbol} {rest : List ℕ} {Q : State → Type 0} (sure : Sure p) (b : Base) (l : Last) where
-  -- further places
+  -- the further shut places are read
   more_places : (xs : List SymbolPlace) → AllByRecursion (IsPlaceOf p) xs → (d : Draft)
       → Along p ss (st b l (record d { shut = d.shut ++ xs })) mode.Plain rest Q
       → Along p (item.Made 34 ∷ ss) (st b l d) mode.InShut
@@ -279,7 +279,7 @@ module _ {p : Program} {ss : List Symbol} {rest : List ℕ} {Q : State → Type 
       (more_places xs all.1 (record d { shut = d.shut ++ x ∷ [] })
       (becomes (ap (λ (ys : List SymbolPlace). st b l (record d { shut = ys })) (append_assoc d.shut (x ∷ []) xs)) more)))))
 
-  -- the shut places
+  -- the list of shut places is read
   pub places : (xs : List SymbolPlace) → AllByRecursion (IsPlaceOf p) xs → (d : Draft)
       → Along p ss (st b l (record d { shut = d.shut ++ xs })) mode.Plain rest Q
       → Along p (item.Piece 34 ∷ item.Made 33 ∷ ss) (st b l d) mode.InShut

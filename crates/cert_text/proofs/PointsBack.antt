@@ -1,4 +1,4 @@
--- Scaled points and shut places that were read along bytes are what these spell.
+-- Scaled points and shut places that were read along bytes are spelled by them.
 use Rattle.std.proofs.Common.{◌≡◌, ℕ, zero, suc, ◌-◌, ◌<◌, ◌≤◌, ◌^◌, min, Bool, true, false, cond, List, [], ◌∷◌, ◌++◌, length}
 use Rattle.std.proofs.Common.{map, drop, Option, Some, None, refl, ap, sym, subst, ◌∙◌, arith, inl, inr, append-nil}
 use Rattle.std.proofs.Common.{append_assoc}
@@ -27,7 +27,7 @@ use Rattle.cert_lexer.specs.declared.piece.Piece.TheVariants.{Place}
 use Rattle.cert_lexer.specs.Lexing.{mode_with, symbol_names}
 use Rattle.cert_lexer.proofs.PieceClasses.{class_place}
 use Rattle.cert_lexer.proofs.PlaceBack.{place_back}
-use Rattle.cert_text.specs.Against.{against_behind, against_piece, against_place, or_else}
+use Rattle.cert_text.specs.NumberFaults.{fault_of_behind, fault_of_piece, fault_of_place, or_else}
 use Rattle.cert_text.specs.Lists.{bracketed, each_before, each_behind, joined, listed}
 use Rattle.cert_text.specs.Reading.{moved}
 use Rattle.cert_text.specs.Remembered.{Draft, State}
@@ -44,7 +44,8 @@ use Rattle.cert_text.proofs.PointTexts.{point_same}
 use Rattle.cert_text.proofs.States.{Base, Last, Sure, limit_most, limit_of, now, st}
 
 module _ {p : Program} {ss : List Symbol} {Q : State → Type 0} {R : Type 0} (b : Base) where
-  -- parts with signs up to the denominator, and what closes the point
+  -- the parts of a point up to its denominator that were read, with the bracket that closes it, are spelled by the
+  -- bytes
   parts_back : (f : ℕ) {whole : List ℕ} → length whole < f → (l : Last) (d : Draft)
       → Along p (item.Made 38 ∷ ss) (st b l d) mode.Plain whole Q
       → ((zs : List ℤ) (den : ℕ) (m : Last) (rest : List ℕ) → AllByRecursion (λ y. nat_abs y ≤ limit_of b) zs
@@ -103,7 +104,7 @@ module _ {p : Program} {ss : List Symbol} {Q : State → Type 0} {R : Type 0} (b
           (turned_to (ap (λ (ks : List ℤ). st b m (record d { integers = ks }))
           (append_assoc d.integers (negsuc n ∷ []) (zs ++ pos den ∷ []))) u))
 
--- parts within the limit
+-- in a gap the limit of numbers is that of points
 in_points : (b : Base) → b.in_gap ≡ true → limit_of b ≡ point_limit
 in_points b inside = ap (λ (v : Bool). cond v point_limit certificate_limit) inside
 
@@ -114,7 +115,7 @@ parts_within b inside (z ∷ zs) h =
     (subst (λ (k : ℕ). nat_abs z ≤ k) (in_points b inside) h.0, parts_within b inside zs h.1)
 
 module _ {p : Program} {ss : List Symbol} {Q : State → Type 0} {R : Type 0} (b : Base) (inside : b.in_gap ≡ true) where
-  -- a point
+  -- a scaled point that was read is spelled by the bytes
   pub point_back : {whole : List ℕ} (l : Last) (d : Draft) → Along p (item.Made 37 ∷ ss) (st b l (bare d)) mode.Plain whole Q
       → ((z : ScaledPoint) (m : Last) (rest : List ℕ) → IsPointWithin z → whole ≡ point_text z ++ rest
       → Along p ss (st b m (bare (record d { points = d.points ++ z ∷ [] }))) mode.Plain rest Q → R) → R
@@ -135,7 +136,7 @@ module _ {p : Program} {ss : List Symbol} {Q : State → Type 0} {R : Type 0} (b
       )
 
 module _ {p : Program} {ss : List Symbol} {Q : State → Type 0} {R : Type 0} (b : Base) (inside : b.in_gap ≡ true) where
-  -- further points
+  -- the further points that were read are spelled by the bytes
   more_points_back : (f : ℕ) {whole : List ℕ} → length whole < f → (l : Last) (d : Draft)
       → Along p (item.Made 36 ∷ ss) (st b l (bare d)) mode.Plain whole Q
       → ((zs : List ScaledPoint) (m : Last) (rest : List ℕ) → AllByRecursion IsPointWithin zs
@@ -160,7 +161,7 @@ module _ {p : Program} {ss : List Symbol} {Q : State → Type 0} {R : Type 0} (b
         ),
       )
 
-  -- all points
+  -- a list of points that was read is spelled by the bytes
   pub points_back : {whole : List ℕ} (l : Last) (d : Draft) → Along p (item.Made 35 ∷ ss) (st b l (bare d)) mode.Plain whole Q
       → ((zs : List ScaledPoint) (m : Last) (rest : List ℕ) → 1 ≤ length zs → AllByRecursion IsPointWithin zs
       → whole ≡ listed (map point_text zs) ++ rest
@@ -208,14 +209,14 @@ shut_there p limit s d n is h =
     }
 
 module _ {p : Program} {ss : List Symbol} {Q : State → Type 0} {R : Type 0} (sure : Sure p) (b : Base) (l : Last) where
-  -- one shut place
+  -- a shut place that was read is spelled by the bytes
   place_read : {whole : List ℕ} (d : Draft) → Along p (item.Piece 43 ∷ ss) (st b l d) mode.InShut whole Q
       → ((s : SymbolPlace) (rest : List ℕ) → IsPlaceOf p s → whole ≡ symbol_place_text p s ++ rest
       → Along p ss (st b l (record d { shut = d.shut ++ s ∷ [] })) mode.InShut rest Q → R) → R
   place_read d a k = read_back 43 a (λ q rest is none cut more.
       let c = class_place q is in
-      let none' : against_piece p (st b l d) (Place c.0 c.1) ≡ None =
-      subst (λ (x : Piece). against_piece p (st b l d) x ≡ None) c.2 none in
+      let none' : fault_of_piece p (st b l d) (Place c.0 c.1) ≡ None =
+      subst (λ (x : Piece). fault_of_piece p (st b l d) x ≡ None) c.2 none in
       let i = known c.0 c.1 none' in
       let most = limit_most b in
       let small = i.small in
@@ -233,7 +234,7 @@ module _ {p : Program} {ss : List Symbol} {Q : State → Type 0} {R : Type 0} (s
       (same_32 i.place (omega (arith, few, arity))))
       (subst (λ (x : Piece). Along p ss (moved p x (st b l d)) (mode_with mode.InShut x) rest Q) piece more)))
     where
-      known : (s : ℕ) (d' : Behind) → against_place p (st b l d) s d' ≡ None → IsShut p (limit_of b) s d'
+      known : (s : ℕ) (d' : Behind) → fault_of_place p (st b l d) s d' ≡ None → IsShut p (limit_of b) s d'
       known s behind.NoNumber h =
           let f = or_none (when (nat_le (length p.symbols) s) kind.BadReference) (Some kind.Syntax) h in let e = f.1 in cc
       known s behind.Nothing h =
@@ -243,7 +244,7 @@ module _ {p : Program} {ss : List Symbol} {Q : State → Type 0} {R : Type 0} (s
       known s (behind.Number n) h = shut_there p (limit_of b) s (behind.Number n) n refl h
 
 module _ {p : Program} {ss : List Symbol} {Q : State → Type 0} {R : Type 0} (sure : Sure p) (b : Base) (l : Last) where
-  -- further places
+  -- the further shut places that were read are spelled by the bytes
   more_places_back : (f : ℕ) {whole : List ℕ} → length whole < f → (d : Draft)
       → Along p (item.Made 34 ∷ ss) (st b l d) mode.InShut whole Q
       → ((xs : List SymbolPlace) (rest : List ℕ) → AllByRecursion (IsPlaceOf p) xs
@@ -266,7 +267,7 @@ module _ {p : Program} {ss : List Symbol} {Q : State → Type 0} {R : Type 0} (s
         ),
       )
 
-  -- the shut places
+  -- the list of shut places that was read is spelled by the bytes
   pub places_back : {whole : List ℕ} (d : Draft) → Along p (item.Piece 34 ∷ item.Made 33 ∷ ss) (st b l d) mode.InShut whole Q
       → ((xs : List SymbolPlace) (rest : List ℕ) → AllByRecursion (IsPlaceOf p) xs
       → whole ≡ bracketed (joined (codes " ") (map (symbol_place_text p) xs)) ++ rest

@@ -22,7 +22,7 @@ use Rattle.cert_text.specs.declared.phase.Next.TheVariants as next
 use Rattle.cert_text.specs.Remembered.{Draft, Outer, State}
 use Rattle.cert_text.specs.Texts.{name_at, name_in}
 
--- the part of the state that a node only adds to
+-- the part of the state that a node only adds to: lines, levels and premises
 pub record Base : Type 0 where
   pub priced : Bool
   pub paid : Bool
@@ -33,7 +33,7 @@ pub record Base : Type 0 where
   pub used : List Proof
   pub outer : Outer
 
--- the pieces that were read last
+-- what was read last: a number with its sign, a symbol, a node and a bound
 pub record Last : Type 0 where
   pub number : ℕ
   pub negative : Bool
@@ -41,7 +41,7 @@ pub record Last : Type 0 where
   pub node : Proof
   pub bound : Bound
 
--- the state where no other part comes next, with pieces of a bound and without
+-- the state between two parts, with an open bound's pieces and without
 abbrev pub held : Base → Last → Draft → List Inner → State
 held b l d xs = record {
   coming = next.Nothing;
@@ -65,11 +65,11 @@ held b l d xs = record {
 abbrev pub st : Base → Last → Draft → State
 st b l d = held b l d []
 
--- the state with another number and sign
+-- what was read last, with another number and sign
 abbrev pub now : Last → ℕ → Bool → Last
 now l n v = record l { number = n; negative = v }
 
--- at most so large a number is read
+-- the greatest number that is read
 abbrev pub limit_of : Base → ℕ
 limit_of b = if b.in_gap then point_limit else certificate_limit
 
@@ -87,7 +87,7 @@ limit_most b = go b.in_gap
     go true = omega arith
     go false = omega arith
 
--- outside of gaps it is that of certificates, in gaps that of points
+-- outside a gap the limit of numbers is that of certificates, and in a gap that of points
 pub limit_outside : (b : Base) → b.in_gap ≡ false → (n : ℕ) → n ≤ certificate_limit → n ≤ limit_of b
 limit_outside b e n l = subst (λ (v : Bool). n ≤ cond v point_limit certificate_limit) (sym e) l
 
@@ -98,7 +98,7 @@ limit_inside b e n l = subst (λ (v : Bool). n ≤ cond v point_limit certificat
 pub none_large : (limit n : ℕ) → n ≤ limit → when (nat_lt limit n) kind.NumberTooLarge ≡ None
 none_large limit n l = ap (λ (v : Bool). when v kind.NumberTooLarge) (false_lt limit n l)
 
--- the properties of a valid program
+-- the properties of a valid program that reading needs
 pub record Sure (p : Program) : Type 0 where
   pub few_rules : length p.rules ≤ 1000
   pub few_places : (s : ℕ) → arity_of p s ≤ 32
@@ -107,7 +107,7 @@ pub record Sure (p : Program) : Type 0 where
   pub arguments : AreNames p.start_names
   pub few_arguments : length p.start_names ≤ 32
 
--- names that are names and differ are both
+-- names that are all valid and differ satisfy `AreNames`
 are_names : (names : List Name) → AllByRecursion IsName names → AreDistinct names → AreNames names
 are_names [] h d = tt
 are_names (n ∷ names) h d = (h.0, d.0, are_names names h.1 d.1)
@@ -122,7 +122,7 @@ named : (ss : List Symbol) → AllByRecursion IsValidSymbol ss → AllByRecursio
 named [] h = tt
 named (x ∷ ss) h = (h.0.name, named ss h.1)
 
--- a valid program is sure
+-- a valid program has these properties
 pub sure_of : (p : Program) → IsValid p → length p.symbols < 2 ^ 32 → Sure p
 sure_of p h few_symbols = record {
   few_rules = h.few_rules;
@@ -133,25 +133,25 @@ sure_of p h few_symbols = record {
   few_arguments = (let e = h.start_places in let l = few p.symbols h.symbols p.start in omega (arith, e, l));
 }
 
--- an element that is there has a number below the length
+-- an element that is found has a position below the length
 pub got_low : {X : Type 0} (xs : List X) (n : ℕ) (x : X) → slice_get xs n ≡ Some x → n < length xs
 got_low [] n x e = cc
 got_low (y ∷ ys) zero x e = omega arith
 got_low (y ∷ ys) (suc n) x e = omega (arith, got_low ys n x e)
 
--- a rule's number is from 1 on and low
+-- the number of a rule is at least 1 and at most 1000
 pub rule_low : (p : Program) (r : ℕ) → Sure p → IsRule p r → r ≤ 1000
 rule_low p zero sure is = let e = is.numbered in cc
 rule_low p (suc t) sure is =
     let l = got_low p.rules t is.rule is.numbered in let m = sure.few_rules in omega (arith, l, m)
 
--- the name of a symbol among the names
+-- the name at a position of the list of names is that of the symbol
 pub name_read : (ss : List Symbol) (s : ℕ) → slice_index_or (map (λ s. s.name) ss) s [] ≡ name_in (slice_get ss s)
 name_read [] s = refl
 name_read (x ∷ ss) zero = refl
 name_read (x ∷ ss) (suc s) = name_read ss s
 
--- the name of a symbol that there is
+-- the name of an existing symbol
 pub record HasName (p : Program) (s : ℕ) : Type 0 where
   pub first : ℕ
   pub others : List ℕ

@@ -1,17 +1,17 @@
--- Pieces that are cut apart are the pieces of their bytes, and the other way round.
+-- Pieces whose bytes are cut into them, and bytes that are spelled by their pieces.
 use Rattle.std.proofs.Common.{◌≡◌, ℕ, zero, suc, ◌+◌, ◌-◌, List, [], ◌∷◌, ◌++◌, length, take, drop, Option, Some, refl, ap}
 use Rattle.std.proofs.Common.{subst, ◌∙◌, arith}
 use Rattle.text_grammar.specs.text_core.Tokens.{Lexeme, Lexer, Token, pieces, tokens_in, token_then}
 use Rattle.cert_text.specs.TokenTexts.{spelled_all, AreCut, AllSpellBack, TokensAreTexts}
 
--- the first so many bytes, and the rest after them
+-- the first n bytes and the rest make all bytes
 taken_and_rest : (n : ℕ) (bytes : List ℕ) → take n bytes ++ drop n bytes ≡ bytes
 taken_and_rest zero bytes = refl
 taken_and_rest (suc n) [] = refl
 taken_and_rest (suc n) (b ∷ bytes) = ap (λ (bs : List ℕ). b ∷ bs) (taken_and_rest n bytes)
 
 module _ {P M : Type 0} (lexer : Lexer P M) (spelled : P → List ℕ) where
-  -- bytes that are passed over make no token
+  -- bytes that are skipped make no token
   passed_over : (mode : M) (at : ℕ) (xs ys : List ℕ) → tokens_in lexer mode at (length xs) (xs ++ ys)
       ≡ tokens_in lexer mode (at + length xs) 0 ys
   passed_over mode at [] ys =
@@ -20,7 +20,7 @@ module _ {P M : Type 0} (lexer : Lexer P M) (spelled : P → List ℕ) where
       let e : at + 1 + length xs ≡ at + suc (length xs) = omega arith in
       passed_over mode (at + 1) xs ys ∙ ap (λ (n : ℕ). tokens_in lexer mode n 0 ys) e
 
-  -- the tokens of bytes that begin with a lexeme
+  -- the tokens of bytes that begin with a lexeme are that one and those of the rest
   tokens_with : (mode : M) (at first : ℕ) (rest : List ℕ) (l : Lexeme (Option P))
       → lexer.lexeme_in mode first rest ≡ l → tokens_in lexer mode at 0 (first ∷ rest)
       ≡ token_then at l.len l.piece (tokens_in lexer (lexer.mode_behind mode l.piece) (at + 1) (l.len - 1) rest)
@@ -29,7 +29,7 @@ module _ {P M : Type 0} (lexer : Lexer P M) (spelled : P → List ℕ) where
       (λ (k : Lexeme (Option P)). tokens_in lexer mode at 0 (first ∷ rest)
       ≡ token_then at k.len k.piece (tokens_in lexer (lexer.mode_behind mode k.piece) (at + 1) (k.len - 1) rest)) e refl
 
-  -- pieces that are cut apart
+  -- pieces that are cut from their bytes are the pieces of these bytes
   cut_apart : (mode : M) (at : ℕ) (ps : List P) → AreCut lexer spelled mode ps
       → pieces (tokens_in lexer mode at 0 (spelled_all lexer spelled ps)) ≡ ps
   cut_apart mode at [] c = refl
@@ -45,7 +45,7 @@ module _ {P M : Type 0} (lexer : Lexer P M) (spelled : P → List ℕ) where
       ∙ ap (λ (ts : List (Token P)). pieces ts) (passed_over behind (at + 1) c.others rest)
       ∙ cut_apart behind (at + 1 + length c.others) ps cs))
 
-  -- bytes whose lexemes spell them are the bytes of their pieces, after those that are skipped
+  -- bytes whose lexemes are spelled by them are the bytes of their pieces, after those that are skipped
   spelled_back : (mode : M) (at skip : ℕ) (bytes : List ℕ) → AllSpellBack lexer spelled mode skip bytes
       → spelled_all lexer spelled (pieces (tokens_in lexer mode at skip bytes)) ≡ drop skip bytes
   spelled_back mode at zero [] h = refl
@@ -62,6 +62,6 @@ module _ {P M : Type 0} (lexer : Lexer P M) (spelled : P → List ℕ) where
       ∙ (ap (λ (bs : List ℕ). bs ++ spelled_all lexer spelled (pieces rest)) s.spells
       ∙ ap (λ (bs : List ℕ). b ∷ bs) (ap (λ (bs : List ℕ). take s.some bytes ++ bs) tail ∙ taken_and_rest s.some bytes))
 
-  -- both
+  -- both directions together
   pub tokens_are_texts : TokensAreTexts lexer spelled
   tokens_are_texts = record { apart = cut_apart; back = λ mode at bytes h. spelled_back mode at 0 bytes h }

@@ -1,4 +1,4 @@
--- How small beginnings of proof files are cut, and where they break off.
+-- The worked values of how small beginnings of proof files are cut, and where they break off.
 use Rattle.std.proofs.Common.{ℕ, ◌<◌, Bool, true, false, cond, refl, arith, lit<}
 use Rattle.std.specs.Prelude.{◌==◌}
 use Rattle.cert_lexer.specs.declared.piece.Word.{Word}
@@ -12,7 +12,7 @@ use Rattle.text_grammar.specs.Texts.{IsLawful}
 use Rattle.cert_text.specs.WorkedReading.{bare, CutsAreWorkedOut, BreaksAreWorkedOut, ReadingIsWorkedOut}
 use Rattle.cert_lexer.proofs.ReadableGrammar.{readable}
 
--- each piece has one of the classes
+-- the class of each piece is below 46
 word_classed : (w : Word) → class_of_word w < 46
 word_classed word.Lemma = lit< tt
 word_classed word.Gap = lit< tt
@@ -85,7 +85,7 @@ lawful = record {
   floor_read = λ es t at some behind. omega (arith, some, behind);
 }
 
--- how bytes are cut
+-- the worked cuts hold
 cuts : CutsAreWorkedOut
 cuts = record {
   first = refl;
@@ -110,7 +110,7 @@ cuts = record {
   to_alone = refl;
 }
 
--- where texts break off
+-- the worked positions at which texts break off hold
 breaks : BreaksAreWorkedOut
 breaks = record {
   nothing_at_all = refl;
@@ -136,6 +136,6 @@ breaks = record {
   no_constant = refl;
 }
 
--- all of it
+-- all worked values of reading hold
 pub reading_worked_out : ReadingIsWorkedOut
 reading_worked_out = record { readable = readable; lawful = lawful; cuts = cuts; breaks = breaks }

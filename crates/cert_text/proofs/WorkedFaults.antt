@@ -1,4 +1,4 @@
--- The results of reading small proof files.
+-- The worked results of reading small proof files.
 use Rattle.std.proofs.Common.{ℕ, refl, ap}
 use Rattle.std.specs.Prelude.{nat_le}
 use Rattle.text_grammar.specs.text_core.Choices.{when}
@@ -7,7 +7,7 @@ use Rattle.cert_lexer.specs.declared.kind.ProofKind.TheVariants.{Limit}
 use Rattle.cert_text.specs.Spelled.{lemma_limit, gap_limit}
 use Rattle.cert_text.specs.WorkedFaults.{NodesAreRead, LemmasAreRefused, BoundsAreRefused, GapsAreRefused, FilesAreWorkedOut}
 
--- each kind of node, and gaps
+-- the worked nodes and gaps are read
 nodes : NodesAreRead
 unfolding faults_at
 nodes = record {
@@ -31,7 +31,7 @@ nodes = record {
   gap_points = refl;
 }
 
--- the refusals of lemmas
+-- the worked refusals of lemmas hold
 lemmas : LemmasAreRefused
 lemmas = record {
   itself = refl;
@@ -62,7 +62,7 @@ lemmas = record {
   gap_behind = λ gaps many. ap (λ (n : ℕ). when (nat_le gap_limit n) Limit) many;
 }
 
--- of bounds
+-- the worked refusals of bounds hold
 bounds : BoundsAreRefused
 unfolding faults_at
 bounds = record {
@@ -78,7 +78,7 @@ bounds = record {
   behind_ten = refl;
 }
 
--- the refusals of gaps
+-- the worked refusals of gaps hold
 gaps : GapsAreRefused
 gaps = record {
   rule = refl;
@@ -96,6 +96,6 @@ gaps = record {
   no_denominator = refl;
 }
 
--- all of it
+-- all worked answers hold
 pub files_worked_out : FilesAreWorkedOut
 files_worked_out = record { nodes = nodes; lemmas = lemmas; bounds = bounds; gaps = gaps }

@@ -1,4 +1,4 @@
--- Small proof files within the limits, and others.
+-- The worked proof files are within the limits, or not, as stated.
 use Rattle.std.proofs.Common.{◌≡◌, ℕ, zero, suc, ◌+◌, ◌^◌, ◌-◌, ◌≤◌, List, [], ◌∷◌, Option, Some, None, refl, arith, All}
 use Rattle.std.specs.Prelude.{ℤ, pos, negsuc, nat_abs}
 use Rattle.std.proofs.lemmas.List.Elements.{All-nil, All-cons, All-head}
@@ -12,19 +12,19 @@ use Rattle.cert_text.specs.Spelled.{IsGapWithin}
 use Rattle.cert_text.specs.Worked.{rule_from, counting, form, at_symbol, member, nested, rank_enter, rank_loop, size_enter}
 use Rattle.cert_text.specs.Worked.{size_loop, LimitsAreWorkedOut}
 
--- the rule that counts down
+-- rule 2, which counts down
 abbrev counting_rule : Rule
 counting_rule =
     rule_from 1 (Subtraction (Variable 0) (Literal (pos 1))) (Compare (Variable 0) AtLeast (Literal (pos 1)) ∷ [])
 
--- the two rules
+-- numbers 1 and 2 are those of rules
 first_rule : IsRule counting 1
 first_rule = record { rule = rule_from 0 (Variable 0) []; numbered = refl }
 
 second_rule : IsRule counting 2
 second_rule = record { rule = counting_rule; numbered = refl }
 
--- there are no other rules
+-- an absent rule is no rule
 none_is_some : (r : Rule) → ¬ (◌≡◌ {A = Option Rule} None (Some r))
 none_is_some r e = cc
 
@@ -34,14 +34,14 @@ no_rule_zero h = none_is_some h.rule h.numbered
 no_third_rule : ¬ (IsRule counting 3)
 no_third_rule h = none_is_some h.rule h.numbered
 
--- no multipliers, and one
+-- lists of no multiplier and of one small multiplier are within the limit
 no_multipliers : AreInLimit []
 no_multipliers = All-nil IsInLimit
 
 one_multiplier : (m : ℕ) → m ≤ certificate_limit → AreInLimit (m ∷ [])
 one_multiplier m h = All-cons IsInLimit m [] h (All-nil IsInLimit)
 
--- a small form
+-- a form with small numbers is within the limit
 small_form : (coef constant : ℤ) → nat_abs coef ≤ certificate_limit → nat_abs constant ≤ certificate_limit
     → IsFormInLimit (form coef constant)
 small_form coef constant h k = record {
@@ -49,7 +49,7 @@ small_form coef constant h k = record {
   constant = k;
 }
 
--- two small forms at the two symbols
+-- a ranking function of two small forms, at the two symbols, is within the limits
 two_forms : (a b c d : ℤ) → IsFormInLimit (form a b) → IsFormInLimit (form c d)
     → All (IsSymbolFormWithin counting) (at_symbol 0 a b ∷ at_symbol 1 c d ∷ [])
 two_forms a b c d h k =
@@ -57,7 +57,7 @@ two_forms a b c d h k =
     (All-cons (IsSymbolFormWithin counting) (at_symbol 1 c d) [] (record { symbol = omega arith; form = k })
     (All-nil (IsSymbolFormWithin counting)))
 
--- a member with small forms
+-- a member with small forms is within the limits
 small_member : (rule : ℕ) → IsResultVariableOf counting (record { rule = rule; place = 1 })
     → (a b c d : ℤ) (above below : List ℕ) → IsFormInLimit (form a b) → AreInLimit above → IsFormInLimit (form c d)
     → AreInLimit below → IsMemberWithin counting (member rule (form a b) above (form c d) below)
@@ -66,7 +66,7 @@ small_member rule s a b c d above below f m g n = record {
   local = record { up = (omega arith, f, m); low = (omega arith, g, n) };
 }
 
--- the places of both rules
+-- each of the two rules has a place
 first_result_variable : IsResultVariableOf counting (record { rule = 1; place = 1 })
 first_result_variable = record {
   rule = rule_from 0 (Variable 0) [];
@@ -78,7 +78,7 @@ first_result_variable = record {
 second_result_variable : IsResultVariableOf counting (record { rule = 2; place = 1 })
 second_result_variable = record { rule = counting_rule; numbered = refl; least = omega arith; most = omega arith }
 
--- the four lemmas of the loop
+-- each of the four lemmas on the loop is within the limits
 enter_within : IsProofWithin counting 0 1 rank_enter
 enter_within = (
   (
@@ -147,7 +147,7 @@ size_loop_within = (
   ((omega arith, (omega arith, omega arith)), tt),
 )
 
--- nested nodes are within 64 levels, and not beyond
+-- n nested nodes are within the limits up to level 64, and not beyond
 nested_within : (n level : ℕ) → level + n ≤ level_limit → IsProofWithin counting 0 level (nested n)
 nested_within zero level h = (omega (arith, h), tt)
 nested_within (suc n) level h = ((omega (arith, h), tt), nested_within n (suc level) (omega (arith, h)))
@@ -160,7 +160,7 @@ nested_beyond (suc n) level h w = nested_beyond n (suc level) (omega (arith, h))
 past : (n limit : ℕ) → limit + 1 ≤ n → ¬ (n ≤ limit)
 past n limit h k = omega (arith, h, k)
 
--- small proof files within the limits, and others
+-- the worked limits hold
 pub limits_worked_out : LimitsAreWorkedOut
 limits_worked_out = record {
   loop = record {

@@ -1,10 +1,10 @@
--- The texts of small proof files.
+-- The worked texts of small proof files hold.
 use Rattle.std.proofs.Common.{refl}
 use Rattle.std.specs.Fmt.{digits}
 use Rattle.cert_text.specs.Texts.{text_of}
 use Rattle.cert_text.specs.Worked.{TextsAreWorkedOut}
 
--- the texts are worked out
+-- the worked texts hold
 pub texts_worked_out : TextsAreWorkedOut
 unfolding text_of digits
 texts_worked_out = record {

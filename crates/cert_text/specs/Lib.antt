@@ -4,14 +4,14 @@ pub mod Texts
 pub mod OverFirst
 pub mod Spelled
 pub mod Remembered
-pub mod Against
+pub mod NumberFaults
 pub mod Reading
 pub mod ParsedSoFar
 pub mod Refused
-pub mod Told
+pub mod StatedErrors
 -- proof files and their texts determine each other
 pub mod RoundTrips
--- values that were worked out by hand
+-- worked values
 pub mod Worked
 pub mod WorkedReading
 pub mod WorkedFaults

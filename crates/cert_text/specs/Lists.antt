@@ -2,7 +2,7 @@
 use Rattle.std.specs.Prelude.{ℕ, List, [], ◌∷◌, ◌++◌, ℤ, map, codes, decimal}
 use Rattle.std.specs.Fmt.{signed_decimal}
 
--- a separator before each word
+-- words with a separator before each
 abbrev pub each_behind : List ℕ → List (List ℕ) → List ℕ
 each_behind separator [] = []
 each_behind separator (word ∷ words) = separator ++ (word ++ each_behind separator words)
@@ -12,7 +12,7 @@ abbrev pub joined : List ℕ → List (List ℕ) → List ℕ
 joined separator [] = []
 joined separator (word ∷ words) = word ++ each_behind separator words
 
--- between square brackets
+-- a text in square brackets
 abbrev pub bracketed : List ℕ → List ℕ
 bracketed text = codes "[" ++ (text ++ codes "]")
 
@@ -29,6 +29,6 @@ abbrev pub each_before : List ℤ → List ℕ
 each_before [] = []
 each_before (z ∷ zs) = signed_decimal z ++ (codes " " ++ each_before zs)
 
--- whole numbers and a last one in square brackets, with a blank between them
+-- integers and a last word in square brackets, with a blank between them
 abbrev pub ending_in : List ℤ → List ℕ → List ℕ
 ending_in zs last = bracketed (each_before zs ++ last)

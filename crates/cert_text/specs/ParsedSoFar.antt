@@ -40,7 +40,7 @@ draft_of d = record {
   floor = scaled_of d.floor;
 }
 
--- the nodes round the innermost one, of which the code's list has the outermost first, inside others
+-- the nodes around the innermost one, inside others; the code's list has the outermost first
 abbrev pub outer_from : Outer → List OpenNode → Outer
 outer_from outer [] = outer
 outer_from outer (x ∷ xs) = outer_from (Inside (draft_of x.draft) (map proof_of x.used.items) outer) xs
@@ -48,7 +48,7 @@ outer_from outer (x ∷ xs) = outer_from (Inside (draft_of x.draft) (map proof_o
 abbrev pub outer_of : List OpenNode → Outer
 outer_of xs = outer_from Whole xs
 
--- the state of reading
+-- the plain state of a reader of the code
 abbrev pub own_of : ParsedSoFar → State
 own_of k = record {
   coming = k.coming;
@@ -69,6 +69,6 @@ own_of k = record {
   bound = bound_of k.bound;
 }
 
--- how far reading has come
+-- the plain progress of a reading of the code
 abbrev pub progress_of : ProofReading → Progress
 progress_of r = record { kept = own_of r.kept; broken = r.broken }

@@ -16,9 +16,9 @@ use Rattle.cert_lexer.specs.declared.kind.ProofKind.TheVariants as kind
 use Rattle.cert_lexer.specs.Grammar.{proof_grammar}
 use Rattle.cert_text.specs.Remembered.{State, Draft, begun, done, in_32}
 use Rattle.cert_lexer.specs.Bounds.{number_of}
-use Rattle.cert_text.specs.Against.{against_piece, position_of, read_bound, bound_in, with_last}
+use Rattle.cert_text.specs.NumberFaults.{fault_of_piece, position_of, read_bound, bound_in, with_last}
 
--- one more shut place
+-- the parts with one more shut place
 abbrev pub with_shut : ℕ → Behind → Draft → Draft
 with_shut symbol (behind.Number n) d = record d { shut = d.shut ++ record { symbol = symbol; place = in_32 n } ∷ [] }
 with_shut symbol b d = d
@@ -41,20 +41,20 @@ pub record Progress : Type 0 where
   pub kept : State
   pub broken : Bool
 
--- a piece is read
+-- the progress after a piece
 abbrev pub read_piece : Program → Piece → Progress → Progress
 read_piece p piece s =
-    record { kept = moved p piece s.kept; broken = s.broken || is_some (against_piece p s.kept piece) }
+    record { kept = moved p piece s.kept; broken = s.broken || is_some (fault_of_piece p s.kept piece) }
 
--- after a refusal no other fault is reported
+-- the fault of a piece that is reported: none after the first one
 abbrev pub against : Program → Progress → Piece → Option ProofKind
-against p s piece = if s.broken then None else against_piece p s.kept piece
+against p s piece = if s.broken then None else fault_of_piece p s.kept piece
 
 -- the file that was read
 abbrev pub file_in : State → ProofFile
 file_in s = record { lemmas = s.lemmas; gaps = s.gaps }
 
--- proof files, folded piece by piece
+-- the reading of proof files, piece by piece
 abbrev pub proof_fold : Program → Fold Piece Progress ProofFile ProofKind
 proof_fold p = record {
   begun = record { kept = begun; broken = false };

@@ -1,4 +1,4 @@
--- The faults that the code reports, and the meaning of a result.
+-- The faults that the code reports, and when a result is right.
 use Rattle.std.specs.Prelude.{◌≡◌, ℕ, List, length, Result, Ok, Err, Option, Some, None, IfSome}
 use Rattle.its_model.specs.model.Programs.{Program}
 use Rattle.cert_types.specs.AnswerViews.{file_of}
@@ -12,10 +12,10 @@ use Rattle.cert_lexer.specs.declared.kind.ProofKind.{ProofKind}
 use Rattle.cert_lexer.specs.declared.piece.Piece.{Piece}
 use Rattle.cert_lexer.specs.Lexing.{tokens}
 use Rattle.cert_text.specs.declared.error.ProofTextError.{ProofTextError}
-use Rattle.cert_text.specs.Against.{against_piece, position_of}
+use Rattle.cert_text.specs.NumberFaults.{fault_of_piece, position_of}
 use Rattle.cert_text.specs.Reading.{proofs_of}
 use Rattle.cert_text.specs.Remembered.{State}
-use Rattle.cert_text.specs.Told.{refusal_in}
+use Rattle.cert_text.specs.StatedErrors.{refusal_in}
 
 -- a refusal of a kind at a position, if there is one
 abbrev pub kind_at : Option ProofKind → ℕ → Option (Fault ProofKind)
@@ -24,7 +24,7 @@ kind_at (Some kind) at = Some (record { kind = kind; at = at })
 
 -- the fault that is reported of a piece at a position
 abbrev pub refusal_of : Program → State → Piece → ℕ → Option (Fault ProofKind)
-refusal_of p s piece at = kind_at (against_piece p s piece) (position_of p s piece at)
+refusal_of p s piece at = kind_at (fault_of_piece p s piece) (position_of p s piece at)
 
 -- a result is right: the file whose text the bytes are, which no other file has; or exactly their first refusal; or
 -- memory ran out
@@ -32,7 +32,7 @@ abbrev pub Answers : Program → List ℕ → Result ProofFile ProofTextError �
 Answers p bytes (Ok file) = IsTree (reader (proofs_of p)) (length bytes) (tokens p bytes) (file_of file)
 Answers p bytes (Err e) = IfSome (refusal_in e) (IsFirst (reader (proofs_of p)) (length bytes) (tokens p bytes))
 
--- a result is this file, unless memory ran out
+-- the result is this file, or memory ran out
 abbrev pub GivesBack : plain.ProofFile → Result ProofFile ProofTextError → Type 0
 GivesBack f (Ok file) = file_of file ≡ f
 GivesBack f (Err e) = refusal_in e ≡ None

@@ -1,4 +1,4 @@
--- The state of reading a proof file, and the effects of marks on it.
+-- The state of reading a proof file, and the effects of actions on it.
 use Rattle.std.specs.Prelude.{ℕ, ◌+◌, ◌-◌, ◌^◌, min, nat_abs, Bool, true, false, if◌then◌else◌, ℤ, pos, neg_ℤ}
 use Rattle.std.specs.Prelude.{List, [], ◌∷◌, ◌++◌, Option, Some, None, slice_get}
 use Rattle.its_model.specs.model.Bounds.{Bound, Constant}
@@ -16,9 +16,9 @@ use Rattle.cert_text.specs.declared.action.Action.{Action}
 use Rattle.cert_text.specs.declared.action.Action.TheVariants as action
 use Rattle.cert_text.specs.declared.action.TheConstants.{ACTIONS}
 
--- the parts of the node or gap that began last, as far as they were read: its rule and its set, its denominator, the
--- last list of numbers, with signs or without, the forms and the multipliers of a ranking function, a side bound and
--- its form, the up side bound, a place, the places with their local bounds, the way a cost is certified, its premises,
+-- the parts of the node or the gap that began last, as far as they were read: its rule and its set, its denominator,
+-- the last lists of numbers, with signs and without, the forms and the multipliers of a ranking function, a side bound
+-- and its form, the upper side bound, a place, the places with their local bounds, how a cost is shown, the premises,
 -- the shut places, and scaled points: the last ones, the moves and the floor
 pub record Draft : Type 0 where
   pub rule : ℕ
@@ -40,16 +40,16 @@ pub record Draft : Type 0 where
   pub gap_moves : List ScaledPoint
   pub floor : ScaledPoint
 
--- the nodes round the innermost one whose uses are open: each with what it holds and the uses that were read before
--- those of the one inside, the innermost first
+-- the nodes around the innermost one whose premises are being read: each with its parts and the premises that were read
+-- before the current one, the innermost first
 pub data Outer : Type 0 where
   Whole : Outer
   Inside : Draft → List Proof → Outer → Outer
 
--- the state of reading: the meaning of the next piece; whether the first line has a 2, and whether a node on costs was
--- read; whether a gap is open; lemmas and gaps in order; the number of open nodes; the node that was read last, the
--- open uses and the nodes around them, and the parts of the last node or gap; the last number, its sign and the last
--- symbol; and the pieces of an open bound, and the last bound
+-- the state of reading: the meaning of the next piece; whether the version in the first line is 2, and whether a node
+-- on costs was read; whether a gap is open; lemmas and gaps in order; the number of open nodes; the node that was read
+-- last, the premises read so far and the nodes around them, and the parts of the last node or gap; the last number, its
+-- sign and the last symbol; and the pieces of an open bound, and the last bound
 pub record State : Type 0 where
   pub coming : Next
   pub priced : Bool
@@ -68,7 +68,7 @@ pub record State : Type 0 where
   pub pieces : List Inner
   pub bound : Bound
 
--- no number at all
+-- the values of parts that weren't read: no form, no place and so on
 abbrev pub no_form : Form
 no_form = record { coefs = []; constant = pos 0 }
 
@@ -81,7 +81,7 @@ no_result_variable = record { rule = 0; place = 0 }
 abbrev pub no_member : Member
 no_member = record { result_variable = no_result_variable; local = record { up = Poly; low = Poly } }
 
--- a node or a gap of which nothing was read
+-- the parts of a node or a gap of which nothing was read
 abbrev pub no_draft : Draft
 no_draft = record {
   rule = 0;
@@ -104,7 +104,7 @@ no_draft = record {
   floor = no_point;
 }
 
--- nothing was read
+-- the state in which nothing was read
 abbrev pub begun : State
 begun = record {
   coming = next.Nothing;
@@ -125,7 +125,7 @@ begun = record {
   bound = Constant 0;
 }
 
--- numbers as their types hold them; those that are read are far below
+-- numbers as their types hold them, capped; the numbers that are read are far below
 abbrev pub in_32 : ℕ → ℕ
 in_32 n = min n (2 ^ 32 - 1)
 
@@ -136,7 +136,7 @@ in_64 n = min n (2 ^ 64 - 1)
 abbrev pub signed : Bool → ℕ → ℤ
 signed negative n = if negative then neg_ℤ (pos (min n (2 ^ 63 - 1))) else pos (min n (2 ^ 63 - 1))
 
--- the last of some numbers, and those before it
+-- the last of some numbers, or 0, and those before it
 abbrev pub last_of : List ℤ → ℤ
 last_of [] = pos 0
 last_of (x ∷ []) = x
@@ -147,24 +147,24 @@ before_last [] = []
 before_last (x ∷ []) = []
 before_last (x ∷ y ∷ xs) = x ∷ before_last (y ∷ xs)
 
--- coefficients, then the constant; parts, then the denominator
+-- numbers as a form, its constant last; and as a scaled point, its denominator last
 abbrev pub form_in : List ℤ → Form
 form_in xs = record { coefs = before_last xs; constant = last_of xs }
 
 abbrev pub point_in : List ℤ → ScaledPoint
 point_in xs = record { parts = before_last xs; den = nat_abs (last_of xs) }
 
--- the first of some, or another one
+-- the first of a list, or another element if it is empty
 abbrev pub first_or : {X : Type 0} → X → List X → X
 first_or d [] = d
 first_or d (x ∷ xs) = x
 
--- a place with its local bound, with the side bound that was read last as the low one
+-- a place with its local bound, of which the lower side bound was read last
 abbrev pub member_in : Draft → Member
 member_in d = record { result_variable = d.result_variable; local = record { up = d.up; low = d.side_bound } }
 
--- the effect of an action on the numbers of a node or a gap, by the last number, its sign and the last symbol; numbers
--- that are used are removed
+-- the parts after an action on the numbers of a node or a gap, given the last number, its sign and the last symbol;
+-- numbers that are used are removed
 abbrev pub numbered : ℕ → Bool → ℕ → Action → Draft → Draft
 numbered n negative symbol action.RuleRead d = record d { rule = in_32 n }
 numbered n negative symbol action.RuleListed d = record d { set = d.set ++ in_32 n ∷ [] }
@@ -178,7 +178,7 @@ numbered n negative symbol action.MoveRead d = record d { moves = d.moves ++ d.n
 numbered n negative symbol action.ResultVariableRead d = record d { result_variable = record { rule = d.rule; place = in_32 n } }
 numbered n negative symbol a d = d
 
--- the effect of an action on side bounds, on how a cost is shown and on scaled points
+-- the parts after an action on side bounds, on how a cost is shown or on scaled points
 abbrev pub shaped : Action → Draft → Draft
 shaped action.UpRead d = record d { up = d.side_bound; side_bound = Poly }
 shaped action.LowRead d = record d { members = d.members ++ member_in d ∷ []; up = Poly; side_bound = Poly }
@@ -193,11 +193,11 @@ shaped action.GapMovesRead d = record d { gap_moves = d.points; points = [] }
 shaped action.GapFloorRead d = record d { floor = first_or no_point d.points; points = [] }
 shaped a d = d
 
--- the effect of an action on the parts of a node or a gap
+-- the parts of a node or a gap after an action
 abbrev pub drafted : ℕ → Bool → ℕ → Action → Draft → Draft
 drafted n negative symbol a d = shaped a (numbered n negative symbol a d)
 
--- whether a node was read
+-- whether a node was read with this action
 abbrev pub ends_node : Action → Bool
 ends_node action.CiteRead = true
 ends_node action.StartRead = true
@@ -211,7 +211,7 @@ ends_node action.WeakenRead = true
 ends_node action.CostRead = true
 ends_node a = false
 
--- the ranking node that parts make
+-- the ranking node of these parts
 abbrev pub rank_in : Draft → RankNode
 rank_in d = record {
   rule = d.rule;
@@ -222,7 +222,7 @@ rank_in d = record {
   floor = d.numbers;
 }
 
--- the node that was read, from its parts, the node inside it and the bound that were read last
+-- the node that was read, from its parts, and the node and the bound inside it that were read last
 abbrev pub node_in : Action → ℕ → Draft → Proof → Bound → Proof
 node_in action.CiteRead n d child b = Cite (in_32 n)
 node_in action.EmptyRead n d child b = Empty d.rule d.numbers
@@ -235,7 +235,7 @@ node_in action.WeakenRead n d child b = Weaken child b
 node_in action.CostRead n d child b = Charge (record { rule = d.rule; by = d.by }) (uses_of d.uses)
 node_in a n d child b = Start
 
--- the gap that was read
+-- the gap of these parts
 abbrev pub gap_read : Draft → Gap
 gap_read d = record {
   rule = d.rule;
@@ -246,7 +246,7 @@ gap_read d = record {
   kept = d.points;
 }
 
--- where a node was read, its parts are taken
+-- the state after an action in which the parts of a node were taken, if the action ends one
 abbrev pub node_ended : Action → State → State
 node_ended a s =
     if ends_node a then record s {
@@ -257,7 +257,7 @@ node_ended a s =
     }
     else s
 
--- the uses that are open end: they are those of the node round them
+-- the state after the end of premises: they are those of the node around them
 abbrev pub uses_read : Outer → State → State
 uses_read Whole s = s
 uses_read (Inside d before outer) s =
@@ -274,7 +274,7 @@ announced action.IntegerComes coming = next.Number
 announced action.NameComes coming = next.Symbol
 announced a coming = coming
 
--- the effect of an action on lines, levels and uses; those that are used are removed
+-- the state after an action on lines, levels and premises; those that are used are removed
 abbrev pub arranged : Action → State → State
 arranged action.SecondVersion s = record s { priced = true }
 arranged action.LemmaRead s = record s { lemmas = s.lemmas ++ s.node ∷ []; node = Start }
@@ -288,8 +288,8 @@ arranged action.IntegerComes s = record s { negative = false }
 arranged action.GapBegins s = record s { in_gap = true; draft = no_draft }
 arranged a s = s
 
--- an action is done: a node that was read takes its parts, lines and levels change, then the parts, and something is
--- announced
+-- the state after an action: a node that was read takes its parts; lines, levels and premises change, then the parts,
+-- and then the meaning of the next piece
 abbrev pub acted : Action → State → State
 acted a s =
     let t = arranged a (node_ended a s) in

@@ -14,8 +14,8 @@ use Rattle.cert_text.specs.Texts.{text_of}
 abbrev pub IsReadAs : Program → List ℕ → ProofFile → Type 0
 IsReadAs p bytes f = answer (reader (proofs_of p)) (length bytes) (tokens p bytes) ≡ Stands f
 
--- of a valid program with fewer than 2^32 symbols, bytes are read as a file exactly if they are the text of that file
--- and it is within the limits, and the text of each file within them is read as that file
+-- for a valid program with fewer than 2^32 symbols, bytes are read as a file exactly if they are the text of that file
+-- and it is within the limits, and the text of each file within the limits is read as that file
 pub record FilesAreTheirTexts : Type 0 where
   pub text : (p : Program) (bytes : List ℕ) (f : ProofFile) → IsValid p → length p.symbols < 2 ^ 32
       → IsReadAs p bytes f → IsTextWithin p bytes f

@@ -16,7 +16,7 @@ use Rattle.cert_types.specs.cert_rules.Nodes.{Weaken, Charge, Proofs, NoProof, A
 use Rattle.cert_types.specs.cert_rules.Gaps.{ScaledPoint, SymbolPlace, Gap, ProofFile}
 use Rattle.cert_text.specs.Texts.{text_of}
 
--- at most this many levels of nodes, this many lemmas and this many gaps are read
+-- the greatest level of a node, number of lemmas and number of gaps that are read
 abbrev pub level_limit : ℕ
 level_limit = 64
 
@@ -26,14 +26,14 @@ lemma_limit = 100000
 abbrev pub gap_limit : ℕ
 gap_limit = 1000
 
--- a rule, and a place of its target
+-- the rule exists, and its target has the place
 pub record IsResultVariableOf (p : Program) (s : ResultVariable) : Type 0 where
   pub rule : Rule
   pub numbered : rule_at p s.rule ≡ Some rule
   pub least : 1 ≤ s.place
   pub most : s.place ≤ arity_of p rule.target
 
--- a symbol, and a place of it
+-- the symbol exists, and has the place
 pub record IsPlaceOf (p : Program) (s : SymbolPlace) : Type 0 where
   pub symbol : s.symbol < length p.symbols
   pub least : 1 ≤ s.place
@@ -49,22 +49,22 @@ pub record IsLocalWithin (l : LocalBound) : Type 0 where
   pub up : IsSideBoundWithin l.up
   pub low : IsSideBoundWithin l.low
 
--- a local bound of a place that there is
+-- the local bound is within the limits, and its place exists
 pub record IsMemberWithin (p : Program) (m : Member) : Type 0 where
   pub result_variable : IsResultVariableOf p m.result_variable
   pub local : IsLocalWithin m.local
 
--- a form at a symbol that there is, whose numbers are at most 2^56 in absolute value
+-- the symbol of the form exists, and the numbers of the form are at most 2^56 in absolute value
 pub record IsSymbolFormWithin (p : Program) (f : SymbolForm) : Type 0 where
   pub symbol : f.symbol < length p.symbols
   pub form : IsFormInLimit f.form
 
--- there is at least one
+-- the list is not empty
 abbrev pub HasOne : {X : Type 0} → List X → Type 0
 HasOne xs = 1 ≤ length xs
 
--- a ranking node is over rules and symbols that there are, with at least one form and at least one list of multipliers,
--- and its numbers are at most 2^56 in absolute value
+-- a ranking node is within the limits: its rules and symbols exist, it has at least one form and at least one list of
+-- multipliers, and its numbers are at most 2^56 in absolute value
 pub record IsRankWithin (p : Program) (n : RankNode) : Type 0 where
   pub rule : IsRule p n.rule
   pub set : All (IsRule p) n.set
@@ -87,8 +87,8 @@ pub record IsBoundWithin (p : Program) (b : Bound) : Type 0 where
   pub listed : ReadsBelow (length p.start_names) b
   pub within : IsWithin b
 
--- a node is within the limits, after this many lemmas: it cites an earlier lemma, counted from 1, and names existing
--- rules, places and symbols
+-- the contents of a node are within the limits, after this many lemmas: it cites an earlier lemma, counted from 1, and
+-- its rules, symbols and places exist
 abbrev pub SaysWithin : Program → ℕ → Proof → Type 0
 SaysWithin p earlier (Cite lemma) = (1 ≤ lemma) × (lemma ≤ earlier)
 SaysWithin p earlier Start = ⊤
@@ -101,12 +101,12 @@ SaysWithin p earlier (Cycle members uses) = HasOne members × All (IsMemberWithi
 SaysWithin p earlier (Weaken child b) = IsBoundWithin p b
 SaysWithin p earlier (Charge node uses) = IsRule p node.rule × IsCostByWithin node.by
 
--- a node at a level is, without what it rests on
+-- a node at this level, without its premises, is within the limits
 abbrev pub IsNodeWithin : Program → ℕ → ℕ → Proof → Type 0
 IsNodeWithin p earlier level proof = (level ≤ level_limit) × SaysWithin p earlier proof
 
 abbrev mutual
-  -- a node at a level is within the limits with all that it rests on, which is one level deeper
+  -- a node at this level, with all of its premises, which are one level deeper, is within the limits
   pub IsProofWithin : Program → ℕ → ℕ → Proof → Type 0
   IsProofWithin p earlier level (Cite lemma) = IsNodeWithin p earlier level (Cite lemma)
   IsProofWithin p earlier level Start = IsNodeWithin p earlier level Start
@@ -126,7 +126,7 @@ abbrev mutual
   IsProofWithin p earlier level (Charge node uses) =
       IsNodeWithin p earlier level (Charge node uses) × AreProofsWithin p earlier (suc level) uses
 
-  -- each of these nodes is
+  -- each of these nodes at this level, with its premises, is within the limits
   pub AreProofsWithin : Program → ℕ → ℕ → Proofs → Type 0
   AreProofsWithin p earlier level NoProof = ⊤
   AreProofsWithin p earlier level (AndProof proof uses) =
@@ -143,7 +143,7 @@ pub record IsPointWithin (z : ScaledPoint) : Type 0 where
   pub parts : All (λ x. nat_abs x ≤ point_limit) z.parts
   pub den : z.den ≤ point_limit
 
--- a gap is over rules and places that there are, with at least one move and at least one kept point
+-- a gap is within the limits: its rules and places exist, and it has at least one move and at least one kept point
 pub record IsGapWithin (p : Program) (g : Gap) : Type 0 where
   pub rule : IsRule p g.rule
   pub set : All (IsRule p) g.set
@@ -154,7 +154,7 @@ pub record IsGapWithin (p : Program) (g : Gap) : Type 0 where
   pub some_kept : HasOne g.kept
   pub kept : All IsPointWithin g.kept
 
--- a file is within the limits, and so are its lemmas and gaps
+-- a file is within the limits: its lemmas and gaps are, and there aren't too many
 pub record IsFileWithin (p : Program) (f : ProofFile) : Type 0 where
   pub lemmas : AreLemmasWithin p 0 f.lemmas
   pub few_lemmas : length f.lemmas ≤ lemma_limit

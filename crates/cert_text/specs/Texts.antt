@@ -39,7 +39,7 @@ side_bound_text Poly = codes "poly"
 side_bound_text (Linear den form multipliers) =
     codes "lin " ++ (decimal den ++ (codes " " ++ (form_numbers form ++ (codes " " ++ numbers_text multipliers))))
 
--- both sides
+-- both sides of a local bound
 abbrev pub local_text : LocalBound → List ℕ
 local_text l = codes "up " ++ (side_bound_text l.up ++ (codes " low " ++ side_bound_text l.low))
 
@@ -64,12 +64,12 @@ rank_rest p n =
     codes " forms " ++ (listed (map (form_text p) n.forms) ++ (codes " moves " ++ (listed (map numbers_text n.moves)
     ++ (codes " floor " ++ numbers_text n.floor))))
 
--- the parts of a ranking node besides its uses
+-- a ranking node without its premises
 abbrev pub rank_text : Program → RankNode → List ℕ
 rank_text p n = rank_head n ++ rank_rest p n
 
 abbrev mutual
-  -- a node with all that it rests on
+  -- a node with all of its premises
   pub node_text : Program → Proof → List ℕ
   node_text p (Cite lemma) = codes "cite " ++ decimal lemma
   node_text p Start = codes "start"
@@ -84,17 +84,17 @@ abbrev mutual
   node_text p (Charge node uses) =
       codes "cost " ++ (decimal node.rule ++ (codes " " ++ (cost_by_text node.by ++ uses_text p uses)))
 
-  -- the uses of a node, in braces, with a semicolon and a blank between
+  -- the premises of a node in braces, with a semicolon and a blank between them
   pub uses_text : Program → Proofs → List ℕ
   uses_text p NoProof = codes " uses {}"
   uses_text p (AndProof proof uses) = codes " uses {" ++ (node_text p proof ++ (more_uses_text p uses ++ codes "}"))
 
-  -- a semicolon and a blank before each
+  -- premises with a semicolon and a blank before each
   pub more_uses_text : Program → Proofs → List ℕ
   more_uses_text p NoProof = []
   more_uses_text p (AndProof proof uses) = codes "; " ++ (node_text p proof ++ more_uses_text p uses)
 
--- whether some node of a proof is on a cost
+-- whether some node of a derivation is on a cost
 abbrev mutual
   pub has_cost : Proof → Bool
   has_cost (Cite lemma) = false
@@ -108,17 +108,17 @@ abbrev mutual
   has_cost (Weaken child b) = has_cost child
   has_cost (Charge node uses) = true
 
-  -- of one of these
+  -- whether some node of these derivations is on a cost
   pub have_cost : Proofs → Bool
   have_cost NoProof = false
   have_cost (AndProof proof uses) = has_cost proof || have_cost uses
 
--- of one of these lemmas
+-- whether some node of these lemmas is on a cost
 abbrev pub some_has_cost : List Proof → Bool
 some_has_cost [] = false
 some_has_cost (lemma ∷ lemmas) = has_cost lemma || some_has_cost lemmas
 
--- the first line says whether there are nodes on costs
+-- the first line, with version 2 if there are nodes on costs, else 1
 abbrev pub first_line : List Proof → List ℕ
 first_line lemmas = if some_has_cost lemmas then codes "koat-proof 2\n" else codes "koat-proof 1\n"
 
@@ -141,13 +141,13 @@ gap_head p g =
     decimal g.rule ++ (codes " set " ++ (numbers_text g.set
     ++ (codes " shut " ++ bracketed (joined (codes " ") (map (symbol_place_text p) g.shut)))))
 
--- the points of a gap
+-- the moves, the floor and the kept points of a gap
 abbrev pub gap_points : Gap → List ℕ
 gap_points g =
     codes " moves " ++ (listed (map point_text g.moves) ++ (codes " floor " ++ (point_text g.floor
     ++ (codes " kept " ++ listed (map point_text g.kept)))))
 
--- the parts of a gap
+-- a gap after its first word
 abbrev pub gap_text : Program → Gap → List ℕ
 gap_text p g = gap_head p g ++ gap_points g
 

@@ -15,7 +15,7 @@ use Rattle.cert_text.specs.Texts.{text_of}
 use Rattle.cert_text.specs.Spelled.{IsFileWithin, AreLemmasWithin, IsProofWithin, IsSideBoundWithin, IsPointWithin}
 use Rattle.cert_text.specs.Spelled.{IsPlaceOf, IsGapWithin, IsBoundWithin}
 
--- a rule from a symbol to l1 with one variable A
+-- a rule from a symbol to l1 with one variable, A
 abbrev pub rule_from : ℕ → Term → List Atom → Rule
 rule_from source update guard = record {
   source = source;
@@ -40,25 +40,26 @@ counting = record {
       ∷ [];
 }
 
--- a form with one coefficient, and the same at a symbol
+-- a form with one coefficient, and such a form at a symbol
 abbrev pub form : ℤ → ℤ → Form
 form coef constant = record { coefs = coef ∷ []; constant = constant }
 
 abbrev pub at_symbol : ℕ → ℤ → ℤ → SymbolForm
 at_symbol symbol coef constant = record { symbol = symbol; form = form coef constant }
 
--- a place with an up and a low side bound over the denominator 1, each with its multipliers
+-- a place with an upper and a lower side bound over the denominator 1, each with its multipliers
 abbrev pub member : ℕ → Form → List ℕ → Form → List ℕ → Member
 member rule up above low below = record {
   result_variable = record { rule = rule; place = 1 };
   local = record { up = Linear 1 up above; low = Linear 1 low below };
 }
 
--- a node that rests on one other
+-- one derivation as the only premise
 abbrev pub only : Proof → Proofs
 only proof = AndProof proof NoProof
 
--- the first rule occurs once, the second one as often as A says, and both leave at most A
+-- the nodes that the first rule occurs once, that the second one occurs at most A times, and that after both the place
+-- is at most A
 abbrev pub rank_enter : Proof
 rank_enter =
     Rank
@@ -92,7 +93,7 @@ abbrev pub size_loop : Proof
 size_loop =
     Cycle (member 2 (form (pos 1) (pos 0)) (0 ∷ []) (form (pos 0) (pos 0)) (1 ∷ []) ∷ []) (only (Cite 3))
 
--- a file without gaps, and one of a single lemma
+-- a file of lemmas alone, and a file of one lemma
 abbrev pub file_of_lemmas : List Proof → ProofFile
 file_of_lemmas lemmas = record { lemmas = lemmas; gaps = [] }
 
@@ -101,11 +102,11 @@ abbrev pub lines_text : List (List ℕ) → List ℕ
 lines_text [] = []
 lines_text (line ∷ lines) = line ++ (codes "\n" ++ lines_text lines)
 
--- these lines are the text of a file
+-- these lines, between the first and the last, are the text of a file
 abbrev pub HasLines : ProofFile → List (List ℕ) → Type 0
 HasLines f lines = text_of counting f ≡ lines_text lines
 
--- this is the line of a lemma, in a file without costs
+-- this line is that of a lemma, in a file without costs
 abbrev pub HasLine : Proof → List ℕ → Type 0
 HasLine lemma line =
     HasLines (file_of_lemmas (lemma ∷ [])) (codes "koat-proof 1" ∷ (codes "lemma " ++ line) ∷ codes "end" ∷ [])
@@ -119,7 +120,7 @@ HasCostLine lemma line =
 abbrev pub point : ℤ → ℕ → ScaledPoint
 point part den = record { parts = part ∷ []; den = den }
 
--- the second rule alone isn't ranked, with these shut places
+-- a gap of the second rule over itself, with these shut places
 abbrev pub gap_with : List SymbolPlace → Gap
 gap_with shut = record {
   rule = 2;
@@ -139,7 +140,7 @@ gap_apart =
       kept = point (pos 8) 9 ∷ [];
     }
 
--- an up side bound with a form of two coefficients, and two places
+-- a node with an upper side bound whose form has two coefficients, and a node with two places
 abbrev pub spread_two : Proof
 spread_two =
     Spread
@@ -160,13 +161,13 @@ cycle_two =
     ∷ [])
     NoProof
 
--- two parts
+-- a list of two parts
 abbrev pub two_parts : Bound → Bound → Parts
 two_parts a b = Part a (Part b NoParts)
 
--- the texts of files
+-- the texts of small files
 pub record TextsAreWorkedOut : Type 0 where
-  -- nothing at all, and a loop with all its times and sizes
+  -- an empty file, and the file of a loop with all its times and sizes
   pub nothing_at_all : HasLines (file_of_lemmas []) (codes "koat-proof 1" ∷ codes "end" ∷ [])
   pub loop : HasLines (file_of_lemmas (rank_enter ∷ rank_loop ∷ size_enter ∷ size_loop ∷ []))
       (codes "koat-proof 1"
@@ -176,7 +177,7 @@ pub record TextsAreWorkedOut : Type 0 where
       ∷ codes "lemma cycle [2.1 up lin 1 [1 0] [0] low lin 1 [0 0] [1]] uses {cite 3}"
       ∷ codes "end"
       ∷ [])
-  -- each other kind of node
+  -- each further kind of node
   pub empty : HasLine (Empty 2 (3 ∷ 10 ∷ [])) (codes "empty 2 [3 10]")
   pub unreached : HasLine (Unreached 2 NoProof) (codes "unreached 2 uses {}")
   pub uses : HasLine (Unreached 2 (AndProof (Cite 1) (AndProof Start NoProof)))
@@ -200,7 +201,7 @@ pub record TextsAreWorkedOut : Type 0 where
       (codes "weaken (start) to 2^(2*A)")
   pub factor : HasLine (Weaken Start (ProductOf (two_parts (PowerOf 2 (Constant 2)) (Input 0))))
       (codes "weaken (start) to 2^2*A")
-  -- costs in any position show in the first line
+  -- a node on a cost at any position gives the first line the version 2
   pub side_bound : HasCostLine
       (Charge (record { rule = 1; by = SideBoundCost (Linear 1 (form (pos 1) (pos 0)) (0 ∷ [])) })
       (AndProof Start (AndProof (Cite 1) NoProof)))
@@ -223,19 +224,20 @@ pub record TextsAreWorkedOut : Type 0 where
       ∷ codes "gap 2 set [2] shut [l0.1 l1.1] moves [[1 1]] floor [0 0] kept [[1 1]]"
       ∷ codes "end"
       ∷ [])
-  -- the moves, the floor and the kept points of a gap in this order, and of each point its parts, then its denominator
+  -- the moves, the floor and the kept points of a gap come in this order, and of each point its parts, then its
+  -- denominator
   pub gap_points : HasLines (record { lemmas = []; gaps = gap_apart ∷ [] })
       (codes "koat-proof 1"
       ∷ codes "gap 2 set [2] shut [] moves [[1 2 3]; [4 5]] floor [6 7] kept [[8 9]]"
       ∷ codes "end"
       ∷ [])
 
--- nodes on top of one another, this many below the first
+-- n nodes, each the only premise of the one before
 abbrev pub nested : ℕ → Proof
 nested zero = Start
 nested (suc n) = Never (nested n)
 
--- a proof is within the limits as a lemma after this many others
+-- a derivation is within the limits as a lemma after this many others
 abbrev pub IsLemma : ℕ → Proof → Type 0
 IsLemma earlier proof = IsProofWithin counting earlier 1 proof
 
@@ -243,17 +245,17 @@ IsLemma earlier proof = IsProofWithin counting earlier 1 proof
 abbrev pub power : ℕ → Bound
 power base = PowerOf base (Input 0)
 
--- files within the limits, and others
+-- files that are within the limits, and files that aren't
 pub record LimitsAreWorkedOut : Type 0 where
   pub loop : IsFileWithin counting (file_of_lemmas (rank_enter ∷ rank_loop ∷ size_enter ∷ size_loop ∷ []))
-  -- an earlier lemma is cited, and not the lemma itself, or lemma 0
+  -- an earlier lemma may be cited, but not the lemma itself, or lemma 0
   pub earlier : IsLemma 1 (Cite 1)
   pub itself : ¬ (IsLemma 0 (Cite 1))
   pub lemma_zero : ¬ (IsLemma 1 (Cite 0))
-  -- 64 levels, and one more
+  -- 64 levels are within the limits, and 65 aren't
   pub levels : IsLemma 0 (nested 63)
   pub one_deeper : ¬ (IsLemma 0 (nested 64))
-  -- 100,000 lemmas and 1,000 gaps, and one more
+  -- 100,000 lemmas and 1,000 gaps are within the limits, and one more of each isn't
   pub lemmas : (lemmas : List Proof) → AreLemmasWithin counting 0 lemmas → length lemmas ≤ 100000
       → IsFileWithin counting (file_of_lemmas lemmas)
   pub too_many_lemmas : (lemmas : List Proof) → length lemmas ≡ 100001
@@ -266,12 +268,12 @@ pub record LimitsAreWorkedOut : Type 0 where
   pub rule_zero : ¬ (IsLemma 0 (Unreached 0 NoProof))
   pub last_rule : IsLemma 0 (Unreached 2 NoProof)
   pub rule_behind : ¬ (IsLemma 0 (Unreached 3 NoProof))
-  -- the numbers of a lemma
+  -- the numbers of a lemma are at most 2^56
   pub large : IsLemma 0 (Empty 1 ((2 ^ 56) ∷ []))
   pub too_large : ¬ (IsLemma 0 (Empty 1 ((2 ^ 56 + 1) ∷ [])))
   pub negative : IsSideBoundWithin (Linear 1 (form (negsuc (2 ^ 56 - 1)) (pos 0)) [])
   pub too_negative : ¬ (IsSideBoundWithin (Linear 1 (form (negsuc (2 ^ 56)) (pos 0)) []))
-  -- the limits of a gap's numbers, and of its places
+  -- the numbers of a gap's points are at most 2^45, and its places exist
   pub large_point : IsPointWithin (point (pos (2 ^ 45)) (2 ^ 45))
   pub too_large_point : ¬ (IsPointWithin (point (pos (2 ^ 45 + 1)) 1))
   pub too_large_den : ¬ (IsPointWithin (point (pos 1) (2 ^ 45 + 1)))
@@ -281,7 +283,7 @@ pub record LimitsAreWorkedOut : Type 0 where
   pub no_symbol : ¬ (IsPlaceOf counting (record { symbol = 2; place = 1 }))
   -- a loop has at least one member
   pub no_member : ¬ (IsLemma 0 (Cycle [] NoProof))
-  -- bounds are tidy, and over the start arguments
+  -- the bounds of a `weaken` node are tidy, and over the start arguments
   pub bound : IsLemma 0 (Weaken Start (power 2))
   pub small_base : ¬ (IsLemma 0 (Weaken Start (power 1)))
   -- a bound has at most 4,096 nodes and 200 levels
@@ -289,7 +291,7 @@ pub record LimitsAreWorkedOut : Type 0 where
   pub too_many_levels : (b : Bound) → depth_of b ≡ 201 → ¬ (IsBoundWithin counting b)
   pub no_input : ¬ (IsLemma 0 (Weaken Start (Input 1)))
 
--- both
+-- the worked texts and limits together
 pub record TextsAndLimitsAreWorkedOut : Type 0 where
   pub texts : TextsAreWorkedOut
   pub limits : LimitsAreWorkedOut

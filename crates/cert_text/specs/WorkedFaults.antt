@@ -16,16 +16,16 @@ use Rattle.cert_lexer.specs.declared.kind.ProofKind.TheVariants.{Syntax, NumberT
 use Rattle.cert_lexer.specs.declared.kind.ProofKind.TheVariants.{Limit}
 use Rattle.cert_lexer.specs.Lexing.{tokens}
 use Rattle.cert_text.specs.Remembered.{begun}
-use Rattle.cert_text.specs.Against.{against_line, against_node}
+use Rattle.cert_text.specs.NumberFaults.{against_line, fault_of_node}
 use Rattle.cert_text.specs.Reading.{proofs_of}
 use Rattle.cert_text.specs.Worked.{counting, form, member, only, rank_enter, size_enter, file_of_lemmas}
 use Rattle.cert_text.specs.Worked.{lines_text, gap_with, gap_apart, spread_two, cycle_two, two_parts}
 
--- the answer to reading bytes
+-- the answer to reading these bytes
 abbrev pub ComesTo : List ℕ → Answer ProofFile ProofKind → Type 0
 ComesTo bytes a = answer (reader (proofs_of counting)) (length bytes) (tokens counting bytes) ≡ a
 
--- a line is that of a lemma, in a file without costs and in one with costs
+-- this line is that of a lemma, in a file without costs; and in one with costs
 abbrev pub IsLineOf : List ℕ → Proof → Type 0
 IsLineOf line lemma =
     ComesTo (lines_text (codes "koat-proof 1" ∷ (codes "lemma " ++ line) ∷ codes "end" ∷ []))
@@ -40,11 +40,11 @@ IsCostLineOf line lemma =
 abbrev pub IsRefused : List ℕ → ProofKind → ℕ → Type 0
 IsRefused bytes kind at = ComesTo bytes (Refused (record { kind = kind; at = at }))
 
--- the refusal of a file with these bytes in its first lemma, whose byte 0 is byte 19
+-- the refusal of a file with these bytes in its first lemma; byte 0 of them is byte 19 of the file
 abbrev pub IsRefusedLemma : List ℕ → ProofKind → ℕ → Type 0
 IsRefusedLemma bytes kind at = IsRefused (codes "koat-proof 1\nlemma " ++ bytes) kind at
 
--- each kind of node, and gaps
+-- nodes of each kind, and gaps, are read
 pub record NodesAreRead : Type 0 where
   pub cite : ComesTo (codes "koat-proof 1\nlemma start\nlemma cite 1\nend\n")
       (Stands (file_of_lemmas (Start ∷ Cite 1 ∷ [])))
@@ -89,17 +89,17 @@ pub record NodesAreRead : Type 0 where
 
 -- the refusals of lemmas
 pub record LemmasAreRefused : Type 0 where
-  -- a lemma isn't earlier than itself
+  -- a lemma that cites itself is refused
   pub itself : IsRefusedLemma (codes "cite 1\n") BadReference 24
   pub lemma_zero : IsRefusedLemma (codes "cite 0\n") BadReference 24
-  -- of a lemma that isn't there up to 2^56, and with one more
+  -- a citation of a lemma that doesn't exist is `BadReference` up to 2^56, and one more is too large
   pub largest_lemma : IsRefusedLemma (codes "cite 72057594037927936\n") BadReference 24
   pub large_lemma : IsRefusedLemma (codes "cite 72057594037927937\n") NumberTooLarge 24
-  -- costs, and none
+  -- a node on costs is refused under version 1, and a file without one under version 2
   pub cost : IsRefusedLemma (codes "cost 1") Syntax 19
   pub no_cost : IsRefused (codes "koat-proof 2\nend\n") Syntax 13
   pub unpaid : IsRefused (codes "koat-proof 2\nlemma start\nend\n") Syntax 25
-  -- rules and places; a number that is too large beats one that isn't there
+  -- rules and places that don't exist are refused; a number that is too large is reported before that
   pub rule_zero : IsRefusedLemma (codes "unreached 0 uses") BadReference 29
   pub third_rule : IsRefusedLemma (codes "unreached 3 uses") BadReference 29
   pub large_rule : IsRefusedLemma (codes "unreached 72057594037927937 uses") NumberTooLarge 29
@@ -108,16 +108,16 @@ pub record LemmasAreRefused : Type 0 where
   pub second_place : IsRefusedLemma (codes "spread 1.2 up") BadReference 28
   pub large_place : IsRefusedLemma (codes "spread 1.72057594037927937 up") NumberTooLarge 28
   pub symbol : IsRefusedLemma (codes "rank 1 set [1] den 1 forms [l9 [0]]") BadReference 47
-  -- 2^56 and one more, and with a sign
+  -- 2^56 is accepted, with a sign or without, and one more isn't
   pub largest : IsRefusedLemma (codes "empty 1 [72057594037927936") Syntax 45
   pub too_large : IsRefusedLemma (codes "empty 1 [72057594037927937") NumberTooLarge 28
   pub too_small : IsRefusedLemma (codes "spread 1.1 up lin 1 [-72057594037927937") NumberTooLarge 41
-  -- of a reference that isn't there and what can't follow the first one counts
+  -- of a reference to nothing and a later piece that can't follow the first is reported
   pub first_counts : IsRefusedLemma (codes "unreached 3 using") BadReference 29
-  -- levels: a 65th is too deep, but `cost` under a 1 comes first
-  pub deepest : against_node (record begun { levels = 64 }) word.Start ≡ None
-  pub too_deep : against_node (record begun { levels = 65 }) word.Start ≡ Some TooDeep
-  pub cost_first : against_node (record begun { levels = 65 }) word.Cost ≡ Some Syntax
+  -- a node at level 65 is too deep, but `cost` under version 1 is reported before
+  pub deepest : fault_of_node (record begun { levels = 64 }) word.Start ≡ None
+  pub too_deep : fault_of_node (record begun { levels = 65 }) word.Start ≡ Some TooDeep
+  pub cost_first : fault_of_node (record begun { levels = 65 }) word.Cost ≡ Some Syntax
   -- the 100,000th lemma and the 1,000th gap are read, and no further one
   pub last_lemma : (lemmas : List Proof) → length lemmas ≡ 99999
       → against_line (record begun { lemmas = lemmas }) word.Lemma ≡ None
@@ -128,7 +128,7 @@ pub record LemmasAreRefused : Type 0 where
   pub gap_behind : (gaps : List Gap) → length gaps ≡ 1000
       → against_line (record begun { gaps = gaps }) word.Gap ≡ Some Limit
 
--- the refusals of bounds, whose byte 0 is byte 37
+-- the refusals of bounds; byte 0 of them is byte 37 of the file
 pub record BoundsAreRefused : Type 0 where
   pub unlisted : IsRefusedLemma (codes "weaken (start) to B\n") BadReference 37
   pub before_bracket : IsRefusedLemma (codes "weaken (start) to B)") BadReference 37
@@ -139,7 +139,7 @@ pub record BoundsAreRefused : Type 0 where
   pub large : IsRefusedLemma (codes "weaken (start) to 170141183460469231731687303715884105728\n") NumberTooLarge 37
   pub text_ends : IsRefusedLemma (codes "weaken (start) to A") Syntax 38
   pub unlisted_at_end : IsRefusedLemma (codes "weaken (start) to A + B") BadReference 41
-  -- pieces have more bytes than one
+  -- the positions of faults count bytes, of which pieces can have several
   pub behind_ten : IsRefusedLemma (codes "weaken (start) to 10*B + 10\n") BadReference 40
 
 -- the refusals of gaps, whose numbers are at most 2^45; the first entry of a list of shut places begins at byte 33
@@ -158,14 +158,14 @@ pub record GapsAreRefused : Type 0 where
   pub largest : IsRefused (codes "koat-proof 1\ngap 2 set [2] shut [] moves [[35184372088832") Syntax 57
   pub no_denominator : IsRefused (codes "koat-proof 1\ngap 2 set [2] shut [] moves [[1 -1]") Syntax 47
 
--- all of it
+-- all worked answers
 pub record FilesAreWorkedOut : Type 0 where
   pub nodes : NodesAreRead
   pub lemmas : LemmasAreRefused
   pub bounds : BoundsAreRefused
   pub gaps : GapsAreRefused
 
--- the proof files of each program are read as the laws of readers say: each text has one answer, the file or the first
--- refusal, and a file is accepted exactly if its text is derived and its tokens have no fault
+-- the reader of the proof files of each program satisfies the laws of readers: each text has one answer, the file or
+-- the first refusal, and a file is accepted exactly if the grammar derives its text and its tokens have no fault
 pub record ProofTextsAreRead : Type 0 where
   pub each : (p : Program) → TextsAreRead (proofs_of p)

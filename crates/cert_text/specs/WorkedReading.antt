@@ -1,4 +1,4 @@
--- Worked values of where proof files break off, apart from references and limits.
+-- Worked values of where texts of proof files break off, apart from references and limits.
 use Rattle.std.specs.Prelude.{◌≡◌, ℕ, true, false, List, [], ◌∷◌, ◌++◌, length, codes, ⊤}
 use Rattle.text_grammar.specs.text_core.Tokens.{pieces}
 use Rattle.text_grammar.specs.text_core.Reading.{Answer, Stands, Refused, answer}
@@ -16,7 +16,7 @@ use Rattle.cert_lexer.specs.Lexing.{tokens}
 use Rattle.its_model.specs.model.Programs.{Program}
 use Rattle.cert_text.specs.Worked.{counting}
 
--- texts of the grammar without faults of tokens, which all denote the same value
+-- texts of the grammar whose tokens have no faults, and which all denote the same value
 abbrev pub bare : Text Piece ⊤ ℕ
 bare = record {
   grammar = proof_grammar;
@@ -31,11 +31,11 @@ bare = record {
 abbrev pub IsCutInto : List ℕ → List Piece → Type 0
 IsCutInto bytes ps = pieces (tokens counting bytes) ≡ ps
 
--- the answer to reading them
+-- the answer to reading these bytes
 abbrev pub ComesTo : List ℕ → Answer ⊤ ℕ → Type 0
 ComesTo bytes a = answer (reader bare) (length bytes) (tokens counting bytes) ≡ a
 
--- the bytes are a whole text, or break off at a position
+-- the bytes are a whole text, or break off at this position
 abbrev pub IsRead : List ℕ → Type 0
 IsRead bytes = ComesTo bytes (Stands tt)
 
@@ -51,14 +51,14 @@ dotted = record {
   rules = [];
 }
 
--- how bytes are cut
+-- worked values of how bytes are cut
 pub record CutsAreWorkedOut : Type 0 where
-  -- the first word, and longer ones; elsewhere it is a name and a `-`
+  -- the first word is a piece of its own, but not at the beginning of a longer word; elsewhere it is a name and a `-`
   pub first : IsCutInto (codes "koat-proof 1") (First ∷ ASign sign.Blank ∷ Number 1 ∷ [])
   pub longer : IsCutInto (codes "koat-proofs") (Name word.Other 2 ∷ ASign sign.Minus ∷ Name word.Other 2 ∷ [])
   pub again : IsCutInto (codes " koat-proof")
       (ASign sign.Blank ∷ Name word.Other 2 ∷ ASign sign.Minus ∷ Name word.Other 2 ∷ [])
-  -- names of symbols, the longest ones, and digits
+  -- names of symbols are cut as the longest ones, and digits too
   pub names : IsCutInto (codes "l1 l0.1 uses")
       (Name word.Other 1 ∷ ASign sign.Blank ∷ Name word.Other 2 ∷ ASign sign.Blank ∷ Name word.Uses 2 ∷ [])
   pub result_variable : IsCutInto (codes "10.2") (Number 10 ∷ ASign sign.Dot ∷ Number 2 ∷ [])
@@ -69,7 +69,7 @@ pub record CutsAreWorkedOut : Type 0 where
   pub carriage_return : IsCutInto (13 ∷ []) (Wrong ∷ [])
   pub over_127 : IsCutInto (128 ∷ []) (Wrong ∷ [])
   pub largest_byte : IsCutInto (255 ∷ []) (Wrong ∷ [])
-  -- places of symbols in the list of shut ones, and nowhere else
+  -- a place of a symbol is cut as one piece in the list of shut places, and nowhere else
   pub places : IsCutInto (codes "shut [l1.1 l0. l0.01 l0.1x] l1.1")
       (Name word.Shut 2 ∷ ASign sign.Blank ∷ ASign sign.OpenSquare
       ∷ Place 1 (behind.Number 1) ∷ ASign sign.Blank ∷ Place 0 behind.Nothing ∷ ASign sign.Blank
@@ -81,7 +81,7 @@ pub record CutsAreWorkedOut : Type 0 where
       ∷ Name word.Shut 2 ∷ ASign sign.Blank ∷ ASign sign.OpenSquare ∷ Place 0 (behind.Number 1) ∷ ASign sign.Blank
       ∷ Place 1 (behind.Number 2) ∷ ASign sign.Blank ∷ Place 0 behind.NoNumber ∷ ASign sign.Blank
       ∷ Place 2 (behind.Number 1) ∷ ASign sign.CloseSquare ∷ []
-  -- a bound after `) to `, up to a bracket that closes none of its own
+  -- a bound begins after `) to `, and ends before a bracket that closes none of its own
   pub closed : IsCutInto (codes ") to 2^(A))")
       (ASign sign.Close ∷ ASign sign.Blank ∷ Name word.To 2 ∷ ASign sign.Blank
       ∷ InBound (bound.Number 2) 1 false ∷ InBound bound.Caret 1 false ∷ InBound bound.Open 1 false
@@ -92,14 +92,14 @@ pub record CutsAreWorkedOut : Type 0 where
       ∷ InBound bound.Blank 1 false ∷ InBound (bound.Number 1) 1 false ∷ InBound bound.Close 1 true
       ∷ ASign sign.Semicolon ∷ ASign sign.Blank
       ∷ Name word.Other 2 ∷ [])
-  -- the end of the text ends it too
+  -- the end of the text ends a bound
   pub ended : IsCutInto (codes ") to A)")
       (ASign sign.Close ∷ ASign sign.Blank ∷ Name word.To 2 ∷ ASign sign.Blank
       ∷ InBound (bound.Variable 0) 1 true ∷ ASign sign.Close ∷ [])
   pub open_end : IsCutInto (codes ") to (A")
       (ASign sign.Close ∷ ASign sign.Blank ∷ Name word.To 2 ∷ ASign sign.Blank
       ∷ InBound bound.Open 1 false ∷ InBound (bound.Variable 0) 1 true ∷ [])
-  -- each occurrence of a name that is no start argument is a variable of its own, and none of the start arguments
+  -- each occurrence of a name that is no start argument is a variable of its own, other than all start arguments
   pub unlisted : IsCutInto (codes ") to B*A*B")
       (ASign sign.Close ∷ ASign sign.Blank ∷ Name word.To 2 ∷ ASign sign.Blank
       ∷ InBound (bound.Variable 1) 1 false ∷ InBound bound.Times 1 false ∷ InBound (bound.Variable 0) 1 false
@@ -111,7 +111,8 @@ pub record CutsAreWorkedOut : Type 0 where
       ∷ InBound (bound.Variable 1) 1 true ∷ [])
   pub to_alone : IsCutInto (codes "to A") (Name word.To 2 ∷ ASign sign.Blank ∷ Name word.Other 2 ∷ [])
 
--- where texts break off; the first byte after `koat-proof 1` and its line feed is byte 13, and `lemma ` ends at 19
+-- the positions at which texts break off; the first byte after `koat-proof 1` and its line feed is byte 13, and `lemma
+-- ` ends at 19
 pub record BreaksAreWorkedOut : Type 0 where
   pub nothing_at_all : BreaksOffAt [] 0
   pub no_lemma : IsRead (codes "koat-proof 1\nend\n")
@@ -135,7 +136,8 @@ pub record BreaksAreWorkedOut : Type 0 where
   pub minus_zero : BreaksOffAt (codes "koat-proof 1\nlemma spread 1.1 up lin 1 [-0]") 41
   pub no_constant : BreaksOffAt (codes "koat-proof 1\nlemma spread 1.1 up lin 1 []") 40
 
--- the grammar can be read, texts of it are lawful, and this is how they are cut and where they break off
+-- all worked values of reading: the grammar can be read, its texts are lawful, and bytes are cut and break off as
+-- stated
 pub record ReadingIsWorkedOut : Type 0 where
   pub readable : is_readable proof_grammar ≡ true
   pub lawful : IsLawful bare

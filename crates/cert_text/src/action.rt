@@ -1,11 +1,11 @@
-//! The actions of the marks of the grammar.
+//! The actions of a parse, for the marks of the grammar.
 
 /// The action of a mark.
 #[derive(Clone, Copy, Debug, PartialEq, Eq)]
 pub enum Action {
-    /// The first line has a 1.
+    /// The version in the first line is 1.
     FirstVersion,
-    /// The first line has a 2.
+    /// The version in the first line is 2.
     SecondVersion,
     /// A lemma was read.
     LemmaRead,
@@ -35,29 +35,29 @@ pub enum Action {
     WeakenRead,
     /// A node `cost` was read.
     CostRead,
-    /// The uses of a node begin.
+    /// The premises of a node begin.
     UsesBegin,
-    /// One of the nodes that it rests on was read.
+    /// One premise was read.
     UsedRead,
-    /// All of them were read.
+    /// All premises were read.
     UsesRead,
     /// The number of a rule comes next.
     RuleComes,
-    /// It is that of a node, of a gap or of a place.
+    /// The number of the rule of a node, of a gap or of a place was read.
     RuleRead,
-    /// It is one of a set.
+    /// The number of a rule of a set was read.
     RuleListed,
     /// A natural number comes next.
     NumberComes,
-    /// It is a denominator.
+    /// A denominator was read.
     NumberRead,
     /// A list of numbers begins.
     ListBegins,
-    /// The number is one of the list.
+    /// A number of a list was read.
     Listed,
     /// A number that may have a sign comes next.
     IntegerComes,
-    /// It is one of the list.
+    /// A number of a list that may have a sign was read.
     IntegerRead,
     /// The name of a symbol comes next.
     NameComes,
@@ -69,19 +69,19 @@ pub enum Action {
     PlaceComes,
     /// A rule and a place were read.
     ResultVariableRead,
-    /// An up side bound was read.
+    /// An upper side bound was read.
     UpRead,
-    /// A low side bound was read, and with it a place with its local bound.
+    /// A lower side bound was read, and with it a place with its local bound.
     LowRead,
-    /// The side bound is a polynomial.
+    /// The polynomial of an update was read as a side bound.
     PolyRead,
     /// The form of a side bound was read.
     SideBoundFormRead,
-    /// The side bound is linear.
+    /// A linear side bound was read.
     SideBoundRead,
     /// A cost is shown by multipliers.
     ByEmptyRead,
-    /// A cost is shown by a rule that never runs.
+    /// A cost is shown by a premise that the rule never runs.
     ByNeverRead,
     /// A cost is shown by a side bound.
     BySideBoundRead,

@@ -1,4 +1,4 @@
-//! The parts of a node or a gap while it is read.
+//! The parts of the node or the gap that is being read.
 
 ghost use Rattle.std.specs.Prelude.{◌≡◌, ℕ, Bool, map, OnOk};
 ghost use Rattle.cert_types.specs.AnswerViews.{scaled_of};
@@ -22,28 +22,28 @@ pub struct Affine {
     pub constant: i64,
 }
 
-/// The parts of the node or the gap that has begun last, as far as they were read.
+/// The parts of the node or the gap that began last, as far as they were read.
 #[derive(Drop)]
 pub struct Draft {
     pub rule: u32,
     pub set: Vec<u32>,
     pub den: u64,
-    /// The last list of numbers, without signs and with them.
+    /// The last lists of numbers: without signs, and with signs.
     pub numbers: Vec<u64>,
     pub integers: Vec<i64>,
     /// The forms and the multipliers of a ranking function.
     pub forms: Vec<Form>,
     pub moves: Vec<Vec<u64>>,
-    /// A side bound that was read, its form before, and the up side bound.
+    /// A side bound that was read, the form before it, and the upper side bound.
     pub form: Affine,
     pub side_bound: SideBound,
     pub up: SideBound,
-    /// A place, and the places with their local bounds.
+    /// A place that was read, and the places with their local bounds.
     pub result_variable: ResultVariable,
     pub members: Vec<Member>,
     /// How a cost is shown.
     pub by: CostBy,
-    /// The uses of the node.
+    /// The premises of the node.
     pub uses: Vec<Proof>,
     /// The shut places, the last scaled points, and the moves and the floor of a gap.
     pub shut: Vec<(u32, u32)>,
@@ -52,14 +52,14 @@ pub struct Draft {
     pub floor: Scaled,
 }
 
-/// A number as 32 bits hold it, or the greatest that they hold.
+/// A number as a `u32`, or the greatest number that a `u32` holds.
 pub fn in_32(number: u128) -> u32
     ensures { result ≡ in_32_of number }
 {
     number.min(u128::from(u32::MAX)) as u32
 }
 
-/// A number as 64 bits hold it, or the greatest that they hold.
+/// A number as a `u64`, or the greatest number that a `u64` holds.
 pub fn in_64(number: u128) -> u64
     ensures { result ≡ in_64_of number }
 {
@@ -74,7 +74,7 @@ fn signed(negative: bool, number: u128) -> i64
     if negative { -size } else { size }
 }
 
-// Numbers before the last, and it, or 0.
+// The numbers before the last one, and the last one, or 0 if there is none.
 fn parted(numbers: Vec<i64>) -> (Vec<i64>, i64)
     ensures before { result.0.items ≡ before_last numbers.items }
     ensures last { result.1 ≡ last_of numbers.items }
@@ -86,7 +86,7 @@ fn parted(numbers: Vec<i64>) -> (Vec<i64>, i64)
     }
 }
 
-// Numbers as coefficients and a constant.
+// Numbers as coefficients and a constant, the last one.
 fn affine_from(numbers: Vec<i64>) -> Affine
     ensures { affine_of result ≡ form_in numbers.items }
 {
@@ -94,7 +94,7 @@ fn affine_from(numbers: Vec<i64>) -> Affine
     Affine { coefs, constant }
 }
 
-// Numbers as a scaled point.
+// Numbers as a scaled point: its parts, and the denominator as the last one.
 fn point_from(numbers: Vec<i64>) -> Scaled
     ensures { scaled_of result ≡ point_in numbers.items }
 {
@@ -105,7 +105,7 @@ fn point_from(numbers: Vec<i64>) -> Scaled
     }
 }
 
-// No form.
+// The form without coefficients, 0.
 fn no_affine(alloc: Global) -> Affine
     ensures { affine_of result ≡ no_form }
 {
@@ -115,7 +115,7 @@ fn no_affine(alloc: Global) -> Affine
     }
 }
 
-// No point.
+// The scaled point without parts.
 fn no_scaled(alloc: Global) -> Scaled
     ensures { scaled_of result ≡ no_point }
 {
@@ -126,7 +126,7 @@ fn no_scaled(alloc: Global) -> Scaled
 }
 
 impl Draft {
-    /// Nothing was read.
+    /// The parts of a node or a gap of which nothing was read.
     pub fn new(alloc: Global) -> Draft
         ensures { draft_of result ≡ no_draft }
     {
@@ -152,7 +152,7 @@ impl Draft {
         }
     }
 
-    /// Does what an action does to the parts, by the last number, its sign and the last symbol.
+    /// Changes the parts by an action, given the last number, its sign and the last symbol.
     ///
     /// # Errors
     ///
@@ -171,7 +171,7 @@ impl Draft {
         self.act_shape(alloc, action)
     }
 
-    // Does an action on numbers.
+    // Changes the parts by an action on numbers.
     fn act_number(
         &mut self,
         alloc: Global,
@@ -205,7 +205,7 @@ impl Draft {
         Ok(())
     }
 
-    // Does an action on side bounds, on how a cost is shown and on scaled points.
+    // Changes the parts by an action on side bounds, on how a cost is shown or on scaled points.
     fn act_shape(&mut self, alloc: Global, action: Action) -> Result<(), AllocError>
         ensures { OnOk result (draft_of self.new ≡ shaped action (draft_of self.old)) }
     {
@@ -235,7 +235,7 @@ impl Draft {
         Ok(())
     }
 
-    /// With this as what the node rests on.
+    /// The parts with these premises.
     pub fn resting_on(self, uses: Vec<Proof>) -> Draft
         ensures { draft_of result ≡ record (draft_of self) { uses = map proof_of uses.items } }
     {
@@ -244,7 +244,7 @@ impl Draft {
         draft
     }
 
-    // The form of a symbol.
+    // Adds the form of a symbol.
     fn read_form(&mut self, alloc: Global, symbol: u32) -> Result<(), AllocError>
         ensures { (n : ℕ) (negative : Bool) → OnOk result
             (draft_of self.new ≡ numbered n negative symbol action.FormRead (draft_of self.old)) }
@@ -258,7 +258,7 @@ impl Draft {
         Ok(())
     }
 
-    // A list of multipliers.
+    // Adds a list of multipliers.
     fn read_move(&mut self, alloc: Global) -> Result<(), AllocError>
         ensures { (n symbol : ℕ) (negative : Bool) → OnOk result
             (draft_of self.new ≡ numbered n negative symbol action.MoveRead (draft_of self.old)) }
@@ -268,7 +268,7 @@ impl Draft {
         Ok(())
     }
 
-    // A place with its local bound.
+    // Adds a place with its local bound.
     fn read_member(&mut self) -> Result<(), AllocError>
         ensures { OnOk result (draft_of self.new ≡ shaped action.LowRead (draft_of self.old)) }
     {
@@ -282,7 +282,7 @@ impl Draft {
         Ok(())
     }
 
-    // A linear side bound.
+    // Makes a linear side bound of the form and the multipliers.
     fn read_side_bound(&mut self, alloc: Global)
         ensures { draft_of self.new ≡ shaped action.SideBoundRead (draft_of self.old) }
     {
@@ -296,7 +296,7 @@ impl Draft {
         };
     }
 
-    // A scaled point.
+    // Adds a scaled point.
     fn read_point(&mut self, alloc: Global) -> Result<(), AllocError>
         ensures { OnOk result (draft_of self.new ≡ shaped action.PointRead (draft_of self.old)) }
     {
@@ -305,7 +305,7 @@ impl Draft {
         Ok(())
     }
 
-    // The floor of a gap.
+    // Takes the last scaled point as the floor of a gap.
     fn read_floor(&mut self, alloc: Global)
         ensures { draft_of self.new ≡ shaped action.GapFloorRead (draft_of self.old) }
     {
@@ -314,7 +314,7 @@ impl Draft {
     }
 }
 
-// The first of some points, or none at all.
+// The first of some points, or the point without parts if there are none.
 fn first_point(alloc: Global, points: Vec<Scaled>) -> Scaled
     ensures { scaled_of result ≡ first_or no_point (map scaled_of points.items) }
 {

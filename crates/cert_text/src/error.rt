@@ -3,7 +3,7 @@
 ghost use Rattle.std.specs.Prelude.{◌≡◌, Some};
 ghost use Rattle.text_grammar.specs.Results.{refused_in};
 ghost use Rattle.cert_text.specs.declared.error.ProofTextError.TheVariants.{Memory};
-ghost use Rattle.cert_text.specs.Told.{refusal_in};
+ghost use Rattle.cert_text.specs.StatedErrors.{refusal_in};
 
 use cert_lexer::ProofKind;
 use std::alloc::{AllocError, AllocFailed};
@@ -25,8 +25,8 @@ pub enum ProofTextError {
     /// The number or the name at this position is that of no rule, place, symbol, start argument or earlier lemma.
     #[error("bad reference at {at}")]
     BadReference { at: u64 },
-    /// The line that begins at this position is that of one lemma or gap too many, or with this position a bound has
-    /// more than 4,096 nodes.
+    /// The line that begins at this position has one lemma or gap too many, or a bound has more than 4,096 nodes with
+    /// the token at this position.
     #[error("limit at {at}")]
     Limit { at: u64 },
     /// Memory ran out.

@@ -4,7 +4,7 @@ ghost use Rattle.std.specs.Prelude.{◌≡◌, ◌≤◌, ◌^◌, is_some};
 ghost use Rattle.its_model.specs.Views.{program_of};
 ghost use Rattle.its_model.specs.model.Programs.{arity_of, rule_at};
 ghost use Rattle.text_grammar.specs.text_core.Choices.{when as when_at};
-ghost use Rattle.cert_text.specs.Against as against;
+ghost use Rattle.cert_text.specs.NumberFaults as against;
 ghost use Rattle.cert_text.specs.ParsedSoFar.{own_of};
 
 use crate::parsed_so_far::ParsedSoFar;
@@ -13,21 +13,21 @@ use cert_lexer::{Behind, ProofKind, Word};
 use its_model::Program;
 use linear_forms::{CERTIFICATE_LIMIT, POINT_LIMIT};
 
-/// At most this many levels of nodes, this many lemmas and this many gaps are read.
+/// The greatest level of a node, number of lemmas and number of gaps that are read.
 pub const LEVEL_LIMIT: u64 = 64;
-/// See `LEVEL_LIMIT`.
+/// The greatest number of lemmas that are read.
 pub const LEMMA_LIMIT: usize = 100_000;
-/// See `LEVEL_LIMIT`.
+/// The greatest number of gaps that are read.
 pub const GAP_LIMIT: usize = 1_000;
 
-// A kind, where a test passes.
+// A kind, if a test passes.
 fn when(test: bool, kind: ProofKind) -> Option<ProofKind>
     ensures { result ≡ when_at test kind }
 {
     if test { Some(kind) } else { None }
 }
 
-// The first of two kinds, where they come in this order.
+// The first kind if there is one, else the other: of two faults at one position the first is reported.
 fn or_else(first: Option<ProofKind>, other: Option<ProofKind>) -> Option<ProofKind>
     ensures { result ≡ against.or_else first other }
 {
@@ -37,7 +37,7 @@ fn or_else(first: Option<ProofKind>, other: Option<ProofKind>) -> Option<ProofKi
     }
 }
 
-// The fault of a number that is over the limit.
+// The fault of a number over its limit.
 fn too_large(kept: &ParsedSoFar, number: u128) -> Option<ProofKind>
     ensures { result ≡ against.too_large (own_of kept.now) number }
 {
@@ -86,7 +86,7 @@ fn has_place(p: &Program, rule: u32, number: u128) -> bool
     number > 0 && number <= u128::from(arity(p, target))
 }
 
-/// The fault of a number, by its meaning.
+/// The fault of a number, by what comes next.
 pub fn against_number(p: &Program, kept: &ParsedSoFar, number: u128) -> Option<ProofKind>
     ensures { result ≡ against.against_number (program_of p.now) (own_of kept.now) kept.now.coming number }
 {
@@ -111,20 +111,20 @@ pub fn against_number(p: &Program, kept: &ParsedSoFar, number: u128) -> Option<P
     }
 }
 
-/// The fault of a name, as a symbol or as a word that begins a node or a line.
-pub fn against_name(p: &Program, kept: &ParsedSoFar, word: Word, symbol: u32) -> Option<ProofKind>
-    ensures { result ≡ against.against_name (program_of p.now) (own_of kept.now) kept.now.coming word symbol }
+/// The fault of a name, as a symbol, or as a word that begins a node or a line.
+pub fn fault_of_name(p: &Program, kept: &ParsedSoFar, word: Word, symbol: u32) -> Option<ProofKind>
+    ensures { result ≡ against.fault_of_name (program_of p.now) (own_of kept.now) kept.now.coming word symbol }
 {
     match kept.coming {
         Next::Symbol => when(p.symbols.len() <= symbol as usize, ProofKind::BadReference),
-        Next::Node => against_node(kept, word),
+        Next::Node => fault_of_node(kept, word),
         _ => against_line(kept, word),
     }
 }
 
 // The fault of a word that begins a node.
-fn against_node(kept: &ParsedSoFar, word: Word) -> Option<ProofKind>
-    ensures { result ≡ against.against_node (own_of kept.now) word }
+fn fault_of_node(kept: &ParsedSoFar, word: Word) -> Option<ProofKind>
+    ensures { result ≡ against.fault_of_node (own_of kept.now) word }
 {
     let cost = matches!(word, Word::Cost);
     or_else(
@@ -145,9 +145,14 @@ fn against_line(kept: &ParsedSoFar, word: Word) -> Option<ProofKind>
     }
 }
 
-// The fault of the part after the name of an existing symbol, as one of its places.
-fn against_behind(p: &Program, kept: &ParsedSoFar, symbol: u32, behind: Behind) -> Option<ProofKind>
-    ensures { result ≡ against.against_behind (program_of p.now) (own_of kept.now) symbol behind }
+// The fault of the part after the name of a symbol that exists, as the number of one of its places.
+fn fault_of_behind(
+    p: &Program,
+    kept: &ParsedSoFar,
+    symbol: u32,
+    behind: Behind,
+) -> Option<ProofKind>
+    ensures { result ≡ against.fault_of_behind (program_of p.now) (own_of kept.now) symbol behind }
 {
     match behind {
         Behind::NoNumber | Behind::Nothing | Behind::LeadingZero => Some(ProofKind::Syntax),
@@ -161,22 +166,22 @@ fn against_behind(p: &Program, kept: &ParsedSoFar, symbol: u32, behind: Behind) 
     }
 }
 
-/// The fault of a place in the list of shut ones.
-pub fn against_place(
+/// The fault of a place in a list of shut places.
+pub fn fault_of_place(
     p: &Program,
     kept: &ParsedSoFar,
     symbol: u32,
     behind: Behind,
 ) -> Option<ProofKind>
-    ensures { result ≡ against.against_place (program_of p.now) (own_of kept.now) symbol behind }
+    ensures { result ≡ against.fault_of_place (program_of p.now) (own_of kept.now) symbol behind }
 {
     or_else(
         when(p.symbols.len() <= symbol as usize, ProofKind::BadReference),
-        against_behind(p, kept, symbol, behind),
+        fault_of_behind(p, kept, symbol, behind),
     )
 }
 
-/// How many bytes of a place precede its fault.
+/// The number of bytes of a place before its fault.
 pub fn name_bytes(p: &Program, symbol: u32, behind: Behind) -> u128
     ensures bytes { result ≡ against.name_bytes (program_of p.now) symbol behind }
     ensures small { result ≤ 2 ^ 64 }

@@ -32,7 +32,7 @@ fn push_gap_head(text: &mut Vec<u8>, p: &Program, gap: &Gap) -> Result<(), Memor
     push_shut(text, p, &gap.shut)
 }
 
-// The points.
+// Writes the moves, the floor and the kept points.
 fn push_gap_points(text: &mut Vec<u8>, gap: &Gap) -> Result<(), Memory>
     ensures { OnOk result (text.new.items ≡ text.old.items ++ gap_points (gap_of gap.now)) }
 {
@@ -44,7 +44,7 @@ fn push_gap_points(text: &mut Vec<u8>, gap: &Gap) -> Result<(), Memory>
     push_points(text, &gap.kept)
 }
 
-// A scaled point.
+// Writes a scaled point.
 fn push_point(text: &mut Vec<u8>, point: &Scaled) -> Result<(), Memory>
     ensures { OnOk result (text.new.items ≡ text.old.items ++ point_text (scaled_of point.now)) }
 {
@@ -54,7 +54,7 @@ fn push_point(text: &mut Vec<u8>, point: &Scaled) -> Result<(), Memory>
     text.extend_from_slice(b"]")
 }
 
-// Points in square brackets, with a semicolon and a blank between them.
+// Writes points in square brackets, with a semicolon and a blank between them.
 fn push_points(text: &mut Vec<u8>, points: &[Scaled]) -> Result<(), Memory>
     ensures { OnOk result (text.new.items ≡ text.old.items
         ++ listed (map point_text (map scaled_of points.now))) }
@@ -64,7 +64,7 @@ fn push_points(text: &mut Vec<u8>, points: &[Scaled]) -> Result<(), Memory>
     text.extend_from_slice(b"]")
 }
 
-// The points, with a semicolon and a blank between them.
+// Writes points, with a semicolon and a blank between them.
 fn push_joined_points(text: &mut Vec<u8>, points: &[Scaled]) -> Result<(), Memory>
     ensures { OnOk result (text.new.items ≡ text.old.items
         ++ joined (codes "; ") (map point_text (map scaled_of points.now))) }
@@ -76,7 +76,7 @@ fn push_joined_points(text: &mut Vec<u8>, points: &[Scaled]) -> Result<(), Memor
     push_more_points(text, others)
 }
 
-// A semicolon and a blank before each point.
+// Writes points, with a semicolon and a blank before each.
 fn push_more_points(text: &mut Vec<u8>, points: &[Scaled]) -> Result<(), Memory>
     ensures { OnOk result (text.new.items ≡ text.old.items
         ++ each_behind (codes "; ") (map point_text (map scaled_of points.now))) }
@@ -98,7 +98,7 @@ fn push_shut(text: &mut Vec<u8>, p: &Program, shut: &[(u32, u32)]) -> Result<(),
     text.extend_from_slice(b"]")
 }
 
-// The places, with a blank between them.
+// Writes places, with a blank between them.
 fn push_joined_places(text: &mut Vec<u8>, p: &Program, places: &[(u32, u32)]) -> Result<(), Memory>
     ensures { OnOk result (text.new.items ≡ text.old.items
         ++ joined (codes " ") (map (symbol_place_text (program_of p.now)) (map shut_of places.now))) }
@@ -110,7 +110,7 @@ fn push_joined_places(text: &mut Vec<u8>, p: &Program, places: &[(u32, u32)]) ->
     push_more_places(text, p, others)
 }
 
-// A blank before each place.
+// Writes places, with a blank before each.
 fn push_more_places(text: &mut Vec<u8>, p: &Program, places: &[(u32, u32)]) -> Result<(), Memory>
     ensures { OnOk result (text.new.items ≡ text.old.items
         ++ each_behind (codes " ") (map (symbol_place_text (program_of p.now)) (map shut_of places.now))) }
@@ -122,7 +122,7 @@ fn push_more_places(text: &mut Vec<u8>, p: &Program, places: &[(u32, u32)]) -> R
     Ok(())
 }
 
-// A place of a symbol.
+// Writes a place of a symbol.
 fn push_place(text: &mut Vec<u8>, p: &Program, symbol: u32, place: u32) -> Result<(), Memory>
     ensures { OnOk result (text.new.items ≡ text.old.items
         ++ symbol_place_text (program_of p.now) (symbol_place symbol place)) }

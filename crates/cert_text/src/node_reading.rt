@@ -1,4 +1,4 @@
-//! Builds a node from the parts that were read.
+//! Builds a node from its parts.
 
 ghost use Rattle.std.specs.Prelude.{◌≡◌, IfOk, map};
 ghost use Rattle.cert_types.specs.Views.{cost_by_of, member_of, proof_of, uses_of};
@@ -16,7 +16,7 @@ use cert_types::{
 };
 use std::alloc::{AllocError, Global};
 
-/// The node that was read, by the last number, its parts, and the node and the bound inside it.
+/// The node that was read, from the last number, its parts, and the node and the bound inside it.
 ///
 /// # Errors
 ///
@@ -46,7 +46,7 @@ pub fn node_from(
     }
 }
 
-// A rule whose rows no point meets.
+// The node of a rule whose rows no point meets.
 fn empty_from(alloc: Global, draft: Draft) -> Result<Proof, AllocError>
     ensures { IfOk result (λ node. proof_of node ≡ Empty draft.rule draft.numbers.items) }
 {
@@ -57,7 +57,7 @@ fn empty_from(alloc: Global, draft: Draft) -> Result<Proof, AllocError>
     Ok(Proof::Empty(Box::new(alloc, node)?))
 }
 
-// A rule whose source is not reached.
+// The node of a rule whose source is not reached.
 fn unreached_from(alloc: Global, draft: Draft) -> Result<Proof, AllocError>
     ensures { IfOk result (λ node.
         proof_of node ≡ Unreached draft.rule (uses_of (map proof_of draft.uses.items))) }
@@ -69,7 +69,7 @@ fn unreached_from(alloc: Global, draft: Draft) -> Result<Proof, AllocError>
     Ok(Proof::Unreached(Box::new(alloc, node)?))
 }
 
-// A time by a ranking function.
+// The node of a time by a ranking function.
 fn rank_from(alloc: Global, draft: Draft) -> Result<Proof, AllocError>
     ensures { IfOk result (λ node.
         proof_of node ≡ Rank (rank_in (draft_of draft)) (uses_of (map proof_of draft.uses.items))) }
@@ -86,7 +86,7 @@ fn rank_from(alloc: Global, draft: Draft) -> Result<Proof, AllocError>
     Ok(Proof::Rank(Box::new(alloc, node)?))
 }
 
-// The size at a place that does not loop.
+// The node of the size at a place that does not loop.
 fn spread_from(alloc: Global, draft: Draft) -> Result<Proof, AllocError>
     ensures { IfOk result (λ node. proof_of node ≡ Spread (first_or no_member (map member_of draft.members.items))
         (uses_of (map proof_of draft.uses.items))) }
@@ -103,7 +103,7 @@ fn spread_from(alloc: Global, draft: Draft) -> Result<Proof, AllocError>
     Ok(Proof::Spread(Box::new(alloc, node)?))
 }
 
-// The first of some places, or none at all.
+// The first of some members, or one without numbers if there are none.
 fn first_member(members: Vec<Member>) -> Member
     ensures { member_of result ≡ first_or no_member (map member_of members.items) }
 {
@@ -121,7 +121,7 @@ fn first_member(members: Vec<Member>) -> Member
     members.remove(0)
 }
 
-// The sizes at the places of a loop.
+// The node of the sizes at the places of a loop.
 fn cycle_from(alloc: Global, draft: Draft) -> Result<Proof, AllocError>
     ensures { IfOk result (λ node. proof_of node ≡ Cycle (map member_of draft.members.items)
         (uses_of (map proof_of draft.uses.items))) }
@@ -133,7 +133,7 @@ fn cycle_from(alloc: Global, draft: Draft) -> Result<Proof, AllocError>
     Ok(Proof::Cycle(Box::new(alloc, node)?))
 }
 
-// The node on what the steps by a rule cost together.
+// The node on the cost of a rule.
 fn cost_from(alloc: Global, draft: Draft) -> Result<Proof, AllocError>
     ensures { IfOk result (λ node. proof_of node ≡ Charge (record { rule = draft.rule; by = cost_by_of draft.by })
         (uses_of (map proof_of draft.uses.items))) }

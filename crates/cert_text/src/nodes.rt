@@ -1,4 +1,4 @@
-//! Prints the contents of a node apart from its uses.
+//! Prints the contents of a node apart from its premises.
 
 ghost use Rattle.std.specs.Prelude.{◌≡◌, ◌++◌, map, codes, decimal, slice_get, OnOk};
 ghost use Rattle.its_model.specs.Views.{program_of, symbol_of};
@@ -15,7 +15,7 @@ use cert_types::{
 use its_model::{Program, Symbol};
 use model::Memory;
 
-/// The name of a symbol.
+/// Writes the name of a symbol.
 pub(crate) fn push_name(text: &mut Vec<u8>, symbols: &[Symbol], symbol: u32) -> Result<(), Memory>
     ensures { OnOk result
         (text.new.items ≡ text.old.items ++ name_in (slice_get (map symbol_of symbols.now) symbol)) }
@@ -26,7 +26,7 @@ pub(crate) fn push_name(text: &mut Vec<u8>, symbols: &[Symbol], symbol: u32) -> 
     }
 }
 
-/// A word, and the number of a rule or a lemma.
+/// Writes a word, and the number of a rule or a lemma.
 pub(crate) fn push_named(text: &mut Vec<u8>, word: &[u8], number: u32) -> Result<(), Memory>
     ensures { OnOk result (text.new.items ≡ text.old.items ++ (word.now ++ decimal number)) }
 {
@@ -34,7 +34,7 @@ pub(crate) fn push_named(text: &mut Vec<u8>, word: &[u8], number: u32) -> Result
     push_number(text, u64::from(number))
 }
 
-/// A rule whose rows no point meets.
+/// Writes the node of a rule whose rows no point meets.
 pub(crate) fn push_empty(text: &mut Vec<u8>, node: &EmptyNode) -> Result<(), Memory>
     ensures { OnOk result (text.new.items ≡ text.old.items ++ (codes "empty "
         ++ (decimal node.now.rule ++ (codes " " ++ numbers_text node.now.multipliers.items)))) }
@@ -44,7 +44,7 @@ pub(crate) fn push_empty(text: &mut Vec<u8>, node: &EmptyNode) -> Result<(), Mem
     push_numbers(text, &node.multipliers)
 }
 
-// A rule and a place.
+// Writes a rule and a place.
 fn push_result_variable(text: &mut Vec<u8>, result_variable: ResultVariable) -> Result<(), Memory>
     ensures { OnOk result (text.new.items ≡ text.old.items ++ result_variable_text (result_variable_of result_variable)) }
 {
@@ -53,7 +53,7 @@ fn push_result_variable(text: &mut Vec<u8>, result_variable: ResultVariable) -> 
     push_number(text, u64::from(result_variable.place))
 }
 
-// Coefficients and a constant.
+// Writes coefficients and a constant.
 fn push_form_numbers(text: &mut Vec<u8>, coefs: &[i64], constant: i64) -> Result<(), Memory>
     ensures { OnOk result (text.new.items ≡ text.old.items
         ++ form_numbers (record { coefs = coefs.now; constant = constant })) }
@@ -64,7 +64,7 @@ fn push_form_numbers(text: &mut Vec<u8>, coefs: &[i64], constant: i64) -> Result
     text.extend_from_slice(b"]")
 }
 
-// One side of a local bound.
+// Writes one side of a local bound.
 fn push_side_bound(text: &mut Vec<u8>, side_bound: &SideBound) -> Result<(), Memory>
     ensures { OnOk result (text.new.items ≡ text.old.items ++ side_bound_text (side_bound_of side_bound.now)) }
 {
@@ -86,7 +86,7 @@ fn push_side_bound(text: &mut Vec<u8>, side_bound: &SideBound) -> Result<(), Mem
     }
 }
 
-// Both sides.
+// Writes both sides of a local bound.
 fn push_local(text: &mut Vec<u8>, local: &LocalBound) -> Result<(), Memory>
     ensures { OnOk result (text.new.items ≡ text.old.items ++ local_text (local_of local.now)) }
 {
@@ -96,7 +96,7 @@ fn push_local(text: &mut Vec<u8>, local: &LocalBound) -> Result<(), Memory>
     push_side_bound(text, &local.low)
 }
 
-// A rule and a place with their local bound.
+// Writes a rule and a place with their local bound.
 fn push_member(
     text: &mut Vec<u8>,
     result_variable: ResultVariable,
@@ -110,7 +110,7 @@ fn push_member(
     push_local(text, local)
 }
 
-/// A place with its local bound.
+/// Writes the node of a place with its local bound.
 pub(crate) fn push_spread(text: &mut Vec<u8>, node: &SpreadNode) -> Result<(), Memory>
     ensures { OnOk result (text.new.items ≡ text.old.items ++ (codes "spread "
         ++ member_text (record { result_variable = result_variable_of node.now.result_variable; local = local_of node.now.local }))) }
@@ -119,7 +119,7 @@ pub(crate) fn push_spread(text: &mut Vec<u8>, node: &SpreadNode) -> Result<(), M
     push_member(text, node.result_variable, &node.local)
 }
 
-/// The places of a loop with their local bounds.
+/// Writes the node of the places of a loop with their local bounds.
 pub(crate) fn push_cycle(text: &mut Vec<u8>, members: &[Member]) -> Result<(), Memory>
     ensures { OnOk result (text.new.items ≡ text.old.items ++ (codes "cycle "
         ++ listed (map member_text (map member_of members.now)))) }
@@ -129,7 +129,7 @@ pub(crate) fn push_cycle(text: &mut Vec<u8>, members: &[Member]) -> Result<(), M
     text.extend_from_slice(b"]")
 }
 
-// The members, with a semicolon and a blank between them.
+// Writes members, with a semicolon and a blank between them.
 fn push_joined_members(text: &mut Vec<u8>, members: &[Member]) -> Result<(), Memory>
     ensures { OnOk result (text.new.items ≡ text.old.items
         ++ joined (codes "; ") (map member_text (map member_of members.now))) }
@@ -141,7 +141,7 @@ fn push_joined_members(text: &mut Vec<u8>, members: &[Member]) -> Result<(), Mem
     push_more_members(text, others)
 }
 
-// A semicolon and a blank before each member.
+// Writes members, with a semicolon and a blank before each.
 fn push_more_members(text: &mut Vec<u8>, members: &[Member]) -> Result<(), Memory>
     ensures { OnOk result (text.new.items ≡ text.old.items
         ++ each_behind (codes "; ") (map member_text (map member_of members.now))) }
@@ -153,7 +153,7 @@ fn push_more_members(text: &mut Vec<u8>, members: &[Member]) -> Result<(), Memor
     Ok(())
 }
 
-/// A rule with a cost, and how the cost is shown.
+/// Writes the node on a rule with a cost: the rule, and how the cost is shown.
 pub(crate) fn push_cost(text: &mut Vec<u8>, node: &CostNode) -> Result<(), Memory>
     ensures { OnOk result (text.new.items ≡ text.old.items ++ (codes "cost "
         ++ (decimal node.now.rule ++ (codes " " ++ cost_by_text (cost_by_of node.now.by))))) }
@@ -163,7 +163,7 @@ pub(crate) fn push_cost(text: &mut Vec<u8>, node: &CostNode) -> Result<(), Memor
     push_cost_by(text, &node.by)
 }
 
-// How a cost is shown.
+// Writes how a cost is shown.
 fn push_cost_by(text: &mut Vec<u8>, by: &CostBy) -> Result<(), Memory>
     ensures { OnOk result (text.new.items ≡ text.old.items ++ cost_by_text (cost_by_of by.now)) }
 {
@@ -177,7 +177,7 @@ fn push_cost_by(text: &mut Vec<u8>, by: &CostBy) -> Result<(), Memory>
     }
 }
 
-/// A ranking node without its uses.
+/// Writes a ranking node without its premises.
 pub(crate) fn push_rank(text: &mut Vec<u8>, p: &Program, node: &RankNode) -> Result<(), Memory>
     ensures { OnOk result (text.new.items ≡ text.old.items ++ rank_text (program_of p.now) (rank_of node.now)) }
 {
@@ -185,7 +185,7 @@ pub(crate) fn push_rank(text: &mut Vec<u8>, p: &Program, node: &RankNode) -> Res
     push_rank_rest(text, p, node)
 }
 
-// The rule, the set and the denominator.
+// Writes the rule, the set and the denominator of a ranking node.
 fn push_rank_head(text: &mut Vec<u8>, node: &RankNode) -> Result<(), Memory>
     ensures { OnOk result (text.new.items ≡ text.old.items ++ rank_head (rank_of node.now)) }
 {
@@ -196,7 +196,7 @@ fn push_rank_head(text: &mut Vec<u8>, node: &RankNode) -> Result<(), Memory>
     push_number(text, node.den)
 }
 
-// The forms and the multipliers.
+// Writes the forms and the multipliers of a ranking node.
 fn push_rank_rest(text: &mut Vec<u8>, p: &Program, node: &RankNode) -> Result<(), Memory>
     ensures { OnOk result (text.new.items ≡ text.old.items ++ rank_rest (program_of p.now) (rank_of node.now)) }
 {
@@ -208,7 +208,7 @@ fn push_rank_rest(text: &mut Vec<u8>, p: &Program, node: &RankNode) -> Result<()
     push_numbers(text, &node.floor)
 }
 
-// Forms in square brackets, with a semicolon and a blank between them.
+// Writes forms in square brackets, with a semicolon and a blank between them.
 fn push_forms(text: &mut Vec<u8>, p: &Program, forms: &[Form]) -> Result<(), Memory>
     ensures { OnOk result (text.new.items ≡ text.old.items
         ++ listed (map (form_text (program_of p.now)) (map form_of forms.now))) }
@@ -218,7 +218,7 @@ fn push_forms(text: &mut Vec<u8>, p: &Program, forms: &[Form]) -> Result<(), Mem
     text.extend_from_slice(b"]")
 }
 
-// The forms, with a semicolon and a blank between them.
+// Writes forms, with a semicolon and a blank between them.
 fn push_joined_forms(text: &mut Vec<u8>, p: &Program, forms: &[Form]) -> Result<(), Memory>
     ensures { OnOk result (text.new.items ≡ text.old.items
         ++ joined (codes "; ") (map (form_text (program_of p.now)) (map form_of forms.now))) }
@@ -230,7 +230,7 @@ fn push_joined_forms(text: &mut Vec<u8>, p: &Program, forms: &[Form]) -> Result<
     push_more_forms(text, p, others)
 }
 
-// A semicolon and a blank before each form.
+// Writes forms, with a semicolon and a blank before each.
 fn push_more_forms(text: &mut Vec<u8>, p: &Program, forms: &[Form]) -> Result<(), Memory>
     ensures { OnOk result (text.new.items ≡ text.old.items
         ++ each_behind (codes "; ") (map (form_text (program_of p.now)) (map form_of forms.now))) }
@@ -242,7 +242,7 @@ fn push_more_forms(text: &mut Vec<u8>, p: &Program, forms: &[Form]) -> Result<()
     Ok(())
 }
 
-// The part of a ranking function at a symbol.
+// Writes the part of a ranking function at a symbol.
 fn push_form(text: &mut Vec<u8>, p: &Program, form: &Form) -> Result<(), Memory>
     ensures { OnOk result (text.new.items ≡ text.old.items ++ form_text (program_of p.now) (form_of form.now)) }
 {
@@ -251,7 +251,7 @@ fn push_form(text: &mut Vec<u8>, p: &Program, form: &Form) -> Result<(), Memory>
     push_form_numbers(text, &form.coefs, form.constant)
 }
 
-// Lists of multipliers in square brackets, with a semicolon and a blank between them.
+// Writes lists of multipliers in square brackets, with a semicolon and a blank between them.
 fn push_moves(text: &mut Vec<u8>, moves: &[Vec<u64>]) -> Result<(), Memory>
     ensures { OnOk result (text.new.items ≡ text.old.items
         ++ listed (map numbers_text (map (λ m. m.items) moves.now))) }
@@ -261,7 +261,7 @@ fn push_moves(text: &mut Vec<u8>, moves: &[Vec<u64>]) -> Result<(), Memory>
     text.extend_from_slice(b"]")
 }
 
-// The lists, with a semicolon and a blank between them.
+// Writes lists of multipliers, with a semicolon and a blank between them.
 fn push_joined_moves(text: &mut Vec<u8>, moves: &[Vec<u64>]) -> Result<(), Memory>
     ensures { OnOk result (text.new.items ≡ text.old.items
         ++ joined (codes "; ") (map numbers_text (map (λ m. m.items) moves.now))) }
@@ -273,7 +273,7 @@ fn push_joined_moves(text: &mut Vec<u8>, moves: &[Vec<u64>]) -> Result<(), Memor
     push_more_moves(text, others)
 }
 
-// A semicolon and a blank before each list.
+// Writes lists of multipliers, with a semicolon and a blank before each.
 fn push_more_moves(text: &mut Vec<u8>, moves: &[Vec<u64>]) -> Result<(), Memory>
     ensures { OnOk result (text.new.items ≡ text.old.items
         ++ each_behind (codes "; ") (map numbers_text (map (λ m. m.items) moves.now))) }

@@ -7,21 +7,21 @@ ghost use Rattle.cert_text.specs.Lists.{each_before, each_behind, joined, number
 use itoa::Buffer;
 use model::Memory;
 
-/// A number.
+/// Writes a number.
 pub(crate) fn push_number(text: &mut Vec<u8>, n: u64) -> Result<(), Memory>
     ensures { OnOk result (text.new.items ≡ text.old.items ++ decimal n) }
 {
     text.extend_from_slice(Buffer::new().format(n).as_bytes())
 }
 
-/// A number with its sign.
+/// Writes a number with its sign.
 pub(crate) fn push_signed(text: &mut Vec<u8>, n: i64) -> Result<(), Memory>
     ensures { OnOk result (text.new.items ≡ text.old.items ++ signed_decimal n) }
 {
     text.extend_from_slice(Buffer::new().format(n).as_bytes())
 }
 
-/// Numbers in square brackets, with a blank between them.
+/// Writes numbers in square brackets, with a blank between them.
 pub(crate) fn push_numbers(text: &mut Vec<u8>, numbers: &[u64]) -> Result<(), Memory>
     ensures { OnOk result (text.new.items ≡ text.old.items ++ numbers_text numbers.now) }
 {
@@ -30,7 +30,7 @@ pub(crate) fn push_numbers(text: &mut Vec<u8>, numbers: &[u64]) -> Result<(), Me
     text.extend_from_slice(b"]")
 }
 
-// The numbers, with a blank between them.
+// Writes numbers, with a blank between them.
 fn push_joined_numbers(text: &mut Vec<u8>, numbers: &[u64]) -> Result<(), Memory>
     ensures { OnOk result (text.new.items ≡ text.old.items ++ joined (codes " ") (map decimal numbers.now)) }
 {
@@ -41,7 +41,7 @@ fn push_joined_numbers(text: &mut Vec<u8>, numbers: &[u64]) -> Result<(), Memory
     push_more_numbers(text, others)
 }
 
-// A blank before each number.
+// Writes numbers, with a blank before each.
 fn push_more_numbers(text: &mut Vec<u8>, numbers: &[u64]) -> Result<(), Memory>
     ensures { OnOk result (text.new.items ≡ text.old.items ++ each_behind (codes " ") (map decimal numbers.now)) }
 {
@@ -52,7 +52,7 @@ fn push_more_numbers(text: &mut Vec<u8>, numbers: &[u64]) -> Result<(), Memory>
     Ok(())
 }
 
-/// The numbers of rules in square brackets, with a blank between them.
+/// Writes the numbers of rules in square brackets, with a blank between them.
 pub(crate) fn push_rules(text: &mut Vec<u8>, rules: &[u32]) -> Result<(), Memory>
     ensures { OnOk result (text.new.items ≡ text.old.items ++ numbers_text rules.now) }
 {
@@ -61,7 +61,7 @@ pub(crate) fn push_rules(text: &mut Vec<u8>, rules: &[u32]) -> Result<(), Memory
     text.extend_from_slice(b"]")
 }
 
-// The numbers of rules, with a blank between them.
+// Writes the numbers of rules, with a blank between them.
 fn push_joined_rules(text: &mut Vec<u8>, rules: &[u32]) -> Result<(), Memory>
     ensures { OnOk result (text.new.items ≡ text.old.items ++ joined (codes " ") (map decimal rules.now)) }
 {
@@ -72,7 +72,7 @@ fn push_joined_rules(text: &mut Vec<u8>, rules: &[u32]) -> Result<(), Memory>
     push_more_rules(text, others)
 }
 
-// A blank before each rule.
+// Writes the numbers of rules, with a blank before each.
 fn push_more_rules(text: &mut Vec<u8>, rules: &[u32]) -> Result<(), Memory>
     ensures { OnOk result (text.new.items ≡ text.old.items ++ each_behind (codes " ") (map decimal rules.now)) }
 {

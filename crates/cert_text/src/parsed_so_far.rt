@@ -1,4 +1,4 @@
-//! The state of reading a proof file, and the effects of marks on it.
+//! The state of reading a proof file, and the effects of actions on it.
 
 ghost use Rattle.std.specs.Prelude.{◌≡◌, OnOk};
 ghost use Rattle.cert_types.specs.AnswerViews.{gap_of};
@@ -17,7 +17,7 @@ use cert_types::{Gap, Proof};
 use std::alloc::{AllocError, Global};
 use std::mem::replace;
 
-/// A node whose uses are open, with the uses that were read before those of the one inside it.
+/// A node whose premises are being read, with those of its premises that were read before the current one.
 #[derive(Drop)]
 pub struct OpenNode {
     pub draft: Draft,
@@ -30,15 +30,15 @@ pub struct ParsedSoFar {
     pub alloc: Global,
     /// The meaning of the next piece.
     pub coming: Next,
-    /// Whether the first line has a 2, whether a node on costs was read, and whether a gap is open.
+    /// Whether the version in the first line is 2, whether a node on costs was read, and whether a gap is open.
     pub priced: bool,
     pub paid: bool,
     pub in_gap: bool,
-    /// Lemmas and gaps, in order.
+    /// The lemmas and the gaps read so far, in order.
     pub lemmas: Vec<Proof>,
     pub gaps: Vec<Gap>,
-    /// How many nodes are open, the node that was read last, the uses that are open, and the nodes round them, the
-    /// innermost last.
+    /// The number of open nodes, the node that was read last, the premises read so far of the innermost open node, and
+    /// the nodes around it, the innermost last.
     pub levels: u64,
     pub node: Proof,
     pub used: Vec<Proof>,
@@ -49,12 +49,12 @@ pub struct ParsedSoFar {
     pub number: u128,
     pub negative: bool,
     pub symbol: u32,
-    /// The pieces of a bound that is open, and the last bound.
+    /// The pieces of an open bound, and the last bound.
     pub pieces: Packed,
     pub bound: Bound,
 }
 
-// Whether a node was read.
+// Whether a node was read with this action.
 fn ends_node(action: Action) -> bool
     ensures { result ≡ ends_node_at action }
 {
@@ -88,7 +88,7 @@ fn announce(action: Action, coming: Next) -> Next
     }
 }
 
-// The gap that parts make.
+// The gap that its parts make.
 fn gap_from(draft: Draft) -> Gap
     ensures { gap_of result ≡ gap_read (draft_of draft) }
 {
@@ -103,7 +103,7 @@ fn gap_from(draft: Draft) -> Gap
 }
 
 impl ParsedSoFar {
-    /// Nothing was read.
+    /// The state in which nothing was read.
     pub fn new(alloc: Global) -> ParsedSoFar
         ensures { own_of result ≡ begun }
     {
@@ -157,7 +157,7 @@ impl ParsedSoFar {
         Ok(())
     }
 
-    // Where a node was read, it takes its parts.
+    // Takes the parts of the node, if the action ends one.
     fn end_node(&mut self, action: Action) -> Result<(), AllocError>
         ensures { OnOk result (own_of self.new ≡ node_ended action (own_of self.old)) }
     {
@@ -172,7 +172,7 @@ impl ParsedSoFar {
         Ok(())
     }
 
-    // Does an action on lines, levels and uses.
+    // Changes lines, levels and premises by an action.
     fn arrange(&mut self, action: Action) -> Result<(), AllocError>
         ensures { OnOk result (own_of self.new ≡ arranged action (own_of self.old)) }
     {
@@ -204,7 +204,7 @@ impl ParsedSoFar {
         Ok(())
     }
 
-    // A gap ends.
+    // Adds the gap that was read.
     fn read_gap(&mut self) -> Result<(), AllocError>
         ensures { OnOk result (own_of self.new ≡ arranged action.GapRead (own_of self.old)) }
     {
@@ -214,7 +214,7 @@ impl ParsedSoFar {
         Ok(())
     }
 
-    // The uses of a node begin.
+    // Begins the premises of a node.
     fn open_uses(&mut self) -> Result<(), AllocError>
         ensures { OnOk result (own_of self.new ≡ arranged action.UsesBegin (own_of self.old)) }
     {
@@ -224,7 +224,7 @@ impl ParsedSoFar {
         Ok(())
     }
 
-    // The uses of a node end.
+    // Ends the premises of a node.
     fn close_uses(&mut self)
         ensures { own_of self.new ≡ arranged action.UsesRead (own_of self.old) }
     {

@@ -3,7 +3,7 @@
 /// The meaning of the next piece.
 #[derive(Clone, Copy, Debug, PartialEq, Eq)]
 pub enum Next {
-    /// Nothing but itself.
+    /// Nothing besides the piece itself.
     Nothing,
     /// The beginning of a node.
     Node,

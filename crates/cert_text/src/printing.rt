@@ -15,8 +15,8 @@ use its_model::Program;
 use model::Memory;
 use std::alloc::Global;
 
-/// The text of a proof file, with the names of a program. A symbol that the program doesn't have has no name. The call
-/// goes as deep as the deepest proof.
+/// The text of a proof file, with the names of a program. A symbol that the program doesn't have is written without a
+/// name. The recursion is as deep as the deepest derivation.
 ///
 /// # Errors
 ///
@@ -34,7 +34,7 @@ pub fn print(alloc: Global, p: &Program, f: &ProofFile) -> Result<Vec<u8>, Memor
     Ok(text)
 }
 
-// The first line.
+// Writes the first line.
 fn push_first_line(text: &mut Vec<u8>, lemmas: &[Proof]) -> Result<(), Memory>
     ensures { OnOk result (text.new.items ≡ text.old.items ++ first_line (map proof_of lemmas.now)) }
 {
@@ -45,7 +45,7 @@ fn push_first_line(text: &mut Vec<u8>, lemmas: &[Proof]) -> Result<(), Memory>
     }
 }
 
-// A line for each lemma.
+// Writes a line for each lemma.
 fn push_lemmas(text: &mut Vec<u8>, p: &Program, lemmas: &[Proof]) -> Result<(), Memory>
     requires { All (λ lemma. IsOverFirst (length p.now.start_names.items) (proof_of lemma)) lemmas.now }
     ensures { OnOk result
@@ -59,7 +59,7 @@ fn push_lemmas(text: &mut Vec<u8>, p: &Program, lemmas: &[Proof]) -> Result<(), 
     Ok(())
 }
 
-// A line for each gap.
+// Writes a line for each gap.
 fn push_gaps(text: &mut Vec<u8>, p: &Program, gaps: &[Gap]) -> Result<(), Memory>
     ensures { OnOk result
         (text.new.items ≡ text.old.items ++ gap_lines (program_of p.now) (map gap_of gaps.now)) }

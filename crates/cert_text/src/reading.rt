@@ -13,7 +13,7 @@ ghost use Rattle.cert_text.specs.Reading.{proofs_of};
 ghost use Rattle.cert_types.specs.cert_rules.Gaps.{ProofFile as FileOf};
 ghost use Rattle.cert_text.specs.Refused.{Answers, GivesBack};
 ghost use Rattle.cert_text.specs.Spelled.{IsTextWithin};
-ghost use Rattle.cert_text.specs.Told.{refusal_in};
+ghost use Rattle.cert_text.specs.StatedErrors.{refusal_in};
 
 use crate::error::ProofTextError;
 use crate::text::ProofReading;
@@ -27,13 +27,13 @@ use text_grammar::{Tables, TokenStream, read as read_tokens};
 ///
 /// # Errors
 ///
-/// The refusal at the least position is the answer, and of those at one position the one that comes first here.
-/// `Syntax` is at the first token that can't follow, or at the text's length if it ends too early; at `cost` in a file
-/// whose first line has a 1, and at `end` in one that has a 2 and no node on costs. `NumberTooLarge` is at a number
-/// over 2^56 in absolute value, or over 2^45 in a gap. `TooDeep` is at a node at level 65, `BadReference` at a number
-/// or a name that refers to nothing, such as a cited lemma that is no earlier one, and `Limit` at lemma 100,001 or gap
-/// 1,001. In a bound `Syntax`, `NumberTooLarge` and `Limit` are where they are if it is read alone, and a part at
-/// level 201 is `TooDeep` at its first byte. `Memory` comes where memory ran out.
+/// The refusal at the least position is reported, and of those at one position the one that comes first here. `Syntax`
+/// is at the first token that can't follow, or at the text's length if it ends too early; at `cost` in a file whose
+/// first line has the version 1, and at `end` in one with the version 2 that has no node on costs. `NumberTooLarge` is
+/// at a number over 2^56 in absolute value, or over 2^45 in a gap. `TooDeep` is at a node at level 65, `BadReference`
+/// at a number or a name that refers to nothing, such as a cited lemma that is no earlier one, and `Limit` at lemma
+/// 100,001 or gap 1,001. In a bound `Syntax`, `NumberTooLarge` and `Limit` are where they are if the bound is read
+/// alone, and a part at level 201 is `TooDeep` at its first byte. `Memory` comes where memory ran out.
 pub fn read(alloc: Global, p: &Program, bytes: &[u8]) -> Result<ProofFile, ProofTextError>
     requires { IsValid (program_of p.now) }
     ensures answer { Answers (program_of p.now) bytes.now result }
@@ -45,7 +45,7 @@ pub fn read(alloc: Global, p: &Program, bytes: &[u8]) -> Result<ProofFile, Proof
     judge(alloc, p, bytes)
 }
 
-// The answer to a text.
+// The answer of reading a text.
 fn judge(alloc: Global, p: &Program, bytes: &[u8]) -> Result<ProofFile, ProofTextError>
     requires symbols { AreDistinct (symbol_names (program_of p.now)) }
     requires arguments { AreDistinct (program_of p.now).start_names }

@@ -1,4 +1,4 @@
-//! The effect of a piece of a proof file, and its fault.
+//! How a piece of a proof file changes the state, and its fault.
 
 ghost use Rattle.std.specs.Prelude.{◌≡◌, ◌-◌, ◌+◌, ◌^◌, ◌∷◌, ◌++◌, [], min, List, true, take, IfOk, OnOk};
 ghost use Rattle.its_model.specs.Views.{program_of};
@@ -6,14 +6,14 @@ ghost use Rattle.text_grammar.specs.Marks.{fault_of};
 ghost use Rattle.cert_lexer.specs.declared.piece.Piece.TheVariants as piece_of;
 ghost use Rattle.cert_lexer.specs.Packed.{inners_in};
 ghost use Rattle.cert_lexer.specs.declared.inner.Inner.{Inner};
-ghost use Rattle.cert_text.specs.Against.{bytes_of as bytes_in, position_in_bound as position_in};
+ghost use Rattle.cert_text.specs.NumberFaults.{bytes_of as bytes_in, position_in_bound as position_in};
 ghost use Rattle.cert_text.specs.ParsedSoFar.{own_of};
 ghost use Rattle.cert_text.specs.Reading.{moved};
 ghost use Rattle.cert_text.specs.Refused.{kind_at, refusal_of};
 ghost use Rattle.cert_text.specs.Remembered.{in_64 as in_64_of};
 
 use crate::draft::{in_32, in_64};
-use crate::faults::{against_name, against_number, against_place, name_bytes};
+use crate::faults::{against_number, fault_of_name, fault_of_place, name_bytes};
 use crate::parsed_so_far::ParsedSoFar;
 use crate::phase::Next;
 use bound_expr::Bound;
@@ -34,7 +34,7 @@ fn fault_at(first_refusal: Option<ProofKind>, at: u64) -> Option<Fault<ProofKind
     }
 }
 
-// The bytes of the first this many pieces of a bound, or 2^64-1 where there are more.
+// The number of bytes of the first `count` pieces of a bound, or 2^64-1 if there are more.
 fn bytes_of(pieces: PackedRest<'_>, count: u64) -> u64
     ensures { result ≡ min (bytes_in (take count (inners_in pieces.entry))) (2 ^ 64 - 1) }
 {
@@ -52,7 +52,7 @@ fn bytes_of(pieces: PackedRest<'_>, count: u64) -> u64
     sum
 }
 
-// The position of the refusal of a bound at the piece with this number, given that of its last piece.
+// The position of the refusal of a bound at the piece with this number, where `at` is the position of its last piece.
 fn position_in_bound(pieces: PackedRest<'_>, index: u64, at: u64) -> u64
     ensures { (before : List Inner) (last : Inner) → inners_in pieces.entry ≡ before ++ last ∷ []
         → result ≡ in_64_of (at - bytes_in before + bytes_in (take index (inners_in pieces.entry))) }
@@ -81,7 +81,7 @@ impl ParsedSoFar {
     {
         match piece {
             Piece::Name(word, symbol) => {
-                let first_refusal = against_name(p, self, word, symbol);
+                let first_refusal = fault_of_name(p, self, word, symbol);
                 self.symbol = symbol;
                 self.coming = Next::Nothing;
                 Ok(fault_at(first_refusal, at))
@@ -119,7 +119,7 @@ impl ParsedSoFar {
         ensures first_refusal { IfOk result (λ first_refusal. fault_of first_refusal
             ≡ refusal_of (program_of p.now) (own_of self.old) (piece_of.Place symbol behind) at) }
     {
-        let first_refusal = against_place(p, self, symbol, behind);
+        let first_refusal = fault_of_place(p, self, symbol, behind);
         if let Behind::Number(number) = behind {
             self.draft.shut.push((symbol, in_32(number)))?;
         }

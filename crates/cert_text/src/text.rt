@@ -1,4 +1,4 @@
-//! Proof files as texts of their grammar.
+//! Reads a proof file piece by piece, as a text of its grammar.
 
 ghost use Rattle.std.specs.Prelude.{◌≡◌, ◌||◌, if◌then◌else◌, is_some, List, ◌∷◌, None, Option, IfOk, OnOk};
 ghost use Rattle.its_model.specs.Views.{program_of};
@@ -27,7 +27,7 @@ pub struct ProofReading<'a> {
 }
 
 impl<'a> ProofReading<'a> {
-    /// Nothing was read.
+    /// The state in which nothing was read.
     pub fn new(alloc: Global, program: &'a Program) -> ProofReading<'a>
         ensures program { result.program.now ≡ program.now }
         ensures begun { progress_of result ≡ (proof_fold (program_of program.now)).begun }
@@ -40,7 +40,7 @@ impl<'a> ProofReading<'a> {
     }
 }
 
-// The fault of a piece, unless there was one before.
+// The fault of a piece, if there was no fault before.
 fn unless(broken: bool, first_refusal: Option<Fault<ProofKind>>) -> Option<Fault<ProofKind>>
     ensures { fault_of result ≡ (if broken then None else fault_of first_refusal) }
 {

@@ -17,7 +17,7 @@ use cert_types::Proof;
 use its_model::Program;
 use model::Memory;
 
-/// A node with all that it rests on. The call goes as deep as the proof.
+/// Writes a node with all of its premises. The recursion is as deep as the derivation.
 #[cycle(write_proof)]
 pub(crate) fn push_proof(text: &mut Vec<u8>, p: &Program, proof: &Proof) -> Result<(), Memory>
     requires { IsOverFirst (length p.now.start_names.items) (proof_of proof.now) }
@@ -53,7 +53,7 @@ pub(crate) fn push_proof(text: &mut Vec<u8>, p: &Program, proof: &Proof) -> Resu
     }
 }
 
-// The sizes after a rule that never runs.
+// Writes the node of a rule that never runs.
 #[cycle(write_proof)]
 fn push_never(text: &mut Vec<u8>, p: &Program, child: &Proof) -> Result<(), Memory>
     requires { IsOverFirst (length p.now.start_names.items) (proof_of child.now) }
@@ -65,7 +65,7 @@ fn push_never(text: &mut Vec<u8>, p: &Program, child: &Proof) -> Result<(), Memo
     text.extend_from_slice(b")")
 }
 
-// A fact with another bound.
+// Writes the node of a fact with a weaker bound.
 #[cycle(write_proof)]
 fn push_weaken(text: &mut Vec<u8>, p: &Program, child: &Proof, bound: &Bound) -> Result<(), Memory>
     requires child { IsOverFirst (length p.now.start_names.items) (proof_of child.now) }
@@ -79,7 +79,7 @@ fn push_weaken(text: &mut Vec<u8>, p: &Program, child: &Proof, bound: &Bound) ->
     write(&p.start_names, text, bound)
 }
 
-// Writes the uses of a node.
+// Writes the premises of a node.
 #[cycle(write_proof)]
 fn push_uses(text: &mut Vec<u8>, p: &Program, uses: &[Proof]) -> Result<(), Memory>
     requires { AreOverFirst (length p.now.start_names.items) (uses_of (map proof_of uses.now)) }
@@ -98,7 +98,7 @@ fn push_uses(text: &mut Vec<u8>, p: &Program, uses: &[Proof]) -> Result<(), Memo
     text.extend_from_slice(b"}")
 }
 
-/// Whether some node of a proof is on a cost. The call goes as deep as the proof.
+/// Whether some node of a derivation is on a cost. The recursion is as deep as the derivation.
 #[cycle(search_costs)]
 pub(crate) fn has_cost(proof: &Proof) -> bool
     ensures { result ≡ has_cost_node (proof_of proof.now) }
@@ -114,7 +114,7 @@ pub(crate) fn has_cost(proof: &Proof) -> bool
     }
 }
 
-// Whether one of these has such a node.
+// Whether some node of these derivations is on a cost.
 #[cycle(search_costs)]
 fn some_has_cost(proofs: &[Proof]) -> bool
     ensures { result ≡ have_cost (uses_of (map proof_of proofs.now)) }
@@ -127,7 +127,7 @@ fn some_has_cost(proofs: &[Proof]) -> bool
     false
 }
 
-/// Whether one of these lemmas has such a node.
+/// Whether some node of these lemmas is on a cost.
 pub(crate) fn any_has_cost(lemmas: &[Proof]) -> bool
     ensures { result ≡ some_has_cost_of (map proof_of lemmas.now) }
 {

@@ -1,4 +1,4 @@
--- Forms by their symbols: going backwards, each form replaces those after it.
+-- Entering forms by their symbols from the last to the first: each form replaces those after it.
 use Rattle.std.proofs.Common.{◌≡◌, ℕ, ◌+◌, ◌<◌, ◌≤◌, ◌^◌, ◌==◌, Bool, true, false, cond, List, [], ◌∷◌, length, map, get_or, drop, All}
 use Rattle.std.proofs.Common.{Option, Some, None, IfSome, refl, sym, ap, ◌∙◌, subst, arith}
 use Rattle.std.proofs.lemmas.List.{drop_all}
@@ -15,14 +15,14 @@ use Rattle.cert_types.specs.Sizes.{form_found, IsShort}
 use Rattle.cert_types.specs.Views.{form_of}
 use Rattle.cert_types.proofs.Rules.{form-next}
 
--- after the last form there is none
+-- after the last form no form is entered
 pub forms-none : (fs : List Form) (i : ℕ) (empty : BTreeMap ℕ (Bor Form)) → length fs ≤ i
     → ((a : ℕ) → get nat_cmp empty a ≡ None) → HasForms (drop i fs) empty
 forms-none fs i empty l h = record {
   each = λ a. ap form_found (h a) ∙ sym (ap (λ (gs : List Form). rank_form (map form_of gs) (Some a)) (drop_all i fs l));
 }
 
--- a form that is entered is the first at its symbol among it and those after it
+-- a form that is entered is the first at its symbol among the forms from it on
 pub forms-more : (fs : List Form) (i : ℕ) (r : Bor Form) (old new : BTreeMap ℕ (Bor Form)) → i < length fs
     → r.now ≡ get_or fs i r.now → HasForms (drop (i + 1) fs) old
     → ((a : ℕ) → get nat_cmp new a ≡ cond (is_at (nat_cmp r.now.symbol) a) (Some r) (get nat_cmp old a))
@@ -40,7 +40,7 @@ forms-more fs i r old new l e h u = record {
     chosen true o = refl
     chosen false o = refl
 
--- the first form at a symbol has few coefficients where all forms have
+-- the first form at a symbol is short if all forms are
 short-form : (fs : List Form) → All IsShort fs → (o : Option ℕ) → length (rank_form (map form_of fs) o).coefs < 2 ^ 31
 short-form fs h None = omega arith
 short-form [] h (Some a) = omega arith

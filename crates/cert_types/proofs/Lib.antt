@@ -1,4 +1,4 @@
--- laws of looked-up facts, of sets of numbers, and of composed sizes
+-- Laws of looked-up facts, of sets of numbers, and of composed sizes.
 pub mod Numbers
 pub mod Parts
 pub mod Lookups

@@ -1,4 +1,4 @@
--- Looking up the first fact that matches: what is left decides.
+-- Looking up the first fact that matches: a loop in which the facts that are left decide.
 use Rattle.std.proofs.Common.{◌≡◌, ℕ, ◌+◌, ◌<◌, ◌≤◌, ◌==◌, ◌&&◌, Bool, true, false, List, ◌∷◌, length, get_or, drop}
 use Rattle.std.proofs.Common.{Some, None, refl, sym, ap, ◌∙◌}
 use Rattle.std.proofs.lemmas.List.{drop_more, drop_all}
@@ -77,7 +77,7 @@ size_later (Time u c) fs t i h = refl
 size_later (Cost u c) fs t i h = refl
 
 module _ (fs : List Fact) (i : ℕ) (t : ℕ) where
-  -- a loop over facts for a time: it is found, passed, or there is none
+  -- a loop over facts for a time finds it at a fact that is that time
   pub time_found : (f : Fact) (b : plain.Bound) → i < length fs → f ≡ get_or fs i f → time_in (facts_of (drop i fs)) t ≡ time_in (facts_of fs) t → Some b ≡ time_by_fact (fact_of f) t
       → Some b ≡ time_in (facts_of fs) t
   time_found f b low e kept h = time_here (fact_of f) (facts_of (drop (i + 1) fs)) t b h ∙ (sym (ap (λ (gs : List facts.Fact). time_in gs t) (facts_of-drop fs i f low e)) ∙ kept)
@@ -91,7 +91,7 @@ module _ (fs : List Fact) (i : ℕ) (t : ℕ) where
   pub time_none : length fs ≤ i → time_in (facts_of (drop i fs)) t ≡ time_in (facts_of fs) t → None ≡ time_in (facts_of fs) t
   time_none low kept = sym (ap (λ (gs : List Fact). time_in (facts_of gs) t) (drop_all i fs low)) ∙ kept
 
-  -- a size is found
+  -- a loop over facts for a size finds it at a fact that is that size
   pub size_found : (j : ℕ) (f : Fact) (b : plain.Bound) → i < length fs → f ≡ get_or fs i f → size_in (facts_of (drop i fs)) t j ≡ size_in (facts_of fs) t j → Some b ≡ size_by_fact (fact_of f) t j
       → Some b ≡ size_in (facts_of fs) t j
   size_found j f b low e kept h = size_here (fact_of f) (facts_of (drop (i + 1) fs)) t j b h ∙ (sym (ap (λ (gs : List facts.Fact). size_in gs t j) (facts_of-drop fs i f low e)) ∙ kept)

@@ -1,4 +1,4 @@
--- Sets of numbers, one number more at a time.
+-- Sets of numbers to which one number after another is added.
 use Rattle.std.proofs.Common.{◌≡◌, ℕ, ◌+◌, ◌<◌, ◌==◌, ◌||◌, arith, Bool, true, false, cond, List, [], ◌∷◌, ◌++◌, take}
 use Rattle.std.proofs.Common.{get_or, length, None, refl, sym, ◌∙◌, ap, subst}
 use Rattle.std.proofs.lemmas.List.{take_more}
@@ -27,7 +27,7 @@ in-more q n (m ∷ ns) = ap (λ (v : Bool). (q == m) || v) (in-more q n ns) ∙ 
     go false true = refl
     go false false = refl
 
--- the test whether two numbers are the same, from both sides
+-- the test whether two numbers are equal doesn't depend on their order
 eqb-flip : (a b : ℕ) → (a == b) ≡ (b == a)
 eqb-flip a b = bool_same (a == b) (b == a) (flip a b) (flip b a)
   where
@@ -38,11 +38,11 @@ eqb-flip a b = bool_same (a == b) (b == a) (flip a b) (flip b a)
         go true e = refl
         go false e = absurd (grind (arith, nat_tests))
 
--- the test of a key is that of its number
+-- the test of a key in the set is the test whether it is the number
 same-key : (n q : ℕ) → is_at (nat_cmp n) q ≡ (q == n)
 same-key n q = unsigned_tied n q ∙ eqb-flip n q
 
--- a set with one number more has just those of the list with it
+-- a set with one more number contains exactly those of the list with that number
 pub set_more : (old new : BTreeSet ℕ) (ns : List ℕ) (n : ℕ) → HasJust old ns
     → ((q : ℕ) → contains nat_cmp new q ≡ cond (is_at (nat_cmp n) q) true (contains nat_cmp old q))
     → HasJust new (ns ++ n ∷ [])
@@ -50,14 +50,14 @@ set_more old new ns n h u q =
     u q ∙ (ap (λ (v : Bool). cond v true (contains nat_cmp old q)) (same-key n q)
     ∙ (ap (λ (v : Bool). cond (q == n) true v) (h q) ∙ sym (in-more q n ns)))
 
--- a set of the numbers so far, with one more
+-- a set of the first numbers of a list with the next one contains one more of them
 pub number_more : (old new : BTreeSet ℕ) (ns : List ℕ) (i : ℕ) → i < length ns → HasJust old (take i ns)
     → ((q : ℕ) → contains nat_cmp new q ≡ cond (is_at (nat_cmp (get_or ns i 0)) q) true (contains nat_cmp old q))
     → HasJust new (take (i + 1) ns)
 number_more old new ns i l h u =
     subst (HasJust new) (sym (take_more ns i 0 l)) (set_more old new (take i ns) (get_or ns i 0) h u)
 
--- no rule leaves no symbol
+-- no rule leaves an absent symbol
 pub left_by_none : (p : Program) (rules : List ℕ) → is_left_by p rules None ≡ false
 left_by_none p [] = refl
 left_by_none p (t ∷ rules) = left_by_none p rules

@@ -1,4 +1,4 @@
--- The parts that are pushed, one place after the other.
+-- The parts that are pushed, one place after another.
 use Rattle.std.proofs.Common.{◌≡◌, ◌≢◌, ◌||◌, cond, length, ℕ, suc, ◌+◌, ◌<◌, ◌≤◌, Bool, true, false, List, [], ◌∷◌}
 use Rattle.std.proofs.Common.{◌++◌, get_or, drop, refl, sym, ap, ◌∙◌, arith}
 use Rattle.std.specs.Prelude.{ℤ, pos, nat_abs}
@@ -16,7 +16,7 @@ use Rattle.cert_program.specs.cert_rules.Numbers.{rounded_up}
 use Rattle.cert_program.proofs.cert_rules.FormBounds.{told_zero}
 use Rattle.cert_types.specs.Sizes.{is_result_variable, members_from, sizes_from, joined, place_part}
 
--- joining nothing, and joining in another order
+-- joining no parts at the end changes nothing
 pub joined-nothing : (ps : Parts) → joined ps NoParts ≡ ps
 joined-nothing NoParts = refl
 joined-nothing (Part b bs) = ap (Part b) (joined-nothing bs)
@@ -26,13 +26,13 @@ pub joined_assoc : (a b c : Parts) → joined (joined a b) c ≡ joined a (joine
 joined_assoc NoParts b c = refl
 joined_assoc (Part x xs) b c = ap (Part x) (joined_assoc xs b c)
 
--- one more bound
+-- the parts of a list with one more bound are those of the list with that bound
 pub parts_of-more : (xs : List Bound) (x : Bound) → parts_of (bounds_of (xs ++ x ∷ [])) ≡ joined (parts_of (bounds_of xs)) (Part (bound_of x) NoParts)
 parts_of-more [] x = refl
 parts_of-more (y ∷ ys) x = ap (Part (bound_of y)) (parts_of-more ys x)
 
 module _ (members : List Member) (table : Table) (rule : ℕ) where
-  -- the places from the next one on are those from here but for the first
+  -- the members from the next place on are those from this place on without the first
   next-members : (place : ℕ) → (λ (j : ℕ). members_from members rule place (suc j)) ≡ members_from members rule (place + 1)
   next-members place = λ i j. step j i
     where
@@ -69,7 +69,7 @@ module _ (members : List Member) (table : Table) (rule : ℕ) where
       size : sizes_from table rule place 0 ≡ known (table.size rule place)
       size = ap (λ (n : ℕ). known (table.size rule n)) (let e : place + 0 ≡ place = omega arith in e)
 
-  -- the place of the first, and then those of the others
+  -- pushing the part of the first place and then those of the others pushes the parts of all
   pub places_pushed : (coefs : List ℤ) (c : ℤ) (cs : List ℤ) (den place : ℕ) (old between new : Parts) → coefs ≡ c ∷ cs
       → between ≡ joined old (place_part c den (is_result_variable members rule place) (known (table.size rule place)))
       → new ≡ joined between (place_parts cs den (members_from members rule (place + 1)) (sizes_from table rule (place + 1)))
@@ -80,7 +80,7 @@ module _ (members : List Member) (table : Table) (rule : ℕ) where
       ∙ (ap (joined old) (sym (places-step c cs den place))
       ∙ ap (λ (xs : List ℤ). joined old (place_parts xs den (members_from members rule place) (sizes_from table rule place))) (sym ec))))
 
-  -- the places from the first one on are all
+  -- the members among the places from 1 on are all members after the rule
   all-members : members_from members rule 1 ≡ is_member members rule
   all-members = λ i j. step j i
     where
@@ -119,7 +119,7 @@ pub not_pushed : (ps : Parts) (c : ℤ) (den : ℕ) (out : Bool) (b : plain.Boun
 not_pushed ps c den out b h = sym (ap (joined ps) (ap (λ (v : Bool). cond v NoParts (Part (ProductOf (both_parts (Constant (rounded_up (nat_abs c) den)) b)) NoParts)) (sym h))
     ∙ joined-nothing ps)
 
--- a place is left out where its coefficient is 0, and else where it is a member
+-- a place whose coefficient is 0 is left out
 pub out_by_zero : (c : ℤ) (v : Bool) → c ≡ pos 0 → true ≡ is_zero c || v
 out_by_zero c v e = sym (ap (λ (z : ℤ). is_zero z || v) e)
 
@@ -131,13 +131,13 @@ out_by_member c u v other e = go (is_zero c) refl
     go true f = absurd (other (told_zero c f))
     go false f = rw f e
 
--- without a place nothing is pushed
+-- if there is no coefficient, nothing is pushed
 pub none_pushed : (ps : Parts) (coefs : List ℤ) (den : ℕ) (out : ℕ → Bool) (sizes : ℕ → plain.Bound) → length coefs ≡ 0
     → ps ≡ joined ps (place_parts coefs den out sizes)
 none_pushed ps [] den out sizes e = sym (joined-nothing ps)
 none_pushed ps (c ∷ cs) den out sizes e = absurd (omega (arith, e))
 
--- one more part of those for a list of numbers: what is left makes the parts whole
+-- after one more part for a list of numbers, the parts pushed and those left make the whole
 pub part_pushed : (f : ℕ → plain.Bound) (xs : List ℕ) (i d : ℕ) (done more : List Bound) (b : Bound) (whole : Parts)
     → i < length xs → joined (parts_of (bounds_of done)) (parts_for f (drop i xs)) ≡ whole
     → more ≡ done ++ b ∷ [] → bound_of b ≡ f (get_or xs i d)
@@ -149,7 +149,7 @@ part_pushed f xs i d done more b whole low kept em eb =
     ∙ (ap (λ (c : plain.Bound). joined (parts_of (bounds_of done)) (Part c (parts_for f (drop (i + 1) xs)))) eb
     ∙ (ap (λ (ys : List ℕ). joined (parts_of (bounds_of done)) (parts_for f ys)) (sym (drop_more xs i d low)) ∙ kept))))
 
--- where nothing is left the parts are whole
+-- if no number is left, the parts pushed are the whole
 pub parts_whole : (f : ℕ → plain.Bound) (xs : List ℕ) (i : ℕ) (done : List Bound) (whole : Parts) → length xs ≤ i
     → joined (parts_of (bounds_of done)) (parts_for f (drop i xs)) ≡ whole → parts_of (bounds_of done) ≡ whole
 parts_whole f xs i done whole low kept =

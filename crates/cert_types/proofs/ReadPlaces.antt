@@ -11,7 +11,7 @@ use Rattle.cert_types.specs.Reading.{places_read}
 use Rattle.cert_types.proofs.Numbers.{numbers-more}
 
 module _ (poly : Option Polynomial) (side_bound : SideBound) where
-  -- the places that a side bound reads, and one more
+  -- the places among the first t + 1 that a side bound reads are those among the first t, and place t if it reads that
   read-more : (t : ℕ) → places_read poly side_bound (t + 1) ≡ places_read poly side_bound t ++ cond (reads poly side_bound t) (t ∷ []) []
   read-more t =
       ap (filter (λ j. reads poly side_bound j)) (numbers-more 0 t)

@@ -1,4 +1,4 @@
--- Looking up rules, entries, members and forms: what is left decides.
+-- Looking up rules, entries, members and forms in loops, in which the elements that are left decide.
 use Rattle.std.proofs.Common.{◌≡◌, ℕ, zero, suc, ◌+◌, ◌-◌, ◌<◌, ◌≤◌, ◌==◌, ◌||◌, ◌⊎◌, inl, inr, Bool, true, false, cond}
 use Rattle.std.proofs.Common.{List, [], ◌∷◌, ◌++◌, length, map, filter, get_or, drop, Option, Some, None, option_map}
 use Rattle.std.proofs.Common.{refl, sym, ap, ◌∙◌, arith}
@@ -18,7 +18,7 @@ use Rattle.cert_types.specs.declared.rank.Form.{Form}
 use Rattle.cert_types.proofs.Numbers.{numbers-more}
 use Rattle.cert_types.specs.Views.{form_of}
 
--- the rule with a number
+-- the rule with number t is the element at position t - 1
 pub rule_here : (p : Program) (t : ℕ) (r : Rule) → 0 < t → t ≤ length p.rules.items → r ≡ get_or p.rules.items (t - 1) r
     → rule_at (program_of p) t ≡ Some (rule_of r)
 rule_here p zero r n l e = absurd (omega (arith, n))
@@ -28,13 +28,13 @@ rule_here p (suc t) r n l e =
     (slice_get_read p.rules.items (length p.rules.items) t r refl (omega (arith, l))
     (e ∙ ap (λ (i : ℕ). get_or p.rules.items i r) (let k : suc t - 1 ≡ t = omega arith in k)))
 
--- there is none past the last one
+-- there is no rule with a number past the last one
 rule_past : (p : Program) (t : ℕ) → length p.rules.items < t → rule_at (program_of p) t ≡ None
 rule_past p zero l = absurd (omega (arith, l))
 rule_past p (suc t) l = slice_get-map rule_of p.rules.items t
     ∙ ap (λ (o : Option Rule). option_map rule_of o) (slice_get_past p.rules.items t (omega (arith, l)))
 
--- where the rule with a number comes from, and where there is none
+-- the source of the rule with a number is that of the element at its position
 pub source_found : (p : Program) (t : ℕ) (r : Rule) → 0 < t → t ≤ length p.rules.items → r ≡ get_or p.rules.items (t - 1) r
     → Some r.source ≡ source_of (program_of p) t
 source_found p t r n l e = sym (ap source_in (rule_here p t r n l e))
@@ -44,7 +44,7 @@ pub source_none : (p : Program) (t : ℕ) → (t ≡ 0) ⊎ (length p.rules.item
 source_none p t (inl e) = sym (ap (λ (n : ℕ). source_of (program_of p) n) e)
 source_none p t (inr l) = sym (ap source_in (rule_past p t l))
 
--- the target of a rule
+-- the target of a rule number above 0 is that of the rule
 target_by_rule : (p : Program) (t : ℕ) → 0 < t → target_of (program_of p) t ≡ target_in (rule_at (program_of p) t)
 target_by_rule p zero n = absurd (omega (arith, n))
 target_by_rule p (suc t) n = refl
@@ -62,14 +62,14 @@ target_start p t e = sym (ap (λ (n : ℕ). target_of (program_of p) n) e)
 pub target_none : (p : Program) (t : ℕ) → length p.rules.items < t → None ≡ target_of (program_of p) t
 target_none p t l = sym (target_by_rule p t (omega (arith, l)) ∙ ap target_in (rule_past p t l))
 
--- a test that one of a list passes: it is found, passed, or none does
+-- a loop that looks for an element that passes a test
 module _ {X Y : Type 0} (view : X → Y) (test : Y → Bool) (xs : List X) (i : ℕ) where
   any_next : (x : X) → i < length xs → x ≡ get_or xs i x
       → list_any test (map view (drop i xs)) ≡ test (view x) || list_any test (map view (drop (i + 1) xs))
   any_next x l e = ap (λ (ys : List X). list_any test (map view ys)) (drop_more xs i x l)
       ∙ ap (λ (y : X). test (view y) || list_any test (map view (drop (i + 1) xs))) (sym e)
 
-  -- where the next one passes the test, one of all does
+  -- if the next element passes the test, some element of the list does
   pub any_found : (x : X) → i < length xs → x ≡ get_or xs i x
       → list_any test (map view (drop i xs)) ≡ list_any test (map view xs)
       → true ≡ test (view x) → true ≡ list_any test (map view xs)
@@ -83,12 +83,12 @@ module _ {X Y : Type 0} (view : X → Y) (test : Y → Bool) (xs : List X) (i : 
   any_passed x l e kept h =
       sym (any_next x l e ∙ ap (λ (v : Bool). v || list_any test (map view (drop (i + 1) xs))) (sym h)) ∙ kept
 
-  -- where none is left, none of all passes the test
+  -- if no element is left, no element of the list passes the test
   pub any_none : length xs ≤ i → list_any test (map view (drop i xs)) ≡ list_any test (map view xs)
       → false ≡ list_any test (map view xs)
   any_none l kept = sym (ap (λ (ys : List X). list_any test (map view ys)) (drop_all i xs l)) ∙ kept
 
--- whether a number is in a list
+-- a number is in a list if it is the next one or in the rest
 in-next : (n x : ℕ) (xs : List ℕ) (i : ℕ) → i < length xs → x ≡ get_or xs i x
     → is_in n (drop i xs) ≡ (n == x) || is_in n (drop (i + 1) xs)
 in-next n x xs i l e = ap (is_in n) (drop_more xs i x l)
@@ -110,7 +110,7 @@ in_passed n x xs i l e kept h =
 pub in_none : (n : ℕ) (xs : List ℕ) (i : ℕ) → length xs ≤ i → is_in n (drop i xs) ≡ is_in n xs → false ≡ is_in n xs
 in_none n xs i l kept = sym (ap (is_in n) (drop_all i xs l)) ∙ kept
 
--- the entries up to a number, and one more
+-- a loop that collects the entries of a set
 module _ (p : plain.Program) (set : List ℕ) where
   entries-more : (t : ℕ) → filter (enters p set) (range_with_len 0 (t + 1))
       ≡ filter (enters p set) (range_with_len 0 t) ++ cond (enters p set t) (t ∷ []) []
@@ -143,7 +143,7 @@ entries_whole p set found n e h =
     h ∙ ap (λ (m : ℕ). filter (enters (program_of p) set) (range_with_len 0 m))
     (let k : n ≡ suc (length (map rule_of p.rules.items)) = omega (arith, e, length-map p.rules.items rule_of) in k)
 
--- the first form at a symbol
+-- the first form at a symbol is the next one, if that is at the symbol, or else the first in the rest
 pub form-next : (fs : List Form) (i : ℕ) (f : Form) (a : ℕ) → i < length fs → f ≡ get_or fs i f
     → rank_form (map form_of (drop i fs)) (Some a) ≡ cond (f.symbol == a) (form_of f).form (rank_form (map form_of (drop (i + 1) fs)) (Some a))
 form-next fs i f a l e = ap (λ (gs : List Form). rank_form (map form_of gs) (Some a)) (drop_more fs i f l)

@@ -20,14 +20,14 @@ use Rattle.cert_types.specs.declared.side_bound.SideBound.TheVariants as side_bo
 abbrev pub optional_poly : Option (Bor Poly) → Option Polynomial
 optional_poly o = option_map (λ q. poly_of q.now) o
 
--- variables that are places of a symbol that could be
+-- each variable of the monomial is below 2^31, as places are
 abbrev pub HasFewVariables : Monomial → Type 0
 HasFewVariables m = All (λ v. v < 2 ^ 31) m.vars.items
 
 abbrev pub HasFewPlaces : Option (Bor Poly) → Type 0
 HasFewPlaces o = IfSome o (λ q. All HasFewVariables q.now.terms.items)
 
--- a linear side bound has a denominator of at least 1, and fewer coefficients than places can be numbered
+-- a linear side bound has a denominator of at least 1, and fewer coefficients than there can be places
 abbrev pub IsReadable : SideBound → Type 0
 IsReadable (side_bounds.Linear den coefs constant multipliers) = (1 ≤ den) × (length coefs.items < 2 ^ 31)
 IsReadable side_bounds.Poly = Unit {0}
@@ -37,7 +37,7 @@ abbrev pub both_side_bounds : Option Polynomial → nodes.LocalBound → (ℕ �
 both_side_bounds q local size e =
     MaximumOf (both_parts (composed_side_bound q local.up (sizes_after size e)) (composed_side_bound q local.low (sizes_after size e)))
 
--- the maximum over these rules
+-- the maximum, over these rules, of both side bounds at the sizes after the rule
 abbrev pub spread_over : Option Polynomial → nodes.LocalBound → (ℕ → ℕ → Option Bound) → List ℕ → Bound
 spread_over q local size es = MaximumOf (parts_for (both_side_bounds q local size) es)
 

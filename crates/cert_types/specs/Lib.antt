@@ -7,7 +7,7 @@ pub mod Lookups
 pub mod Composing
 pub mod Reading
 pub mod NumberSets
--- laws, and values that were worked out by hand
+-- laws and worked values
 pub mod Laws
 -- the crates below, which callers name through this one
 pub use Rattle.cert_program.specs.rule_forms

@@ -5,10 +5,10 @@ use Rattle.std.specs.Ordering.{nat_cmp}
 use Rattle.poly_terms.specs.model.Programs.{Program}
 use Rattle.poly_terms.specs.model.Entries.{is_in, is_left_by}
 
--- a set has just the numbers of a list
+-- the set contains exactly the numbers of the list
 abbrev pub HasJust : BTreeSet ℕ → List ℕ → Type 0
 HasJust set ns = (n : ℕ) → contains nat_cmp set n ≡ is_in n ns
 
--- a set has just the symbols that some rule of a list leaves
+-- the set contains exactly the symbols that some rule of the list leaves
 abbrev pub HasSources : Program → BTreeSet ℕ → List ℕ → Type 0
 HasSources p set rules = (a : ℕ) → contains nat_cmp set a ≡ is_left_by p rules (Some a)

@@ -14,19 +14,19 @@ use Rattle.cert_program.specs.cert_rules.Composed.{both_parts}
 use Rattle.cert_types.specs.declared.rank.Form.{Form}
 use Rattle.cert_types.specs.Views.{form_of}
 
--- a member is the place after the rule; places count from 1
+-- the member is at this place after this rule; places count from 1
 abbrev pub is_result_variable_of : ℕ → ℕ → Member → Bool
 is_result_variable_of rule place m = (m.result_variable.rule == rule) && (m.result_variable.place == place)
 
--- one of the members is
+-- one of the members is at this place after this rule
 abbrev pub is_result_variable : List Member → ℕ → ℕ → Bool
 is_result_variable members rule place = list_any (is_result_variable_of rule place) members
 
--- the members among the places from one on
+-- the test whether a place is a member, for places renumbered from `place` on
 abbrev pub members_from : List Member → ℕ → ℕ → ℕ → Bool
 members_from members rule place j = is_result_variable members rule (place + j)
 
--- the sizes of the places from one on, after a rule
+-- the sizes after a rule, for places renumbered from `place` on
 abbrev pub sizes_from : Table → ℕ → ℕ → ℕ → Bound
 sizes_from table rule place j = known (table.size rule (place + j))
 
@@ -35,7 +35,7 @@ abbrev pub joined : Parts → Parts → Parts
 joined NoParts cs = cs
 joined (Part b bs) cs = Part b (joined bs cs)
 
--- the part of a place: none where its coefficient is 0 or it is left out
+-- the part of a place: none if its coefficient is 0 or it is left out
 abbrev pub place_part : ℤ → ℕ → Bool → Bound → Parts
 place_part c den is_out b =
     cond (is_zero c || is_out) NoParts (Part (ProductOf (both_parts (Constant (rounded_up (nat_abs c) den)) b)) NoParts)
@@ -45,6 +45,6 @@ abbrev pub form_found : Option (Bor Form) → forms.Form
 form_found None = constant_form (pos 0)
 form_found (Some f) = (form_of f.now).form
 
--- a form has fewer coefficients than places could be numbered
+-- a form has fewer coefficients than there can be places
 abbrev pub IsShort : Form → Type 0
 IsShort f = length f.coefs.items < 2 ^ 31

@@ -53,7 +53,7 @@ member_of m = record { result_variable = result_variable_of m.result_variable; l
 abbrev pub form_of : Form → nodes.SymbolForm
 form_of f = record { symbol = f.symbol; form = record { coefs = f.coefs.items; constant = f.constant } }
 
--- a ranking node without what it rests on
+-- a ranking node, without its premises, as plain data
 abbrev pub rank_of : RankNode → nodes.RankNode
 rank_of n = record {
   rule = n.rule;
@@ -64,22 +64,22 @@ rank_of n = record {
   floor = n.floor.items;
 }
 
--- a list of proofs as the uses of one
+-- a list of derivations as the premises of one
 abbrev pub uses_of : List nodes.Proof → nodes.Proofs
 uses_of [] = NoProof
 uses_of (p ∷ ps) = AndProof p (uses_of ps)
 
--- a node without what it rests on
+-- the nodes with premises of their own, as plain data
 abbrev pub empty_of : EmptyNode → nodes.Proof
 empty_of n = nodes.Empty n.rule n.multipliers.items
 
--- how a cost is shown as plain data
+-- how a cost is shown, as plain data
 abbrev pub cost_by_of : CostBy → nodes.CostBy
 cost_by_of (costs.Empty multipliers) = nodes.EmptyCost multipliers.items
 cost_by_of costs.Never = nodes.NeverCost
 cost_by_of (costs.SideBound side_bound) = nodes.SideBoundCost (side_bound_of side_bound)
 
--- one layer of each type, with the plain proof of each child in its place
+-- one layer of each type, with the plain derivation of each child in its place
 abbrev pub proof_step : Proof-F nodes.Proof nodes.Proof nodes.Proof nodes.Proof nodes.Proof nodes.Proof → nodes.Proof
 proof_step (Proof-F.Cite n) = nodes.Cite n
 proof_step Proof-F.Start = nodes.Start
@@ -117,7 +117,7 @@ rank_step n = nodes.Rank (record {
 abbrev pub cost_step : CostNode-F nodes.Proof nodes.Proof nodes.Proof nodes.Proof nodes.Proof nodes.Proof → nodes.Proof
 cost_step n = nodes.Charge (record { rule = n.rule; by = cost_by_of n.by }) (uses_of n.uses.items)
 
--- a proof as plain data
+-- a derivation as plain data
 abbrev pub proof_of : Proof → nodes.Proof
 proof_of = fold-Proof nodes.Proof nodes.Proof nodes.Proof nodes.Proof nodes.Proof nodes.Proof proof_step cost_step
     cycle_step spread_step unreached_step rank_step

@@ -4,16 +4,16 @@ use crate::proof::EmptyNode;
 use farkas_cert::Scaled;
 use linear_forms::LimitCause;
 
-/// The question of a linear program.
+/// The question that a linear program answers.
 #[derive(Clone, Copy, Debug, PartialEq, Eq, Hash)]
 pub enum Question {
-    /// Whether the rows of the rule have a point.
+    /// The question whether the rows of the rule have a point.
     Empty { rule: u32 },
-    /// A ranking function for the rule.
+    /// The question for a ranking function of the rule.
     Rank { rule: u32 },
-    /// A local bound of a place.
+    /// The question for a local bound of a place.
     Local { rule: u32, place: u32 },
-    /// A bound on what a step by the rule costs.
+    /// The question for a bound on the cost of a step by the rule.
     Cost { rule: u32 },
 }
 
@@ -27,11 +27,11 @@ pub struct LimitHit {
 /// Whether the rows of a rule have a point.
 #[derive(Debug, PartialEq, Eq, Drop)]
 pub enum GuardFeasibility {
-    /// They have none, as the node shows.
+    /// They have none, as this node shows.
     Empty(EmptyNode),
-    /// They have this one.
+    /// They have this point.
     Point(Scaled),
-    /// The linear program passed a limit.
+    /// It is unknown, since the linear program passed a limit.
     OutOfLimits(LimitHit),
 }
 

@@ -9,7 +9,7 @@ use bound_expr::Memory;
 use farkas_cert::Scaled;
 use std::alloc::Global;
 
-/// The same local bound.
+/// A copy of the local bound.
 ///
 /// # Errors
 ///
@@ -22,7 +22,7 @@ pub fn copied_local(alloc: Global, local: &LocalBound) -> Result<LocalBound, Mem
     Ok(LocalBound { up, low })
 }
 
-/// The same scaled point.
+/// A copy of the scaled point.
 ///
 /// # Errors
 ///

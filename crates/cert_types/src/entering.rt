@@ -74,7 +74,7 @@ fn insert_source(sources: &mut BTreeSet<u32>, source: Option<u32>) -> Result<(),
     Ok(())
 }
 
-// Whether a rule of the set with these sources comes from the symbol.
+// Whether a rule of a set with these source symbols leaves the symbol.
 fn is_left(sources: &BTreeSet<u32>, symbol: Option<u32>) -> bool
     ensures { (p : PlainProgram) (set : List ℕ) → HasSources p sources.now set → result ≡ is_left_by p set symbol }
 {

@@ -3,7 +3,7 @@
 use crate::gap::Gap;
 use crate::proof::Proof;
 
-/// Lemmas, each of which may cite those before it, and gaps.
+/// A proof file: lemmas, each of which may cite those before it, and gaps.
 #[derive(Debug, PartialEq, Eq, Drop)]
 pub struct ProofFile {
     pub lemmas: Vec<Proof>,

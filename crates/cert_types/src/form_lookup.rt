@@ -1,4 +1,4 @@
-//! The forms of a ranking node, by their symbols.
+//! The forms of a ranking node, looked up by their symbols.
 
 ghost use Rattle.std.specs.Prelude.{◌≡◌, map, All, IfOk, IfSome};
 ghost use Rattle.cert_program.specs.cert_rules.Composed.{rank_form as rank_form_of};

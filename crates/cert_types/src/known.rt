@@ -1,4 +1,5 @@
-//! The facts that are known where a node is checked, as a trait with a meaning, and a list of stated facts as one.
+//! The bounds that are known where a node is checked, as a trait with a meaning; and a list of stated facts that
+//! implements it.
 
 ghost use Rattle.std.specs.Prelude.{◌≡◌};
 ghost use Rattle.cert_program.specs.cert_rules.Known.{Table, table_of};
@@ -11,7 +12,7 @@ use bound_expr::Bound;
 
 /// The bounds known where a node is checked: times of rules, and sizes of places after rules.
 ///
-/// Its meaning is `table`: the time of each rule, and the size of each place after a rule, if there is one.
+/// Its meaning is `table`: for each rule its time, and for each place after a rule its size, if they are known.
 pub trait Known {
     ghost table: { Self → Table };
 
@@ -24,7 +25,7 @@ pub trait Known {
         ensures { optional_bound result ≡ (table self.now).size rule place };
 }
 
-/// Facts that were stated: of each rule the first time is known, and of each place the first size.
+/// Facts that were stated: the first time of each rule is known, and the first size of each place.
 #[derive(Clone, Copy, Debug)]
 pub struct Stated<'a> {
     pub facts: &'a [Fact],

@@ -41,7 +41,7 @@ fn positive(n: i64) -> u64
     if n > 0 { n.unsigned_abs() } else { 0 }
 }
 
-/// A copy of the bound that is known; where none is, the constant 0.
+/// A copy of the known bound, or the constant 0 if there is none.
 ///
 /// # Errors
 ///
@@ -95,7 +95,7 @@ fn is_left_out(coef: &i64, members: &[Member], rule: u32, place: u32) -> bool
     has_result_variable(members, rule, place)
 }
 
-// Pushes the part of a place, where it has one: the absolute coefficient over the denominator, rounded up, times the
+// Pushes the part of a place, if it has one: the absolute coefficient over the denominator, rounded up, times the
 // place's size.
 #[tactic(auto, using(crate::proofs::Parts::not_pushed))]
 fn push_place<K: Known>(
@@ -123,7 +123,7 @@ fn push_place<K: Known>(
     Ok(())
 }
 
-// Pushes the parts of these places, the first of which has this number, in order.
+// Pushes the parts of places that have these coefficients, where the first of them has the number `place`, in order.
 fn push_places<K: Known>(
     alloc: Global,
     parts: &mut Vec<Bound>,
@@ -147,10 +147,9 @@ fn push_places<K: Known>(
     push_places(alloc, parts, others, den, known, rule, place + 1, members)
 }
 
-/// A form over a denominator as a bound, at the sizes of the places after a rule, but for the places that are members:
+/// A form over a denominator as a bound, at the sizes of the places after a rule, without the places that are members:
 /// the positive part of the constant over the denominator, rounded up, and for each other place whose coefficient isn't
-/// 0 the absolute coefficient over the denominator, rounded up, times the place's size. A size that isn't known counts
-/// as 0.
+/// 0 the absolute coefficient over the denominator, rounded up, times the place's size. An unknown size counts as 0.
 ///
 /// # Errors
 ///

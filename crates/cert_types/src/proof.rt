@@ -41,7 +41,7 @@ pub struct EmptyNode {
     pub multipliers: Vec<u64>,
 }
 
-/// A rule whose source is not reached by rules other than those that the uses show to be dead.
+/// A rule whose source is not reached without rules that the premises show to be dead.
 #[derive(Debug, PartialEq, Eq, Drop)]
 #[cycle(proof)]
 pub struct UnreachedNode {
@@ -49,7 +49,7 @@ pub struct UnreachedNode {
     pub uses: Vec<Proof>,
 }
 
-/// A place with its local bound, and what its sizes before rest on.
+/// A result variable with its local bound, and the premises for the sizes before it.
 #[derive(Debug, PartialEq, Eq, Drop)]
 #[cycle(proof)]
 pub struct SpreadNode {
@@ -58,7 +58,8 @@ pub struct SpreadNode {
     pub uses: Vec<Proof>,
 }
 
-/// The places of a loop with their local bounds, and what their sizes from outside and their times rest on.
+/// The result variables of a loop with their local bounds, and the premises for the sizes that enter it and for its
+/// times.
 #[derive(Debug, PartialEq, Eq, Drop)]
 #[cycle(proof)]
 pub struct CycleNode {
@@ -66,7 +67,7 @@ pub struct CycleNode {
     pub uses: Vec<Proof>,
 }
 
-/// A rule with a cost, how the cost is shown, and what its time and its sizes before rest on.
+/// A rule with a cost, how the cost is shown, and the premises for its time and the sizes before it.
 #[derive(Debug, PartialEq, Eq, Drop)]
 #[cycle(proof)]
 pub struct CostNode {
@@ -86,7 +87,7 @@ pub enum CostBy {
     SideBound(SideBound),
 }
 
-/// An earlier lemma as a node.
+/// A node that cites an earlier lemma.
 pub fn cite(lemma: u32) -> Proof
     ensures { proof_of result ≡ Cite lemma }
 {

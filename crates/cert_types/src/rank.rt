@@ -1,4 +1,4 @@
-//! Ranking functions as a node stores them.
+//! Ranking functions as ranking nodes store them.
 
 use crate::proof::Proof;
 
@@ -10,8 +10,8 @@ pub struct Form {
     pub constant: i64,
 }
 
-/// A ranking function for a rule over a set of rules: forms over one denominator, the multipliers that show what it
-/// loses by each rule of the set, and those that show its floor before the rule.
+/// A ranking function for a rule over a set of rules: forms over one denominator, the multipliers that show how much it
+/// loses by each rule of the set, and those that show its floor before the strict rule.
 #[derive(Debug, PartialEq, Eq, Drop)]
 #[cycle(proof)]
 pub struct RankNode {

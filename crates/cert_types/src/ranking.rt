@@ -48,7 +48,7 @@ fn product(alloc: Global, first: Bound, second: Bound) -> Result<Bound, Memory>
     Ok(Bound::Prod(factors))
 }
 
-// How often an entry is taken, times the ranking function where it leads to.
+// The time of an entry, times the ranking function at the symbol that it leads to.
 fn entry_part<K: Known>(
     alloc: Global,
     p: &Program,
@@ -70,7 +70,7 @@ fn entry_part<K: Known>(
     product(alloc, time, form)
 }
 
-// The sum over these entries, in order.
+// The sum of the parts of these entries, in order.
 fn sum_over<K: Known>(
     alloc: Global,
     p: &Program,
@@ -91,8 +91,8 @@ fn sum_over<K: Known>(
     Ok(Bound::Sum(parts))
 }
 
-// The time that a ranking node composes: the sum over the entries of its set. It is near-linear in the rules and forms,
-// but for what known bounds take to be looked up and copied.
+// The time that a ranking node composes: the sum over the entries of its set. Its running time is near-linear in the
+// rules and forms, except for looking up and copying known bounds.
 fn composed_time<K: Known>(
     alloc: Global,
     p: &Program,
@@ -110,9 +110,9 @@ fn composed_time<K: Known>(
     sum_over(alloc, p, &by, known, &entering)
 }
 
-/// The time that a ranking node states, rewritten, or how many nodes what is too large has: the sum, over the entries
-/// of its set in order, of how often the entry is taken times the ranking function where it leads to. What isn't known
-/// counts as 0. It is measured before it is rewritten.
+/// The time that a ranking node states, rewritten, or its number of nodes if it is too large: the sum, over the entries
+/// of its set in order, of the entry's time times the ranking function at the symbol that it leads to. Unknown bounds
+/// count as 0. The sum is measured before it is rewritten.
 ///
 /// # Errors
 ///

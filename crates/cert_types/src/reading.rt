@@ -72,8 +72,8 @@ fn reads(side_bound: &SideBound, poly: Option<&Poly>, place: u32) -> bool
     }
 }
 
-/// Those of this many places that a side bound reads, ascending and numbered from 0. `poly` is the update, if it has
-/// degree 2 or more.
+/// The places that a side bound reads, of the first `places` ones, ascending and numbered from 0. `poly` is the update,
+/// if it has degree 2 or more.
 ///
 /// # Errors
 ///

@@ -160,7 +160,7 @@ fn both_side_bounds<K: Known>(
     Ok(Bound::Max(parts))
 }
 
-// The size that a spread composes: the maximum over what can come before.
+// The size that a spread composes: the maximum over the rules that can come before.
 fn composed_size<K: Known>(
     alloc: Global,
     local: &LocalBound,
@@ -206,8 +206,8 @@ pub fn spread_size<K: Known>(
     rewrite_within(alloc, &composed)
 }
 
-/// The size that a spread composes is that over what can come before its rule, with the polynomial of its place. It has
-/// no code: its contract is the law.
+/// The law that the size of a spread is the maximum over the rules that can come before its rule, with the polynomial
+/// of its place. It has no code: its contract is the law.
 pub fn spreads_are_over_what_comes_before()
     ensures { SpreadsAreOverWhatComesBefore }
 {}

@@ -1,4 +1,4 @@
--- Accepted lemmas, one more behind them, and that the bounds of what an accepted lemma states have bases of at least 1.
+-- Accepted lemmas with one more, and that the bounds of an accepted lemma's facts have bases of at least 1.
 use Rattle.std.proofs.Common.{◌≡◌, List, [], ◌∷◌, ◌++◌, All, map, refl, sym, ap, ◌∙◌, subst}
 use Rattle.std.specs.List.{AllByRecursion}
 use Rattle.std.proofs.lemmas.List.Elements.{recursion_from_All}
@@ -19,7 +19,7 @@ use Rattle.check_file.specs.Refusing.{ArePassed}
 use Rattle.cert_context.specs.Statements.{AreBased}
 
 module _ (s : Setting) where
-  -- one more accepted lemma behind accepted ones
+  -- if lemmas are accepted, and one more after them, all are accepted
   from-push : (past : List (List Fact)) (ps : List Proof) (p : Proof) → AcceptsFrom s past ps
       → Accepts s (facts_from s past ps) p → AcceptsFrom s past (ps ++ p ∷ [])
   from-push past [] p h k = (k, tt)
@@ -30,25 +30,25 @@ module _ (s : Setting) where
   facts-push past [] p = refl
   facts-push past (q ∷ ps) p = facts-push (past ++ facts_of s past q ∷ []) ps p
 
-  -- it is accepted with them
+  -- a list of accepted lemmas with one more that is accepted after them is accepted
   pub accepts-push : (ps : List Proof) (p : Proof) → AcceptsLemmas s ps → Accepts s (facts_of_lemmas s ps) p
       → AcceptsLemmas s (ps ++ p ∷ [])
   unfolding AcceptsLemmas facts_of_lemmas
   accepts-push ps p h k = from-push [] ps p h k
 
-  -- and its facts are appended to theirs
+  -- the facts of accepted lemmas with one more are those of the lemmas and then those of that one
   pub result_is-push : (ps : List Proof) (p : Proof)
       → facts_of_lemmas s (ps ++ p ∷ []) ≡ facts_of_lemmas s ps ++ facts_of s (facts_of_lemmas s ps) p ∷ []
   unfolding facts_of_lemmas
   result_is-push ps p = facts-push [] ps p
 
--- the last of all
+-- a property of all elements is one of the last
 last-of : {A : Type 0} (P : A → Type 0) (xs : List A) (x : A) → AllByRecursion P (xs ++ x ∷ []) → P x
 last-of P xs x h = (append-each P xs (x ∷ []) h).1.0
 
 module _ (p : Program) (valid : IsValid p) (lemmas : List Proof) (past : List (List Fact))
     (accepted : AcceptsLemmas (setting_of p) lemmas) (result_is : past ≡ facts_of_lemmas (setting_of p) lemmas) where
-  -- the bounds of what an accepted lemma states have bases of at least 1
+  -- the bounds of an accepted lemma's facts have bases of at least 1
   pub based-lemma : (q : Proof) → Accepts (setting_of p) past q → AreBased (facts_of (setting_of p) past q)
   based-lemma q h =
       last-of AreBased past (facts_of (setting_of p) past q)
@@ -62,7 +62,7 @@ module _ (p : Program) (valid : IsValid p) (lemmas : List Proof) (past : List (L
           result_is-push (setting_of p) lemmas q
           ∙ ap (λ (fs : List (List Fact)). fs ++ facts_of (setting_of p) fs q ∷ []) (sym result_is)
 
-  -- and so with several
+  -- the bounds of the facts of several accepted parts have bases of at least 1
   pub based-all : (qs : List Proof) → ArePassed (setting_of p) past (nodes_in qs)
       → AllByRecursion AreBased (map (facts_of (setting_of p) past) qs)
   based-all [] h = tt

@@ -1,4 +1,4 @@
--- Lemmas that are cited, and what is kept of them.
+-- Lemmas that are cited, and their stored facts.
 use Rattle.std.proofs.Common.{◌≡◌, ◌≢◌, ℕ, zero, suc, ◌-◌, ◌<◌, true, nat_lt, List, [], ◌∷◌, length, map, get_or, refl, sym, ap}
 use Rattle.std.proofs.Common.{subst, arith}
 use Rattle.std.specs.List.{AllByRecursion}
@@ -20,13 +20,13 @@ cited-facts kept [] m i l e = absurd (omega (arith, l))
 cited-facts kept (j ∷ is) zero i l e = ap (stated_at kept) e
 cited-facts kept (j ∷ is) (suc m) i l e = cited-facts kept is m i (omega (arith, l)) e
 
--- a position of a lemma is within what is kept
+-- the position of a lemma's facts is one of the stored facts
 placed-at : (n : ℕ) (is : List ℕ) (m i : ℕ) → AllByRecursion (λ k. k < n) is → m < length is → i ≡ get_or is m i → i < n
 placed-at n [] m i h l e = absurd (omega (arith, l))
 placed-at n (j ∷ is) zero i h l e = omega (arith, h.0, e)
 placed-at n (j ∷ is) (suc m) i h l e = placed-at n is m i h.1 (omega (arith, l)) e
 
--- an earlier lemma is accepted as a citation, and states what is kept of it
+-- a citation of an earlier lemma is accepted, and states the facts stored for it
 pub cited-node : (p : Program) (s : Setting) (lemmas : List Proof) (kept : StatedFacts) → IsKeptOf p s lemmas kept
     → (n position : ℕ) (xs : List ℕ) → xs ≡ kept.lemmas.items → n ≢ 0 → true ≡ nat_lt (n - 1) (length xs)
     → position ≡ get_or xs (n - 1) position → (t : Setting) → IsNodeOf t kept (Cite n) (by.StatedFacts position)

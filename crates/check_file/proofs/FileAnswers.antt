@@ -1,4 +1,4 @@
--- What is answered to a proof file.
+-- The answer on a proof file.
 use Rattle.std.proofs.Common.{◌≡◌, List, All, map, sym, ap, ◌∙◌, subst}
 use Rattle.its_model.specs.Valid.{IsValid}
 use Rattle.model.specs.Facts.{Fact, Holds}
@@ -22,7 +22,7 @@ use Rattle.check_file.specs.Judging.{IsKeptOf}
 use Rattle.cert_context.specs.Statements.{past_of}
 use Rattle.cert_context.proofs.JoinedFacts.{all-joined}
 
--- what refuses the lemmas of a file refuses it
+-- the refusal of a file's lemmas is the refusal of the file
 pub refused-lemmas : (p : Program) (f : code.ProofFile) (e : CheckError)
     → RefusesLemmas (setting_of p) (map proof_of f.lemmas.items) e → RefusesFile p (file_of f) e
 refused-lemmas p f (error.No lemma node reason) h = h
@@ -31,35 +31,35 @@ refused-lemmas p f error.Memory h = tt
 
 module _ (p : Program) (f : code.ProofFile) (kept : StatedFacts)
     (k : IsKeptOf p (setting_of p) (map proof_of f.lemmas.items) kept) where
-  -- where a gap is off, the file is refused there
+  -- if a gap doesn't hold, the file is refused at the first such gap
   pub refused-gap : (off : RefusedGap) → IsFirstOff p (map gap_of f.gaps.items) off
       → IsRefusedAtGap (setting_of p) (forms_at p) (file_of f) off.gap (fault_of off.fault)
   refused-gap off h = record { lemmas = k.accepted; first = h }
 
   module _ (h : HoldAll p (map gap_of f.gaps.items)) (facts : List Fact) (e : facts ≡ all_facts (past_of kept)) where
-    -- and else it is accepted, with these facts
+    -- if all lemmas and gaps are accepted, the file is accepted with these facts
     pub accepted-with : IsAcceptedWith p (file_of f) facts
     accepted-with = record { accepted = record { lemmas = k.accepted; gaps = h }; result_is = e ∙ ap all_facts k.facts }
 
-    -- which hold
+    -- the facts of an accepted file hold
     pub facts-hold : IsValid p → All (Holds p) facts
     facts-hold v =
         subst (All (Holds p)) (sym accepted-with.result_is)
         (all-joined (Holds p) _ (files-hold.each p v (file_of f) accepted-with.accepted).facts)
 
-    -- and the gaps exclude functions
+    -- the gaps of an accepted file exclude functions
     pub gaps-exclude : IsValid p → ExcludeFunctions p (map gap_of f.gaps.items)
     gaps-exclude v = (files-hold.each p v (file_of f) accepted-with.accepted).gaps
 
 module _ (p q : Program) (f : code.ProofFile) (same : q ≡ p) where
-  -- what is kept of the lemmas that were judged is true of the file
+  -- the stored facts of the lemmas that were checked are those of the file's lemmas
   pub kept-same : (ps : List codes.Proof) (kept : StatedFacts) → ps ≡ f.lemmas.items
       → IsKeptOf q (setting_of q) (map proof_of ps) kept → IsKeptOf p (setting_of p) (map proof_of f.lemmas.items) kept
   kept-same ps kept e h =
       subst (λ (r : Program). IsKeptOf r (setting_of r) (map proof_of f.lemmas.items) kept) same
       (subst (λ (xs : List codes.Proof). IsKeptOf q (setting_of q) (map proof_of xs) kept) e h)
 
-  -- and that the gaps hold that were looked at
+  -- if the gaps that were checked hold, those of the file do
   pub hold-same : (gs : List gaps.Gap) → gs ≡ f.gaps.items → HoldAll q (map gap_of gs) → HoldAll p (map gap_of f.gaps.items)
   hold-same gs e h =
       subst (λ (r : Program). HoldAll r (map gap_of f.gaps.items)) same

@@ -1,4 +1,4 @@
--- What judging a node gives of the lemma that it ends, and what judging several lemmas gives of one more.
+-- From the result on a node to that on the lemma that it ends, and from several parts to one more.
 use Rattle.std.proofs.Common.{◌≡◌, ℕ, ◌+◌, ◌<◌, List, [], ◌∷◌, ◌++◌, length, map, take, drop, get_or, sym, ap}
 use Rattle.std.proofs.Common.{◌∙◌, subst, arith, Vec}
 use Rattle.std.specs.Prelude.{Result, Ok, Err, MatchResult}
@@ -44,7 +44,7 @@ passed-node s past p h =
     (first-reasons-in-line.none s past p).1 (record { none = passed_has_none (checks_of s past p) h })
 
 module _ (s : Setting) (kept : StatedFacts) where
-  -- facts of a node's own are what it states
+  -- the facts of a node as its own are those that it states
   pub stated : (p : Proof) (r : Result (Vec Fact Global) NodeFault)
       → MatchResult r (λ fs. States (checks_of s (past_of kept) p) (facts_of s (past_of kept) p) fs)
       (λ f. Refuses (checks_of s (past_of kept) p) f)
@@ -53,7 +53,7 @@ module _ (s : Setting) (kept : StatedFacts) where
   stated p (Err f) h = h
 
   module _ (p : Proof) (before : ℕ) (joined : Joined) (h : AreWhole s kept (children_of p) before joined) where
-    -- a lemma whose last node is accepted is
+    -- if the premises of a lemma and its last node are accepted, it is accepted
     pub whole : (used : PremiseFacts) (count : ℕ) → IsNodeOf s kept p used → count ≡ joined.count + 1
         → IsWhole s kept p before (record { stated = used; count = count })
     whole used count k e = record {
@@ -65,7 +65,7 @@ module _ (s : Setting) (kept : StatedFacts) where
       count = omega (arith, e, h.count, count-children p);
     }
 
-    -- one whose last node isn't is refused there
+    -- if the last node of a lemma isn't accepted, the lemma is refused there
     pub refused-here : (fault : NodeFault) → Refuses (checks_of s (past_of kept) p) fault
         → RefusesAmong s (past_of kept) (nodes_of p) before (at_number fault (joined.count + 1))
     refused-here (node.Refused r) k = (
@@ -80,7 +80,7 @@ module _ (s : Setting) (kept : StatedFacts) where
     )
     refused-here node.Memory k = tt
 
-  -- one of which a child is refused is refused there
+  -- if a premise of a lemma is refused, the lemma is refused there
   pub refused-child : (p : Proof) (before : ℕ) (fault : TreeFault)
       → RefusesAmong s (past_of kept) (nodes_in (children_of p)) before fault
       → RefusesAmong s (past_of kept) (nodes_of p) before fault
@@ -95,7 +95,7 @@ module _ (s : Setting) (kept : StatedFacts) where
   )
   refused-child p before tree.Memory h = tt
 
-  -- one accepted lemma more
+  -- accepted parts with one more accepted part are accepted
   pub one-more : (done : List Proof) (q : Proof) (before count : ℕ) (uses more : Vec PremiseFacts Global) (judged : Judged)
       → AreWhole s kept done before (record { uses = uses; count = count }) → IsWhole s kept q count judged
       → more.items ≡ uses.items ++ judged.stated ∷ []
@@ -111,7 +111,7 @@ module _ (s : Setting) (kept : StatedFacts) where
     count = omega (arith, h.count, k.count, ap length (nodes-push done q), length-append (nodes_in done) (nodes_of q));
   }
 
-  -- where the next one is refused, all are
+  -- if the next part is refused, all parts are refused there
   pub refused-next : (done : List Proof) (q : Proof) (rest all : List Proof) (before count : ℕ) (uses : Vec PremiseFacts Global)
       (fault : TreeFault) → all ≡ done ++ q ∷ rest
       → AreWhole s kept done before (record { uses = uses; count = count })
@@ -130,7 +130,7 @@ module _ (s : Setting) (kept : StatedFacts) where
   refused-next done q rest all before count uses tree.Memory e h k = tt
 
 module _ (ps : List code.Proof) (i : ℕ) (x : code.Proof) (l : i < length ps) (e : x ≡ get_or ps i x) where
-  -- how many nodes have what is done, the next one, and the rest
+  -- the nodes of all parts are those of the parts before, of the next one and of the rest
   pub cut-count : length (nodes_in (map proof_of ps))
       ≡ length (nodes_in (map proof_of (take i ps)))
       + (length (nodes_of (proof_of x)) + length (nodes_in (map proof_of (drop (i + 1) ps))))

@@ -1,4 +1,4 @@
--- What is kept of accepted lemmas, and one more.
+-- Storing the facts of accepted lemmas, with one more lemma.
 use Rattle.std.proofs.Common.{◌≡◌, ℕ, zero, suc, ◌+◌, ◌<◌, ◌≤◌, List, [], ◌∷◌, ◌++◌, length, map, refl, sym, ap, ◌∙◌, subst}
 use Rattle.std.proofs.Common.{arith, Vec, get_or, take}
 use Rattle.std.specs.declared.alloc.Global.{Global}
@@ -34,24 +34,24 @@ use Rattle.check_file.proofs.AcceptedLemmas.{accepts-push, result_is-push}
 use Rattle.cert_context.proofs.Cuts.{done-more}
 use Rattle.cert_context.proofs.JoinedFacts.{facts-push}
 
--- the facts before the end are unchanged, whatever is pushed behind them
+-- the facts at positions before the end are unchanged, whatever is pushed
 pub kept-before : (xs ys : List (Vec Fact Global)) (n : ℕ) → n < length xs → facts_from (xs ++ ys) n ≡ facts_from xs n
 kept-before [] ys n l = absurd (omega (arith, l))
 kept-before (x ∷ xs) ys zero l = refl
 kept-before (x ∷ xs) ys (suc n) l = kept-before xs ys n (omega (arith, l))
 
--- and the pushed facts are at the end
+-- the pushed facts are at the last position
 pub kept-last : (xs : List (Vec Fact Global)) (x : Vec Fact Global)
     → facts_from (xs ++ x ∷ []) (length xs) ≡ facts_in_order x.items
 kept-last [] x = refl
 kept-last (y ∷ xs) x = kept-last xs x
 
--- positions within a list are within a longer one
+-- positions within a list are positions within a longer one
 within-more : (m n : ℕ) → m ≤ n → (is : List ℕ) → AllByRecursion (λ i. i < m) is → AllByRecursion (λ i. i < n) is
 within-more m n l [] h = tt
 within-more m n l (i ∷ is) h = (omega (arith, h.0, l), within-more m n l is h.1)
 
--- the facts at positions that stay
+-- the facts at positions that keep their facts are the same
 same-stated : (old new : StatedFacts) → ((n : ℕ) → n < length old.stated.items → stated_at new n ≡ stated_at old n)
     → (is : List ℕ) → AllByRecursion (λ i. i < length old.stated.items) is
     → map (stated_at new) is ≡ map (stated_at old) is
@@ -61,7 +61,7 @@ same-stated old new same (i ∷ is) h =
     ∙ ap (λ (fss : List (List plain.Fact)). stated_at old i ∷ fss) (same-stated old new same is h.1)
 
 module _ (p : Program) (s : Setting) (lemmas : List Proof) (old : StatedFacts) (h : IsKeptOf p s lemmas old) (q : Proof) where
-  -- what is kept of the lemmas, and then of one more that is accepted
+  -- after one more accepted lemma, the stored facts are those of one more lemma
   pub kept-more : (new : StatedFacts) (judged : Judged) → IsWhole s old q 0 judged → IsKeptMore old judged.stated new
       → IsKeptOf p s (lemmas ++ q ∷ []) new
   kept-more new judged k m = record {
@@ -89,7 +89,7 @@ module _ (p : Program) (s : Setting) (lemmas : List Proof) (old : StatedFacts) (
         ∙ (ap (λ (fss : List (List plain.Fact)). fss ++ facts_of s fss q ∷ []) h.facts ∙ sym (result_is-push s lemmas q)))));
   }
 
-  -- where the next lemma is refused, the list is
+  -- if the next lemma is refused, the list of lemmas is refused there
   refused-lemma : (rest all : List Proof) (lemma node : ℕ) (r : result_is.Reason) → all ≡ lemmas ++ q ∷ rest
       → lemma ≡ suc (length lemmas) → RefusesAmong s (past_of old) (nodes_of q) 0 (tree.Refused node r)
       → IsRefusedAt s all lemma node (reason_of r)
@@ -107,14 +107,14 @@ module _ (p : Program) (s : Setting) (lemmas : List Proof) (old : StatedFacts) (
         FailsFirst (AcceptsNode s fs) (IsFirstReason s fs) (nodes_of q) k.0 (reason_of r)) h.facts k.2);
   }
 
-  -- whatever the fault is
+  -- the list is refused as the next lemma is, whatever the fault
   pub refused-fault : (rest all : List Proof) (lemma : ℕ) (fault : TreeFault) → all ≡ lemmas ++ q ∷ rest
       → lemma ≡ suc (length lemmas) → RefusesAmong s (past_of old) (nodes_of q) 0 fault
       → RefusesLemmas s all (in_lemma fault lemma)
   refused-fault rest all lemma (tree.Refused node r) e f k = refused-lemma rest all lemma node r e f k
   refused-fault rest all lemma tree.Memory e f k = tt
 
--- no lemmas are accepted, and state nothing
+-- no lemmas are accepted, with no facts
 no-lemmas : (s : Setting) → AcceptsLemmas s []
 unfolding AcceptsLemmas
 no-lemmas s = tt
@@ -123,7 +123,7 @@ no-facts : (s : Setting) → [] ≡ facts_of_lemmas s []
 unfolding facts_of_lemmas
 no-facts s = refl
 
--- before the first lemma the facts of the virtual entry are kept
+-- before the first lemma the facts of the virtual entry are stored
 pub kept-none : (p : Program) (none stated : Vec (Vec Fact Global) Global) (lemmas : Vec ℕ Global) (first : Vec Fact Global)
     → none.items ≡ [] → stated.items ≡ none.items ++ first ∷ [] → lemmas.items ≡ []
     → facts_in_order first.items ≡ start_facts p
@@ -141,7 +141,7 @@ kept-none p none stated lemmas first e f g h = record {
     whole : stated.items ≡ first ∷ []
     whole = f ∙ ap (λ (xs : List (Vec Fact Global)). xs ++ first ∷ []) e
 
--- the facts of one lemma more were copied
+-- after the facts of one more lemma were copied, the copies are the facts of one more lemma
 pub copied-more : (kept : StatedFacts) (xs : List ℕ) (i d : ℕ) (old new facts : List plain.Fact) → xs ≡ kept.lemmas.items
     → i < length xs → old ≡ all_facts (map (stated_at kept) (take i kept.lemmas.items)) → new ≡ old ++ facts
     → facts ≡ stated_at kept (get_or xs i d) → new ≡ all_facts (map (stated_at kept) (take (i + 1) kept.lemmas.items))

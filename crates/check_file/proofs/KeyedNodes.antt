@@ -1,4 +1,4 @@
--- What judging a node gives that is judged over what its uses state, by key.
+-- The results on nodes that are checked over the bounds of their premises, by key.
 use Rattle.std.proofs.Common.{◌≡◌, List, [], ◌∷◌, map, refl, ap, ◌∙◌, subst, Vec}
 use Rattle.std.specs.Prelude.{Result, MatchResult}
 use Rattle.std.specs.declared.alloc.Global.{Global}
@@ -23,7 +23,7 @@ use Rattle.check_file.specs.Children.{children_of, list_of}
 use Rattle.check_file.proofs.PlainNodes.{Answered, node-answer}
 use Rattle.check_file.proofs.UsedFacts.{joined-uses}
 
--- what a node states over a table, or the first check that fails
+-- the facts that a node states over a table, or the first check that fails
 abbrev pub GivenOver : (Table → List Check) → (Table → List plain.Fact) → Table → Result (Vec Fact Global) NodeFault → Type 0
 GivenOver checks facts table r =
     MatchResult r (λ fs. States (checks table) (facts table) fs) (λ f. Refuses (checks table) f)
@@ -31,7 +31,7 @@ GivenOver checks facts table r =
 module _ (s : Setting) (kept : StatedFacts) (q : Proof) (r : Result (Vec Fact Global) NodeFault) (out : Result PremiseFacts NodeFault)
     (own : out ≡ owned_by r) (uses : List PremiseFacts)
     (known : map (facts_by kept) uses ≡ map (facts_of s (past_of kept)) (children_of q)) where
-  -- over what the uses of a node state is over the facts on which it rests
+  -- checking a node over the table of its premises' joined facts is checking it over the facts of its premises
   over-uses : (checks : Table → List Check) (facts : Table → List plain.Fact) (x : Proof) (us : Proofs) → q ≡ x
       → children_of x ≡ list_of us → GivenOver checks facts (table_of (joined_by kept uses)) r
       → GivenOver checks facts (table_of (joined_facts s (past_of kept) us)) r
@@ -40,7 +40,7 @@ module _ (s : Setting) (kept : StatedFacts) (q : Proof) (r : Result (Vec Fact Gl
       (joined-uses s (past_of kept) kept uses us
       (known ∙ (ap (λ (y : Proof). map (facts_of s (past_of kept)) (children_of y)) e ∙ ap (map (facts_of s (past_of kept))) c))) h
 
-  -- a ranking function
+  -- the result on a ranking node
   pub rank-node : (n : RankNode) (us : Proofs) → q ≡ Rank n us
       → GivenOver (λ t. rank_checks s t n) (λ t. Time n.rule (s.rewrite (rank_time s n t)) ∷ []) (table_of (joined_by kept uses)) r
       → Answered s kept q out
@@ -48,7 +48,7 @@ module _ (s : Setting) (kept : StatedFacts) (q : Proof) (r : Result (Vec Fact Gl
       node-answer s kept q r out own (Rank n us) e
       (over-uses (λ t. rank_checks s t n) (λ t. Time n.rule (s.rewrite (rank_time s n t)) ∷ []) (Rank n us) us e refl h)
 
-  -- the size of a place that doesn't loop
+  -- the result on a node on the size of a place that doesn't loop
   pub spread-node : (m : Member) (us : Proofs) → q ≡ Spread m us
       → GivenOver (λ t. spread_checks s t m) (λ t. Size m.result_variable.rule m.result_variable.place (s.rewrite (spread_size s t m)) ∷ [])
       (table_of (joined_by kept uses)) r
@@ -58,7 +58,7 @@ module _ (s : Setting) (kept : StatedFacts) (q : Proof) (r : Result (Vec Fact Gl
       (over-uses (λ t. spread_checks s t m) (λ t. Size m.result_variable.rule m.result_variable.place (s.rewrite (spread_size s t m)) ∷ [])
       (Spread m us) us e refl h)
 
-  -- the sizes of the members of a loop
+  -- the result on a node on the sizes of the members of a loop
   pub cycle-node : (ms : List Member) (us : Proofs) → q ≡ Cycle ms us
       → GivenOver (λ t. cycle_checks s t ms) (λ t. cycle_facts (s.rewrite (cycle_size s t ms)) ms)
       (table_of (joined_by kept uses)) r
@@ -67,7 +67,7 @@ module _ (s : Setting) (kept : StatedFacts) (q : Proof) (r : Result (Vec Fact Gl
       node-answer s kept q r out own (Cycle ms us) e
       (over-uses (λ t. cycle_checks s t ms) (λ t. cycle_facts (s.rewrite (cycle_size s t ms)) ms) (Cycle ms us) us e refl h)
 
-  -- the cost of a rule
+  -- the result on a node on the cost of a rule
   pub charge-node : (n : CostNode) (us : Proofs) → q ≡ Charge n us
       → GivenOver (λ t. cost_checks s t n) (λ t. Cost n.rule (node_cost s t n) ∷ []) (table_of (joined_by kept uses)) r
       → Answered s kept q out

@@ -1,30 +1,30 @@
--- the nodes of a lemma and those of its children
+-- The nodes of a lemma and those of its premises.
 mod ChildNodes
 -- accepted lemmas, and their facts
 mod AcceptedLemmas
--- what judging nodes gives
+-- the results on nodes
 mod JudgedNodes
--- what is kept of lemmas
+-- the stored facts of lemmas
 mod KeptLemmas
 -- gaps
 mod OffGaps
--- what uses state
+-- the facts of premises
 mod UsedFacts
--- rules of which a time is 0
+-- rules whose time is 0
 mod ZeroRules
--- what is kept, once it was looked at
+-- stored facts that were looked at
 mod SeenZeros
 -- files
 mod FileAnswers
 -- plain nodes
 mod PlainNodes
--- nodes that are judged by key
+-- nodes that are checked by key
 mod KeyedNodes
 -- single facts, and weaker bounds
 mod SingleFacts
--- bounds as they may be written
+-- bounds that may be written
 mod WritableBounds
--- nodes that have uses
+-- nodes that have premises
 mod ProofViews
 -- lemmas that are cited
 mod CitedLemmas

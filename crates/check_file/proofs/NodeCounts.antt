@@ -1,13 +1,13 @@
--- Counts of nodes: what is counted, and more.
+-- Counts of nodes, up to 2^32.
 use Rattle.std.proofs.Common.{◌≡◌, ◌↔◌, ℕ, ◌+◌, ◌<◌, ◌≤◌, ◌^◌, ◌⊎◌, inl, inr, subst, sym, arith}
 use Rattle.std.proofs.lemmas.Bool.{cases_lt as order}
 use Rattle.check_file.specs.Counts.{IsCount}
 
--- where as many are meant, the count is the same
+-- equal numbers have the same count
 pub count-same : (n m k : ℕ) → n ≡ m → IsCount n k → IsCount m k
 count-same n m k e h = subst (λ (x : ℕ). IsCount x k) e h
 
--- nothing more than what was counted
+-- a number of at most 2^32 is its own count
 pub count-none : (n m : ℕ) → n ≤ 2 ^ 32 → m ≡ n → IsCount m n
 count-none n m l e = record { exact = λ o. sym e; most = λ o. omega (arith, l, e, o) }
 
@@ -19,7 +19,7 @@ count-within n k h = go (order n (2 ^ 32))
     go (inl l) = omega (arith, l, h.exact l)
     go (inr l) = omega (arith, h.most l)
 
--- what is counted on from a count is the count of all
+-- counting on from a count gives the count of the sum
 pub count-more : (n k m r : ℕ) → IsCount n k → IsCount (k + m) r → IsCount (n + m) r
 count-more n k m r h g = record {
   exact = λ l.
@@ -34,7 +34,7 @@ count-more n k m r h g = record {
     go l (inl o) = g.most (omega (arith, h.exact o, l))
     go l (inr o) = g.most (omega (arith, h.most o))
 
--- there are few exactly where the count is below 2^32
+-- a count is below 2^32 exactly if the number is
 pub few-counted : (n k : ℕ) → IsCount n k → (k < 2 ^ 32) ↔ (n < 2 ^ 32)
 few-counted n k h = (λ l. go l (order n (2 ^ 32)), λ l. omega (arith, l, h.exact l))
   where

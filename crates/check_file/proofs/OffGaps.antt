@@ -8,7 +8,7 @@ use Rattle.cert_types.specs.cert_rules.Refusals.{FailsFirst, IsFirstFault}
 use Rattle.cert_types.specs.cert_program.RankedSets.{forms_at}
 use Rattle.cert_context.proofs.Cuts.{cut-at, done-count}
 
--- a gap with a fault, behind gaps that all hold, is the first that doesn't
+-- a gap with a fault, after gaps that all hold, is the first that doesn't hold
 pub off-at : (p : Program) (gs : List code.Gap) (i n : ℕ) (x : code.Gap) (f : GapFault) → i < length gs → x ≡ get_or gs i x
     → All (GapHolds p (forms_at p)) (map gap_of (take i gs)) → IsFirstFault p (forms_at p) (gap_of x) f → n ≡ i + 1
     → FailsFirst (GapHolds p (forms_at p)) (IsFirstFault p (forms_at p)) (map gap_of gs) n f

@@ -1,4 +1,4 @@
--- The result of checking a plain node, by the results of its children.
+-- The result on a plain node, given the results on its premises.
 use Rattle.std.proofs.Common.{◌≡◌, ℕ, zero, suc, ◌<◌, List, [], ◌∷◌, length, map, get_or, refl, sym, ap}
 use Rattle.std.proofs.Common.{◌∙◌, subst, arith, Vec}
 use Rattle.std.specs.Prelude.{Result, MatchResult}
@@ -24,12 +24,12 @@ use Rattle.cert_context.specs.Statements.{facts_by, first_by, joined_by, owned_b
 use Rattle.check_file.proofs.UsedFacts.{joined-uses, first-child}
 use Rattle.check_file.proofs.JudgedNodes.{stated}
 
--- what a node that is judged gives
+-- the result on a node is right
 abbrev pub Answered : Setting → StatedFacts → Proof → Result PremiseFacts NodeFault → Type 0
 Answered s kept q out =
     MatchResult out (λ u. IsNodeOf s kept q u) (λ f. Refuses (checks_of s (past_of kept) q) f)
 
--- what its own facts give
+-- the result on a node's own facts is right
 abbrev pub StatedBy : Setting → StatedFacts → Proof → Result (Vec Fact Global) NodeFault → Type 0
 StatedBy s kept q r =
     MatchResult r (λ fs. States (checks_of s (past_of kept) q) (facts_of s (past_of kept) q) fs)
@@ -37,14 +37,14 @@ StatedBy s kept q r =
 
 module _ (s : Setting) (kept : StatedFacts) (q : Proof) (r : Result (Vec Fact Global) NodeFault) (out : Result PremiseFacts NodeFault)
     (own : out ≡ owned_by r) where
-  -- of a node that states facts of its own
+  -- the result on a node that states facts of its own
   pub node-answer : (x : Proof) → q ≡ x → StatedBy s kept x r → Answered s kept q out
   node-answer x e h =
       subst (Answered s kept q) (sym own) (subst (λ (y : Proof). Answered s kept y (owned_by r)) (sym e) (stated s kept x r h))
 
   module _ (uses : List PremiseFacts)
       (known : map (facts_by kept) uses ≡ map (facts_of s (past_of kept)) (children_of q)) where
-    -- of a rule that isn't reached
+    -- the result on a node on a rule that isn't reached
     pub unreached-node : (t : ℕ) (us : Proofs) → q ≡ Unreached t us
         → MatchResult r (λ fs. States (unreached_checks s (may_run (joined_by kept uses)) t) (Time t (Constant 0) ∷ []) fs)
         (λ f. Refuses (unreached_checks s (may_run (joined_by kept uses)) t) f)
@@ -57,13 +57,13 @@ module _ (s : Setting) (kept : StatedFacts) (q : Proof) (r : Result (Vec Fact Gl
         (joined-uses s (past_of kept) kept uses us
         (known ∙ ap (λ (y : Proof). map (facts_of s (past_of kept)) (children_of y)) e)) h)
 
-    -- what the only child states
+    -- the facts of the only premise
     only-child : (child : Proof) → children_of q ≡ child ∷ [] → first_by kept uses ≡ facts_of s (past_of kept) child
     only-child child e =
         first-child kept uses (facts_of s (past_of kept) child)
         (known ∙ ap (map (facts_of s (past_of kept))) e)
 
-    -- of a rule that never runs
+    -- the result on a node on a rule that never runs
     pub never-node : (child : Proof) (fs : List plain.Fact) → q ≡ Never child → fs ≡ first_by kept uses
         → MatchResult r (λ st. States (never_checks fs) (never_facts s.program fs) st) (λ f. Refuses (never_checks fs) f)
         → Answered s kept q out
@@ -73,7 +73,7 @@ module _ (s : Setting) (kept : StatedFacts) (q : Proof) (r : Result (Vec Fact Gl
         MatchResult r (λ st. States (never_checks facts) (never_facts s.program facts) st)
         (λ f. Refuses (never_checks facts) f)) (same ∙ only-child child (ap children_of e)) h)
 
-    -- of a weaker bound
+    -- the result on a node with a weaker bound
     pub weaken-node : (child : Proof) (b : Bound) (fs : List plain.Fact) → q ≡ Weaken child b → fs ≡ first_by kept uses
         → MatchResult r (λ st. States (weaken_checks s fs b) (weakened fs b) st) (λ f. Refuses (weaken_checks s fs b) f)
         → Answered s kept q out
@@ -83,7 +83,7 @@ module _ (s : Setting) (kept : StatedFacts) (q : Proof) (r : Result (Vec Fact Gl
         MatchResult r (λ st. States (weaken_checks s facts b) (weakened facts b) st)
         (λ f. Refuses (weaken_checks s facts b) f)) (same ∙ only-child child (ap children_of e)) h)
 
--- an earlier lemma is at its position
+-- the facts of an earlier lemma are those at its position
 pub earlier : (fss : List (List plain.Fact)) (n : ℕ) (d : List plain.Fact) → n < length fss
     → facts_of_lemma fss (suc n) ≡ get_or fss n d
 earlier [] n d l = absurd (omega (arith, l))

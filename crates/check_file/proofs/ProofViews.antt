@@ -1,4 +1,4 @@
--- Nodes that have uses, and what they rest on, as plain data.
+-- The views of nodes that have premises, and of their premises.
 use Rattle.std.proofs.Common.{◌≡◌, ◌∙◌, map, rules, ap}
 use Rattle.std.specs.declared.boxed.Box.{Box}
 use Rattle.std.specs.declared.alloc.Global.{Global}
@@ -14,7 +14,7 @@ use Rattle.cert_types.specs.cert_rules.Nodes as nodes
 use Rattle.check_file.specs.Children.{children_of}
 use Rattle.check_file.proofs.ChildNodes.{list-uses}
 
--- a rule that isn't reached
+-- the view of a node on a rule that isn't reached
 pub proof-Unreached : (n : Box UnreachedNode Global)
     → proof_of (code.Unreached n) ≡ nodes.Unreached n.value.rule (uses_of (map proof_of n.value.uses.items))
 proof-Unreached n = search (rules, the_lemmas)
@@ -22,7 +22,7 @@ proof-Unreached n = search (rules, the_lemmas)
 pub children-Unreached : (n : Box UnreachedNode Global) → children_of (proof_of (code.Unreached n)) ≡ map proof_of n.value.uses.items
 children-Unreached n = ap children_of (proof-Unreached n) ∙ list-uses (map proof_of n.value.uses.items)
 
--- a ranking function
+-- the view of a ranking node
 pub proof-Rank : (n : Box RankNode Global)
     → proof_of (code.Rank n) ≡ nodes.Rank (rank_of n.value) (uses_of (map proof_of n.value.uses.items))
 proof-Rank n = search (rules, the_lemmas)
@@ -30,7 +30,7 @@ proof-Rank n = search (rules, the_lemmas)
 pub children-Rank : (n : Box RankNode Global) → children_of (proof_of (code.Rank n)) ≡ map proof_of n.value.uses.items
 children-Rank n = ap children_of (proof-Rank n) ∙ list-uses (map proof_of n.value.uses.items)
 
--- a place that doesn't loop
+-- the view of a node on the size of a place that doesn't loop
 pub proof-Spread : (n : Box SpreadNode Global)
     → proof_of (code.Spread n) ≡ nodes.Spread (record { result_variable = result_variable_of n.value.result_variable; local = local_of n.value.local }) (uses_of (map proof_of n.value.uses.items))
 proof-Spread n = search (rules, the_lemmas)
@@ -38,7 +38,7 @@ proof-Spread n = search (rules, the_lemmas)
 pub children-Spread : (n : Box SpreadNode Global) → children_of (proof_of (code.Spread n)) ≡ map proof_of n.value.uses.items
 children-Spread n = ap children_of (proof-Spread n) ∙ list-uses (map proof_of n.value.uses.items)
 
--- a loop
+-- the view of a node on a loop
 pub proof-Cycle : (n : Box CycleNode Global)
     → proof_of (code.Cycle n) ≡ nodes.Cycle (map member_of n.value.members.items) (uses_of (map proof_of n.value.uses.items))
 proof-Cycle n = search (rules, the_lemmas)
@@ -46,7 +46,7 @@ proof-Cycle n = search (rules, the_lemmas)
 pub children-Cycle : (n : Box CycleNode Global) → children_of (proof_of (code.Cycle n)) ≡ map proof_of n.value.uses.items
 children-Cycle n = ap children_of (proof-Cycle n) ∙ list-uses (map proof_of n.value.uses.items)
 
--- a cost
+-- the view of a node on a cost
 pub proof-Cost : (n : Box CostNode Global)
     → proof_of (code.Cost n) ≡ nodes.Charge (record { rule = n.value.rule; by = cost_by_of n.value.by }) (uses_of (map proof_of n.value.uses.items))
 proof-Cost n = search (rules, the_lemmas)

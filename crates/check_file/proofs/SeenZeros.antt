@@ -1,4 +1,4 @@
--- What is kept at a position is looked at once: then a list has each rule of which a time is 0 by it.
+-- The facts stored at a position are looked at once: after that, a list has each rule whose time is 0 by one of them.
 use Rattle.std.proofs.Common.{◌≡◌, ℕ, ◌||◌, eqb, Bool, true, false, cond, List, [], refl, sym, ap, ◌∙◌, subst}
 use Rattle.std.specs.List.{list_any}
 use Rattle.std.specs.BTreeMap.{is_at}
@@ -16,7 +16,7 @@ or-true : (b : Bool) → (b || true) ≡ true
 or-true true = refl
 or-true false = refl
 
--- what was looked at adds nothing
+-- looking at stored facts again adds no rule
 pub added-again : (kept : StatedFacts) (seen : BTreeSet ℕ) (cut : List ℕ) (n : ℕ) → HasZerosAt kept seen cut
     → contains nat_cmp seen n ≡ true → AddsZeros cut (stated_at kept n) cut
 added-again kept seen cut n h e =
@@ -27,14 +27,14 @@ added-again kept seen cut n h e =
     go false true k = k refl
     go false false k = refl
 
--- a list with more rules has those that it had
+-- a list to which rules are added keeps those that it had
 pub zeros-stay : (kept : StatedFacts) (seen : BTreeSet ℕ) (old new : List ℕ) (fs : List Fact) → HasZerosAt kept seen old
     → AddsZeros old fs new → HasZerosAt kept seen new
 zeros-stay kept seen old new fs h k = record {
   each = λ n t e z. k.each t ∙ ap (λ (v : Bool). v || has_zero_time fs t) (h.each n t e z);
 }
 
--- and those of what was looked at last
+-- after the facts at one more position were looked at, the list has the rules for that position, too
 pub zeros-more : (kept : StatedFacts) (old-seen new-seen : BTreeSet ℕ) (old new : List ℕ) (n : ℕ) → HasZerosAt kept old-seen old
     → AddsZeros old (stated_at kept n) new
     → ((q : ℕ) → contains nat_cmp new-seen q ≡ cond (is_at (nat_cmp n) q) true (contains nat_cmp old-seen q))

@@ -1,4 +1,4 @@
--- Small files: which can be numbered, and what is answered to them.
+-- The worked values of which small files can be numbered, and of the answers on small files.
 use Rattle.std.proofs.Common.{◌≡◌, inl, inr, ℕ, ◌≤◌, List, [], ◌∷◌, ◌++◌, length, map, refl, sym, ap, subst, arith}
 use Rattle.std.specs.List.{All, AllByRecursion}
 use Rattle.std.proofs.lemmas.List.Elements.{All-nil, All-cons}
@@ -28,7 +28,7 @@ use Rattle.check_file.specs.Files.{CanBeNumbered, HasFewNodes, IsAcceptedWith}
 use Rattle.check_file.specs.WorkedFiles.{FilesAreNumbered, FilesAreAnswered, staying, falling, cited, off_lemma, off_gap}
 use Rattle.check_file.specs.WorkedFiles.{entry_facts}
 
--- the numbers that were worked out
+-- the worked values of which files can be numbered hold
 pub files-numbered : FilesAreNumbered
 files-numbered = record {
   nothing = λ f a b. record {
@@ -52,7 +52,7 @@ files-numbered = record {
 abbrev setting : Setting
 setting = setting_of three_rules
 
--- its lemmas
+-- the list of one lemma is accepted
 one_lemma : AcceptsLemmas setting (Start ∷ [])
 unfolding AcceptsLemmas
 one_lemma = (tt, tt)
@@ -65,43 +65,43 @@ no_lemmas : AcceptsLemmas setting []
 unfolding AcceptsLemmas
 no_lemmas = tt
 
--- that a gap holds, and its first fault
+-- a gap holds; and this is its first fault
 abbrev Holds : Gap → Type 0
 Holds g = GapHolds three_rules (forms_at three_rules) g
 
 abbrev Fails : Gap → GapFault → Type 0
 Fails g x = IsFirstFault three_rules (forms_at three_rules) g x
 
--- the one with which a check fails alone is the first
+-- the reason with which a single check fails is the first reason
 alone-first : {R : Type 0} (cs : List (CheckOf R)) (r : R) → FailsAlone cs r → IsFirstAmong cs r
 alone-first [] r h = absurd h
 alone-first (c ∷ cs) r (inl h) = inl (h.0, h.1)
 alone-first (c ∷ cs) r (inr h) = inr (h.0, alone-first cs r h.1)
 
--- the gap that is off
+-- the gap of the rule that falls doesn't hold
 falling-off : Fails falling (Unbalanced 0 1)
 falling-off = alone-first (gap_checks three_rules (forms_at three_rules) falling) (Unbalanced 0 1) gaps_of_programs.halving
 
--- the file that is accepted
+-- the first file is accepted
 cited-accepted : AcceptsFileFor three_rules cited
 cited-accepted = record {
   lemmas = two_lemmas;
   gaps = All-cons Holds staying [] gaps_of_programs.staying (All-nil Holds);
 }
 
--- with the facts of both lemmas
+-- the first file is accepted with the facts of both lemmas
 cited_has_facts : IsAcceptedWith three_rules cited (entry_facts ++ entry_facts)
 unfolding facts_of_lemmas
 cited_has_facts = record { accepted = cited-accepted; result_is = refl }
 
--- two facts aren't four
+-- the first file isn't accepted with the facts of one lemma
 cited-not-once : ¬ (IsAcceptedWith three_rules cited entry_facts)
 unfolding facts_of_lemmas
 cited-not-once h =
     let same : entry_facts ≡ entry_facts ++ entry_facts = h.result_is in
     omega (arith, ap length same)
 
--- the lemma that cites itself
+-- the second file is refused at the lemma that cites itself
 self-refused : IsRefusedAt setting (Start ∷ Cite 2 ∷ []) 2 1 Shape
 unfolding AcceptsLemmas facts_of_lemmas
 self-refused = record {
@@ -116,12 +116,12 @@ self-refused = record {
       (inl ((λ h. let low : 2 ≤ 1 = h.earlier in omega (arith, low)), refl));
 }
 
--- it is refused nowhere else
+-- the second file is refused at no other node
 self-alone : (l i : ℕ) (r : Reason) → IsRefusedAt setting (Start ∷ Cite 2 ∷ []) l i r
     → (2 ≡ l) × (1 ≡ i) × (Shape ≡ r)
 self-alone l i r h = refusals-in-line.one setting (Start ∷ Cite 2 ∷ []) 2 l 1 i Shape r self-refused h
 
--- the gap that is off behind one that holds
+-- the third file is refused at its second gap
 second-off : IsRefusedAtGap setting (forms_at three_rules) off_gap 2 (Unbalanced 0 1)
 second-off = record {
   lemmas = one_lemma;
@@ -130,20 +130,20 @@ second-off = record {
       (first-here Holds Fails falling [] (Unbalanced 0 1) falling-off);
 }
 
--- no other is
+-- the third file is refused at no other gap
 second-alone : (g : ℕ) (x : GapFault) → IsRefusedAtGap setting (forms_at three_rules) off_gap g x
     → (2 ≡ g) × (Unbalanced 0 1 ≡ x)
 second-alone g x h =
     file-refusals-in-line.one setting (forms_at three_rules) off_gap 2 g (Unbalanced 0 1) x second-off h
 
--- faults and reasons that differ
+-- different faults and reasons are different
 other-place : ¬ (Unbalanced 0 1 ≡ Unbalanced 0 0)
 other-place e = let same : ◌≡◌ {A = ℕ} 1 0 = cc in omega (arith, same)
 
 other-reason : ¬ (Shape ≡ NotEmpty)
 other-reason e = cc
 
--- the answers that were worked out
+-- the worked answers hold
 pub files-answered : FilesAreAnswered
 unfolding facts_of_lemmas
 files-answered = record {

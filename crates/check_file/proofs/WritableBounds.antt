@@ -1,4 +1,4 @@
--- Bounds as they may be written, part by part.
+-- Bounds that may be written, part by part.
 use Rattle.std.proofs.Common.{◌≡◌, ◌↔◌, ℕ, zero, suc, ◌+◌, ◌<◌, List, [], ◌∷◌, length, get_or, take, subst, sym, arith}
 use Rattle.model.specs.Bounds as plain
 use Rattle.model.specs.Bounds.{Parts, NoParts, Part}
@@ -7,14 +7,14 @@ use Rattle.bound_expr.specs.declared.bound.Bound.{Bound}
 use Rattle.bound_expr.proofs.Lists.{parts_of-take_more}
 use Rattle.check_file.specs.Writables.{IsWritable, AreWritable}
 
--- one part more at the end
+-- writable parts with one more writable part are writable
 with-more : (n : ℕ) (bs : Parts) (b : plain.Bound) → AreWritable n bs → IsWritable n b → AreWritable n (with_part bs b)
 with-more n NoParts b h k = record { inputs = (k.inputs, tt); numbers = (k.numbers, tt) }
 with-more n (Part c cs) b h k =
     let m = with-more n cs b (record { inputs = h.inputs.1; numbers = h.numbers.1 }) k in
     record { inputs = (h.inputs.0, m.inputs); numbers = (h.numbers.0, m.numbers) }
 
--- the parts so far, and one more
+-- the parts up to the next one are writable if those before and the next one are
 pub writable-more : (n : ℕ) (xs : List Bound) (i : ℕ) (x : Bound) → i < length xs → x ≡ get_or xs i x
     → AreWritable n (parts_of (bounds_of (take i xs))) → IsWritable n (bound_of x)
     → AreWritable n (parts_of (bounds_of (take (i + 1) xs)))
@@ -30,7 +30,7 @@ part-writable n (y ∷ xs) zero x l e h =
 part-writable n (y ∷ xs) (suc i) x l e h =
     part-writable n xs i x (omega (arith, l)) e (record { inputs = h.inputs.1; numbers = h.numbers.1 })
 
--- a sum, a product or a maximum may be written exactly where its parts may
+-- a sum, a product or a maximum may be written exactly if its parts may
 pub sum-writable : (n : ℕ) (b : plain.Bound) (bs : Parts) → b ≡ plain.SumOf bs → AreWritable n bs ↔ IsWritable n b
 sum-writable n b bs e = (
   (λ h. subst (IsWritable n) (sym e) (record { inputs = (tt, h.inputs); numbers = (tt, h.numbers) })),

@@ -1,4 +1,4 @@
--- Lists of the rules of which a time is 0, and what is reached by the others.
+-- Lists of the rules whose time is 0, and the symbols that are reached by the other rules.
 use Rattle.std.proofs.Common.{◌≡◌, ◌↔◌, ℕ, ◌==◌, ◌&&◌, ◌||◌, not, eqb, Bool, true, false, cond, List, [], ◌∷◌, ◌++◌, refl}
 use Rattle.std.proofs.Common.{sym, ap, ◌∙◌, subst, Some}
 use Rattle.std.specs.Prelude.{slice_index_or}
@@ -18,7 +18,7 @@ use Rattle.cert_types.specs.cert_rules.AcceptsPlain.{may_run, IsUnreached}
 use Rattle.cert_types.specs.cert_rules.Known.{is_zero_bound, has_zero_time}
 use Rattle.check_file.specs.Zeros.{AddsZeros, AreZeros}
 
--- it doesn't matter which of two numbers comes first
+-- the test whether two numbers are equal doesn't depend on their order
 swapped : (t u : ℕ) → eqb t u ≡ (u == t)
 swapped t u = go (u == t) refl
   where
@@ -31,19 +31,19 @@ or-none : (b : Bool) → (b || false) ≡ b
 or-none true = refl
 or-none false = refl
 
--- one more number of a list
+-- a number is in a list with one more if it is in the list or is that one
 any-push : (t r : ℕ) (xs : List ℕ) → list_any (eqb t) (xs ++ r ∷ []) ≡ (list_any (eqb t) xs || eqb t r)
 any-push t r [] = or-none (eqb t r)
 any-push t r (x ∷ xs) =
     ap (λ (b : Bool). eqb t x || b) (any-push t r xs) ∙ sym (or_assoc (eqb t x) (list_any (eqb t) xs) (eqb t r))
 
--- no rule is added where nothing says that a time is 0
+-- a fact that is no time of 0 adds no rule
 pub adds-none : (old : List ℕ) (f : Fact) → ((t : ℕ) → has_zero_time (f ∷ []) t ≡ false) → AddsZeros old (f ∷ []) old
 adds-none old f h = record {
   each = λ t. sym (ap (λ (b : Bool). list_any (eqb t) old || b) (h t) ∙ or-none (list_any (eqb t) old));
 }
 
--- a time that isn't 0 says nothing
+-- a time that isn't 0 is no time of 0
 pub no-zero : (u : ℕ) (b : Bound) → is_zero_bound b ≡ false → (t : ℕ) → has_zero_time (Time u b ∷ []) t ≡ false
 no-zero u b e t = ap (λ (v : Bool). cond ((u == t) && v) true false) e ∙ go (u == t)
   where
@@ -66,7 +66,7 @@ adds-zero old new u b z e = record {
     go true = refl
     go false = refl
 
--- whether a time is 0 by facts, and then by others
+-- a time of a rule is 0 by one of two lists joined if it is by one of the two
 zero-append : (fs gs : List Fact) (t : ℕ) → has_zero_time (fs ++ gs) t ≡ (has_zero_time fs t || has_zero_time gs t)
 zero-append [] gs t = refl
 zero-append (Time u b ∷ fs) gs t = go ((u == t) && is_zero_bound b) (zero-append fs gs t)
@@ -78,7 +78,7 @@ zero-append (Time u b ∷ fs) gs t = go ((u == t) && is_zero_bound b) (zero-appe
 zero-append (Size u i b ∷ fs) gs t = zero-append fs gs t
 zero-append (Cost u b ∷ fs) gs t = zero-append fs gs t
 
--- rules are added by facts, and then by others
+-- the rules added by two lists, one after the other, are those of the lists joined
 pub adds-both : (a b c : List ℕ) (fs gs : List Fact) → AddsZeros a fs b → AddsZeros b gs c → AddsZeros a (fs ++ gs) c
 adds-both a b c fs gs h k = record {
   each = λ t.
@@ -88,15 +88,15 @@ adds-both a b c fs gs h k = record {
       ∙ ap (λ (v : Bool). list_any (eqb t) a || v) (sym (zero-append fs gs t))));
 }
 
--- no fact adds no rule
+-- no facts add no rule
 pub adds-nothing : (a : List ℕ) → AddsZeros a [] a
 adds-nothing a = record { each = λ t. sym (or-none (list_any (eqb t) a)) }
 
--- what is added to nothing is all
+-- the rules added to the empty list are all of them
 pub zeros-from : (cut : List ℕ) (fs : List Fact) → AddsZeros [] fs cut → AreZeros fs cut
 zeros-from cut fs h = record { each = λ t. h.each t }
 
--- what is reached by rules that aren't cut is what is reached by those that may run
+-- the symbols reached by rules that aren't in the list are those reached by the rules that may run
 pub reached-same : (p : Program) (facts : List Fact) (cut : List ℕ) → AreZeros facts cut → (b : ℕ)
     → IsReached p (none_of cut) b ↔ IsReached p (may_run facts) b
 reached-same p facts cut h b =
@@ -106,11 +106,11 @@ reached-same p facts cut h b =
 module _ (p : Program) (facts : List Fact) (cut : List ℕ) (zeros : AreZeros facts cut) (seen : List Bool)
     (reached : (b : ℕ) → (slice_index_or seen b false ≡ true) ↔ IsReached p (none_of cut) b) (t : ℕ) (r : Rule)
     (numbered : rule_at p t ≡ Some r) where
-  -- a rule whose source is seen is reached
+  -- if the source of a rule is seen, it is reached
   pub seen-reached : slice_index_or seen r.source false ≡ true → ¬ (IsUnreached p (may_run facts) t)
   seen-reached h k = k r numbered ((reached-same p facts cut zeros r.source).0 ((reached r.source).0 h))
 
-  -- one whose source isn't seen isn't reached
+  -- if the source of a rule isn't seen, it isn't reached
   pub unseen-unreached : slice_index_or seen r.source false ≡ false → IsUnreached p (may_run facts) t
   unseen-unreached h q e k =
       no_is_not_yes (slice_index_or seen r.source false) h

@@ -1,15 +1,15 @@
--- The premises of a node that are nodes themselves, as a list.
+-- The premises of a node that are nodes inside it, as a list.
 use Rattle.std.specs.Prelude.{List, [], ◌∷◌, ◌++◌}
 use Rattle.cert_types.specs.cert_rules.Nodes.{Proof, Cite, Start, Empty, Unreached, Never, Rank, Spread, Cycle, Weaken}
 use Rattle.cert_types.specs.cert_rules.Nodes.{Charge, Proofs, NoProof, AndProof}
 use Rattle.cert_types.specs.cert_rules.Numbering.{nodes_of}
 
--- uses, as a list
+-- premises as a list
 abbrev pub list_of : Proofs → List Proof
 list_of NoProof = []
 list_of (AndProof proof uses) = proof ∷ list_of uses
 
--- the children of a node: its uses, or its only child
+-- the nodes inside a node: its premises
 abbrev pub children_of : Proof → List Proof
 children_of (Cite n) = []
 children_of Start = []
@@ -22,7 +22,7 @@ children_of (Cycle members uses) = list_of uses
 children_of (Weaken child b) = child ∷ []
 children_of (Charge node uses) = list_of uses
 
--- the nodes of these, one after the other
+-- the nodes of these derivations, one after the other
 abbrev pub nodes_in : List Proof → List Proof
 nodes_in [] = []
 nodes_in (proof ∷ proofs) = nodes_of proof ++ nodes_in proofs

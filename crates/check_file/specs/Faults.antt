@@ -1,4 +1,4 @@
--- Faults of nodes and of lemmas, with the numbers of these.
+-- Faults of nodes and of lemmas, with their numbers.
 use Rattle.std.specs.Prelude.{ℕ}
 use Rattle.check_file.specs.declared.error.CheckError.{CheckError}
 use Rattle.check_file.specs.declared.error.CheckError.TheVariants as error

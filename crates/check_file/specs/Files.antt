@@ -26,7 +26,7 @@ use Rattle.cert_context.specs.Statements.{all_facts}
 abbrev pub HasFewNodes : Proof → Type 0
 HasFewNodes proof = length (nodes_of proof) < 2 ^ 32
 
--- all that a file holds can be numbered in 32 bits: its lemmas, its gaps, and the nodes of each lemma
+-- the lemmas of a file, its gaps, and the nodes of each lemma can be numbered in 32 bits
 pub record CanBeNumbered (f : code.ProofFile) : Type 0 where
   pub lemmas : length f.lemmas.items < 2 ^ 32
   pub gaps : length f.gaps.items < 2 ^ 32
@@ -52,13 +52,13 @@ pub record IsAcceptedWith (p : Program) (f : ProofFile) (facts : List Fact) : Ty
   pub accepted : AcceptsFileFor p f
   pub result_is : facts ≡ all_facts (facts_of_lemmas (setting_of p) f.lemmas)
 
--- a file is refused at the first node that isn't accepted, with its first reason; or, where all lemmas are accepted, at
+-- a file is refused at the first node that isn't accepted, with its first reason; or, if all lemmas are accepted, at
 -- the first gap that doesn't hold, with its first fault; running out of memory is always permitted
 abbrev pub RefusesFile : Program → ProofFile → CheckError → Type 0
 RefusesFile p f (error.No lemma node reason) = IsRefusedAt (setting_of p) f.lemmas lemma node (reason_of reason)
 RefusesFile p f (error.NoGap gap fault) = IsRefusedAtGap (setting_of p) (forms_at p) f gap (fault_of fault)
 RefusesFile p f error.Memory = ⊤
 
--- for each gap: no affine function with coefficient 0 at its shut places ranks its strict rule over its set
+-- for each gap, no affine function with coefficient 0 at its shut places ranks its strict rule over its set
 abbrev pub ExcludeFunctions : Program → List Gap → Type 0
 ExcludeFunctions p gaps = All (λ g. NoRank (ranked_set p g.set g.rule g.shut)) gaps

@@ -1,4 +1,4 @@
--- what nodes rest on
+-- The premises of nodes.
 pub mod Children
 -- why lemmas are refused
 pub mod Faults

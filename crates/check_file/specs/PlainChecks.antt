@@ -1,4 +1,4 @@
--- The checks of the plain nodes, over the facts of their children, as `cert_rules` makes them.
+-- The checks of plain nodes, over the facts of their premises, as `cert_rules` makes them.
 use Rattle.std.specs.Prelude.{ℕ, List, [], ◌∷◌}
 use Rattle.model.specs.Bounds.{Bound}
 use Rattle.model.specs.Facts as plain
@@ -7,16 +7,16 @@ use Rattle.cert_types.specs.cert_rules.AcceptsPlain.{HasEmptyShape, IsOneTime, I
 use Rattle.cert_types.specs.cert_rules.Reasons.{Check, check, Shape, NotEmpty, NotZero, NotWeaker}
 use Rattle.cert_types.specs.cert_rules.Setting.{Setting}
 
--- an empty rule
+-- the checks of an empty rule
 abbrev pub empty_checks : Setting → ℕ → List ℕ → List Check
 empty_checks s t multipliers =
     check Shape (HasEmptyShape s t multipliers) ∷ check NotEmpty (Implies (s.rows t) multipliers minus_one) ∷ []
 
--- a rule that never runs, by the facts of the child
+-- the checks of a rule that never runs, by the facts of the premise
 abbrev pub never_checks : List plain.Fact → List Check
 never_checks facts = check Shape (IsOneTime facts) ∷ check NotZero (IsZeroTime facts) ∷ []
 
--- a weaker bound, by the facts of the child
+-- the checks of a weaker bound, by the facts of the premise
 abbrev pub weaken_checks : Setting → List plain.Fact → Bound → List Check
 weaken_checks s facts b =
     check Shape (HasWeakenShape s.program b) ∷ check NotWeaker (IsWeaker s facts b) ∷ []

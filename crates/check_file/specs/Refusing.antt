@@ -15,8 +15,8 @@ use Rattle.check_file.specs.declared.refusal.TreeFault.TheVariants as tree
 abbrev pub ArePassed : Setting → List (List Fact) → List Proof → Type 0
 ArePassed s past nodes = AllByRecursion (AcceptsNode s past) nodes
 
--- with this many nodes checked before, the first of these nodes that isn't accepted is reported, with its number and
--- its first reason; running out of memory is always permitted
+-- after this many nodes were counted, the first of these nodes that isn't accepted is reported, with its number and its
+-- first reason; running out of memory is always permitted
 abbrev pub RefusesAmong : Setting → List (List Fact) → List Proof → ℕ → TreeFault → Type 0
 RefusesAmong s past nodes before (tree.Refused number reason) =
     (n : ℕ) × (number ≡ before + n)

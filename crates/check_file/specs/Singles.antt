@@ -1,7 +1,7 @@
--- Single facts.
+-- Lists that aren't a single fact.
 use Rattle.std.specs.Prelude.{◌≡◌, List, [], ◌∷◌}
 use Rattle.model.specs.Facts.{Fact}
 
--- they aren't one fact alone
+-- the list isn't a single fact
 pub record IsNoSingle (facts : List Fact) : Type 0 where
   pub none : (fact : Fact) → ¬ (facts ≡ fact ∷ [])

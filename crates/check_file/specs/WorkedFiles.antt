@@ -1,4 +1,4 @@
--- Worked values of which small files can be numbered, and of the answers on them.
+-- Worked values of which small files can be numbered, and of the answers on small files.
 use Rattle.std.specs.Prelude.{◌≡◌, ℕ, List, [], ◌∷◌, ◌++◌, length, map, pos}
 use Rattle.std.specs.List.{AllByRecursion}
 use Rattle.model.specs.Bounds.{Constant, Input}
@@ -30,7 +30,8 @@ pub record FilesAreNumbered : Type 0 where
   pub many_nodes : (proof : Proof) → length (nodes_of proof) ≡ 4294967295 → HasFewNodes proof
   pub too_many_nodes : (proof : Proof) → length (nodes_of proof) ≡ 4294967296 → ¬ (HasFewNodes proof)
 
--- what the virtual entry of the program states: it occurs once, and its place has the size of the start argument
+-- the facts that the virtual entry of the program states: it occurs once, and its place has the size of the start
+-- argument
 abbrev pub entry_facts : List Fact
 entry_facts = Time 0 (Constant 1) ∷ Size 0 1 (Input 0) ∷ []
 
@@ -45,8 +46,8 @@ falling = gap_alone 1 (scaled (pos 2 ∷ []) 1) nowhere (scaled (pos 2 ∷ []) 1
 abbrev pub file_with : List Proof → List Gap → ProofFile
 file_with lemmas gaps = record { lemmas = lemmas; gaps = gaps }
 
--- a lemma and one that cites it, with a gap that holds; a lemma that cites itself behind one, with a gap that doesn't
--- hold; and a lemma with a gap that holds and one that doesn't
+-- three files: a lemma and one that cites it, with a gap that holds; a lemma and one that cites itself, with a gap that
+-- doesn't hold; and a lemma with a gap that holds and one that doesn't
 abbrev pub cited : ProofFile
 cited = file_with (Start ∷ Cite 1 ∷ []) (staying ∷ [])
 
@@ -56,10 +57,9 @@ off_lemma = file_with (Start ∷ Cite 2 ∷ []) (falling ∷ [])
 abbrev pub off_gap : ProofFile
 off_gap = file_with (Start ∷ []) (staying ∷ falling ∷ [])
 
--- the first is accepted with the facts of both lemmas, in order, and with no others, and isn't refused. The second is
--- refused at its second lemma, at no other, for no other reason and at no gap, and isn't accepted; the third is refused
--- at its second gap, at no other, for no other fault and at no lemma. A file with nothing in it is accepted without a
--- fact
+-- the first file is accepted with the facts of both lemmas, in order, and with no others, and isn't refused. The second
+-- is refused at its second lemma, at no other, for no other reason and at no gap, and isn't accepted; the third is
+-- refused at its second gap, at no other, for no other fault and at no lemma. The empty file is accepted without a fact
 pub record FilesAreAnswered : Type 0 where
   pub nothing : IsAcceptedWith three_rules (file_with [] []) []
   pub cited_accepted : IsAcceptedWith three_rules cited (entry_facts ++ entry_facts)

@@ -1,4 +1,4 @@
-//! Checks nodes over the facts of their premises, by key.
+//! Checks nodes over the bounds of their premises, looked up by key.
 
 ghost use Rattle.std.specs.Prelude.{◌∷◌, [], map, MatchResult};
 ghost use Rattle.model.specs.Facts.{Cost, Size, Time};

@@ -1,4 +1,4 @@
-//! The children of a node.
+//! The premises of a node that are nodes inside it.
 
 ghost use Rattle.std.specs.Prelude.{◌≡◌, map};
 ghost use Rattle.check_file.specs.Children.{children_of};
@@ -7,7 +7,7 @@ ghost use Rattle.cert_types.specs.Views.{proof_of};
 use cert_types::Proof;
 use std::slice::from_ref;
 
-/// The children of a node, in order: its uses, or its only child.
+/// The nodes inside a node, in order: its premises.
 pub(crate) fn children(proof: &Proof) -> &[Proof]
     ensures { map proof_of result.now ≡ children_of (proof_of proof.now) }
 {

@@ -41,7 +41,7 @@ pub(crate) fn empty_facts(
     Ok(zero_time(alloc, node.rule)?)
 }
 
-// Whether the rule is one, and has a multiplier for each row.
+// Whether the rule exists, and has a multiplier for each row.
 fn has_empty_shape(context: &CheckContext, rule: u32, multipliers: &[u64]) -> bool
     requires { IsCheckContext context.now }
     ensures { IsTrue result ↔ HasEmptyShape (setting context.now) rule multipliers.now }

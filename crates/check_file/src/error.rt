@@ -9,14 +9,14 @@ use std::alloc::{AllocError, AllocFailed};
 /// Why a proof file isn't accepted.
 #[derive(Clone, Copy, Debug, PartialEq, Eq)]
 pub enum CheckError {
-    /// The first node that isn't accepted, by its number in its lemma, and the first reason. Lemmas and nodes count
-    /// from 1, each node after its children.
+    /// The first node that isn't accepted, by its number in its lemma, and the first reason. Lemmas and nodes are
+    /// counted from 1, each node after its premises.
     No {
         lemma: u32,
         node: u32,
         reason: Reason,
     },
-    /// All lemmas are accepted: the first gap that doesn't hold, and its first fault. Gaps count from 1.
+    /// All lemmas are accepted; this is the first gap that doesn't hold, with its first fault. Gaps are counted from 1.
     NoGap {
         gap: u32,
         fault: GapFault,

@@ -19,10 +19,9 @@ use cert_types::{Fact, ProofFile};
 use its_model::Program;
 use std::alloc::Global;
 
-/// Checks a proof file: `Ok`, with the facts of all lemmas in order, exactly where every lemma and every gap is
-/// accepted (and memory suffices). Then each of these facts holds on all runs of the program, and each gap excludes
-/// every affine ranking function with coefficient 0 at its shut places, whoever made the file. No linear program is
-/// solved.
+/// Checks a proof file: `Ok`, with the facts of all lemmas in order, exactly if every lemma is accepted, every gap
+/// holds, and memory suffices. Then each of these facts holds on all runs of the program, and each gap excludes every
+/// affine ranking function with coefficient 0 at its shut places, whoever made the file. No linear program is solved.
 ///
 /// # Errors
 ///
@@ -50,7 +49,7 @@ pub fn check(alloc: Global, p: &Program, f: &ProofFile) -> Result<Vec<Fact>, Che
 }
 
 /// In a file that is accepted for a valid program every fact of every lemma holds on all runs, and every gap excludes
-/// functions, whoever made it. The function has no code: its contract is the law.
+/// ranking functions, whoever made the file. The function has no code: its contract is the law.
 pub fn accepted_files_hold()
     ensures { AcceptedFilesHold }
 {}

@@ -12,13 +12,13 @@ use gap_checks::gap_fault;
 /// A gap that doesn't hold.
 #[derive(Clone, Copy, Debug, PartialEq, Eq)]
 pub(crate) struct RefusedGap {
-    /// Its number, from 1.
+    /// The gap's number, from 1.
     pub gap: u32,
-    /// Its first fault.
+    /// The gap's first fault.
     pub fault: GapFault,
 }
 
-/// The first gap that doesn't hold, where there is one.
+/// The first gap that doesn't hold, if there is one.
 pub(crate) fn first_refused_gap(context: &CheckContext, gaps: &[Gap]) -> Option<RefusedGap>
     requires context { IsCheckContext context.now }
     requires few { length gaps.now < 2 ^ 32 }

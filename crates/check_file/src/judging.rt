@@ -28,25 +28,25 @@ use cert_context::{CheckContext, NodeFault, PremiseFacts, StatedFacts, facts_in}
 use cert_types::{Fact, Proof, Reason};
 use std::alloc::Global;
 
-/// A lemma, or a part of one, that is accepted.
+/// A lemma, or a part of one, that was accepted.
 #[derive(Drop)]
 pub(crate) struct Judged {
     /// The facts that it states.
     pub stated: PremiseFacts,
-    /// How many nodes were checked so far.
+    /// The number of nodes checked so far.
     pub count: u32,
 }
 
-/// Parts of a lemma that are accepted.
+/// Parts of a lemma that were accepted.
 #[derive(Drop)]
 pub(crate) struct Joined {
-    /// The facts of each, in order.
+    /// The facts of each part, in order.
     pub uses: Vec<PremiseFacts>,
-    /// How many nodes were checked so far.
+    /// The number of nodes checked so far.
     pub count: u32,
 }
 
-/// Checks a lemma, or a part of one, given the facts of the lemmas before, when this many of its nodes have been
+/// Checks a lemma, or a part of one, given the facts of the lemmas before, after `before` nodes of the lemma have been
 /// checked.
 ///
 /// # Errors
@@ -80,7 +80,7 @@ pub(crate) fn judge(
     }
 }
 
-// Whether parts of a lemma are accepted, in order.
+// Checks parts of a lemma, in order.
 #[cycle(judge)]
 fn judge_all(
     alloc: Global,
@@ -111,7 +111,7 @@ fn judge_all(
     Ok(Joined { uses, count })
 }
 
-// The facts of a node whose children are accepted.
+// The facts of a node whose premises are accepted.
 fn judge_node(
     alloc: Global,
     context: &CheckContext,
@@ -163,7 +163,7 @@ fn cited(kept: &StatedFacts, lemma: u32) -> Result<PremiseFacts, NodeFault>
     }
 }
 
-// Facts of a node's own.
+// Facts of a node as its own.
 fn owned(facts: Result<Vec<Fact>, NodeFault>) -> Result<PremiseFacts, NodeFault>
     ensures { result ≡ owned_by facts }
 {
@@ -173,7 +173,7 @@ fn owned(facts: Result<Vec<Fact>, NodeFault>) -> Result<PremiseFacts, NodeFault>
     }
 }
 
-// The facts of the first of the uses; none where there is none.
+// The facts of the first premise; none if there is none.
 fn first<'a>(kept: &'a StatedFacts, uses: &'a [PremiseFacts]) -> &'a [Fact]
     ensures { facts_in_order result.now ≡ first_by kept.now uses.now }
 {

@@ -11,11 +11,11 @@ ghost use Rattle.cert_types.specs.cert_rules.Numbering.{nodes_of};
 use crate::children::children;
 use cert_types::{Proof, ProofFile};
 
-// One more than the greatest number of things that can be numbered: the numbers have 32 bits.
+// 2^32: the lemmas, gaps and nodes of a file have numbers of 32 bits, so there have to be fewer.
 const LIMIT: u64 = 4_294_967_296;
 
 /// Whether a file has fewer than 2^32 lemmas, fewer than 2^32 gaps, and fewer than 2^32 nodes in each lemma, so that
-/// all that it contains can be numbered.
+/// all of them can be numbered.
 pub fn can_be_numbered(f: &ProofFile) -> bool
     ensures { IsTrue result ↔ CanBeNumbered f.now }
 {
@@ -25,7 +25,7 @@ pub fn can_be_numbered(f: &ProofFile) -> bool
     have_few_nodes(&f.lemmas)
 }
 
-// Whether each of these proofs has fewer nodes than that.
+// Whether each of these derivations has fewer than 2^32 nodes.
 fn have_few_nodes(proofs: &[Proof]) -> bool
     ensures { IsTrue result ↔ AllByRecursion HasFewNodes (map proof_of proofs.now) }
 {
@@ -38,14 +38,14 @@ fn have_few_nodes(proofs: &[Proof]) -> bool
     true
 }
 
-// Whether a proof has.
+// Whether a derivation has fewer than 2^32 nodes.
 fn has_few_nodes(proof: &Proof) -> bool
     ensures { IsTrue result ↔ HasFewNodes (proof_of proof.now) }
 {
     counted(proof, 0) < LIMIT
 }
 
-// The number of nodes, with this many counted before; the limit where there are too many.
+// The number of nodes of a derivation, with those counted before; 2^32 if there are too many.
 #[cycle(counting)]
 fn counted(proof: &Proof, before: u64) -> u64
     requires { before ≤ 2 ^ 32 }
@@ -54,7 +54,7 @@ fn counted(proof: &Proof, before: u64) -> u64
     one_more(all_counted(children(proof), before))
 }
 
-// The same for several.
+// The number of nodes of several derivations, with those counted before; 2^32 if there are too many.
 #[cycle(counting)]
 fn all_counted(proofs: &[Proof], before: u64) -> u64
     requires { before ≤ 2 ^ 32 }
@@ -67,7 +67,7 @@ fn all_counted(proofs: &[Proof], before: u64) -> u64
     count
 }
 
-// One more, up to the limit.
+// The next number, at most 2^32.
 fn one_more(count: u64) -> u64
     requires { count ≤ 2 ^ 32 }
     ensures { IsCount (count + 1) result }

@@ -34,7 +34,7 @@ impl<T: Drop> From<AllocFailed<T>> for TreeFault {
     }
 }
 
-/// The fault of a node, as that of the node with this number.
+/// The fault of a node with this number.
 pub(crate) fn at_node(fault: NodeFault, node: u32) -> TreeFault
     ensures { result ≡ at_number fault node }
 {
@@ -44,7 +44,7 @@ pub(crate) fn at_node(fault: NodeFault, node: u32) -> TreeFault
     }
 }
 
-/// The fault of a lemma, as that of the lemma with this number.
+/// The fault of a lemma with this number.
 pub(crate) fn at_lemma(fault: TreeFault, lemma: u32) -> CheckError
     ensures { result ≡ in_lemma fault lemma }
 {

@@ -20,7 +20,7 @@ use size_nodes::is_zero;
 use std::alloc::Global;
 use std::collections::BTreeSet;
 
-// Adds the rule of a fact to a list, where the fact is that its time is 0.
+// Adds the rule of a fact to a list, if the fact is a time of 0.
 fn push_zero(cut: &mut Vec<u32>, fact: &Fact) -> Result<(), Memory>
     ensures { OnOk result (AddsZeros cut.old.items (fact_of fact.now ∷ []) cut.new.items) }
 {
@@ -37,7 +37,7 @@ fn push_zero(cut: &mut Vec<u32>, fact: &Fact) -> Result<(), Memory>
     }
 }
 
-// Adds the rules of which a time is 0 by these facts.
+// Adds the rules whose time is 0 by one of these facts.
 fn push_zeros(cut: &mut Vec<u32>, facts: &[Fact]) -> Result<(), Memory>
     ensures { OnOk result (AddsZeros cut.old.items (facts_of facts.now) cut.new.items) }
 {
@@ -47,7 +47,7 @@ fn push_zeros(cut: &mut Vec<u32>, facts: &[Fact]) -> Result<(), Memory>
     Ok(())
 }
 
-// Adds the rules with a time of 0 by the facts at a position, unless that was looked at before.
+// Adds the rules whose time is 0 by a fact stored at a position, unless these facts were looked at before.
 fn push_kept(
     cut: &mut Vec<u32>,
     seen: &mut BTreeSet<u32>,
@@ -66,7 +66,7 @@ fn push_kept(
     Ok(())
 }
 
-// Adds the rules with a time of 0 by the facts of a use.
+// Adds the rules whose time is 0 by a fact of a premise.
 fn push_used(
     cut: &mut Vec<u32>,
     seen: &mut BTreeSet<u32>,
@@ -83,7 +83,7 @@ fn push_used(
     }
 }
 
-// The rules with a time of 0 by the facts of the uses. Stored facts are looked at once, however often they are used.
+// The rules whose time is 0 by a fact of the premises. Stored facts are looked at once, however often they are used.
 fn zero_rules(alloc: Global, kept: &StatedFacts, uses: &[PremiseFacts]) -> Result<Vec<u32>, Memory>
     ensures { IfOk result (λ cut. AreZeros (joined_by kept.now uses.now) cut.items) }
 {
@@ -125,7 +125,7 @@ pub(crate) fn unreached_facts(
     Ok(zero_time(alloc, rule)?)
 }
 
-// Whether a flag is there and set.
+// Whether there is a flag at this position, and it is set.
 fn is_set(flags: &[bool], position: u32) -> bool
     ensures { result ≡ slice_index_or flags.now position false }
 {

@@ -1,4 +1,4 @@
-//! States the sizes after rules that never run.
+//! The facts about rules that never run.
 
 ghost use Rattle.std.specs.Prelude.{◌≡◌, ◌≤◌, ◌∷◌, [], ◌↔◌, true, IsTrue, MatchOption, MatchResult};
 ghost use Rattle.std.specs.List.{range_with_len};
@@ -21,7 +21,7 @@ use its_model::Program;
 use size_nodes::is_zero;
 use std::alloc::Global;
 
-/// The fact of a list that has only one.
+/// The only fact of a list, if it has just one.
 pub(crate) fn only(facts: &[Fact]) -> Option<&Fact>
     ensures { MatchOption result (IsNoSingle (facts_of facts.now)) (λ f. facts_of facts.now ≡ fact_of f.now ∷ []) }
 {
@@ -31,7 +31,7 @@ pub(crate) fn only(facts: &[Fact]) -> Option<&Fact>
     }
 }
 
-// The only fact of a list, where it is a time of a rule above 0.
+// The only fact of a list, if it has just one, a time of a rule above 0.
 fn only_time(facts: &[Fact]) -> Option<(u32, &Bound)>
     ensures { MatchOption result (¬ (IsOneTime (facts_of facts.now)))
         (λ t. (facts_of facts.now ≡ Time t.0 (bound_of t.1.now) ∷ []) × (1 ≤ t.0)) }
@@ -50,7 +50,7 @@ fn only_time(facts: &[Fact]) -> Option<(u32, &Bound)>
     }
 }
 
-// How many places the target of a rule has; where there is none, 0.
+// The number of places of the target of a rule, or 0 if there is no such rule.
 fn target_places(p: &Program, rule: u32) -> u32
     ensures { range_with_len 1 result ≡ places_at (program_of p.now) (target_of_rule (program_of p.now) rule) }
 {
@@ -60,7 +60,7 @@ fn target_places(p: &Program, rule: u32) -> u32
     }
 }
 
-/// The facts of a node on a rule that never runs, given the facts of its child.
+/// The facts of a node on a rule that never runs, given the facts of its premise.
 ///
 /// # Errors
 ///

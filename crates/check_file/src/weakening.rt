@@ -36,7 +36,7 @@ fn with_bound(fact: &Fact, bound: Bound) -> Fact
     }
 }
 
-/// The fact of a node with a weaker bound, given the facts of its child.
+/// The fact of a node with a weaker bound, given the facts of its premise.
 ///
 /// # Errors
 ///

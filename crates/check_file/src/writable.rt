@@ -6,7 +6,8 @@ ghost use Rattle.check_file.specs.Writables.{IsWritable, AreWritable};
 
 use bound_expr::{Bound, CONSTANT_LIMIT};
 
-/// Whether the inputs of a bound are among the first so many, its bases at least 2 and its constants at most 2^127-1.
+/// Whether the inputs of a bound are among the first `inputs` ones, its bases at least 2 and its constants at most
+/// 2^127-1.
 #[cycle(writable)]
 pub(crate) fn is_writable(bound: &Bound, inputs: u32) -> bool
     ensures { IsTrue result ↔ IsWritable inputs (bound_of bound.now) }
@@ -21,7 +22,7 @@ pub(crate) fn is_writable(bound: &Bound, inputs: u32) -> bool
     }
 }
 
-// Whether each part is such a bound.
+// Whether each part is writable: with such inputs, bases and constants.
 #[cycle(writable)]
 fn are_writable(parts: &[Bound], inputs: u32) -> bool
     ensures { IsTrue result ↔ AreWritable inputs (parts_of (bounds_of parts.now)) }

@@ -1,4 +1,4 @@
--- What is lost by a rule, column by column.
+-- The decrease by a rule, column by column.
 use Rattle.std.proofs.Common.{◌≡◌, ℕ, zero, suc, ◌<◌, ◌≤◌, List, [], ◌∷◌, length, map, refl, sym, ap, ◌∙◌}
 use Rattle.std.proofs.Common.{arith, All, ◌⊎◌, inl, inr, get_or}
 use Rattle.std.specs.Prelude.{ℤ, pos, ◌+ℤ◌, ◌-ℤ◌, ◌*ℤ◌, unsigned_abs}
@@ -21,7 +21,7 @@ use Rattle.cert_context.proofs.Cuts.{each-at}
 use Rattle.cert_context.proofs.FormColumns.{at-past, less-column, number-small, sum-column, times-column}
 use Rattle.check_ranks.specs.Goals.{AreWithin}
 
--- a column of a combination
+-- the entry of a combination in a column is the combination of the entries
 none-column : (c : Column) (v : ℕ → ℤ) → number_in c (combination [] v) ≡ pos 0
 none-column (column.Unknown u) v = refl
 none-column column.Constant v = refl
@@ -36,7 +36,7 @@ combination-column c (f ∷ fs) v =
     regroup : (s a b m w : ℤ) {r : ℤ} → s ≡ a +ℤ b → a ≡ m → m ≡ w → b ≡ r → s ≡ w +ℤ r
     regroup s a b m w e d f g = omega (arith, ints, e, d, f, g)
 
--- a column of what is lost
+-- the entry of the decrease in a column
 pub loss-column : (c : Column) (f g : Form) (new_values : List Form) (k : ℤ)
     → number_in c (loss f g new_values k)
     ≡ number_in c f -ℤ list_dot (map (number_in c) new_values) (at g.coefs) -ℤ number_in c (constant_form g.constant)
@@ -49,7 +49,7 @@ loss-column c f g new_values k =
     regroup : (s l f n d h k : ℤ) {e : ℤ} → s ≡ l -ℤ k → l ≡ f -ℤ n → n ≡ d +ℤ h → d ≡ e → s ≡ f -ℤ e -ℤ h -ℤ k
     regroup s l f n d h k a b c g = omega (arith, ints, a, b, c, g)
 
--- past the width of all forms nothing is combined
+-- the combination at an unknown past the width of all forms is 0
 dot-past : (fs : List Form) (v : ℕ → ℤ) (w u : ℕ) → w ≤ u → All (λ f. length f.coefs ≤ w) fs
     → list_dot (map (number_in (column.Unknown u)) fs) v ≡ pos 0
 dot-past [] v w u l h = refl
@@ -63,7 +63,7 @@ dot-past (f ∷ fs) v w u l h =
         zero-mul : (b r : ℤ) → r ≡ pos 0 → pos 0 *ℤ b +ℤ r ≡ pos 0
         zero-mul b r d = omega (arith, ints, d)
 
--- a row with these columns, and the constant, is what is lost
+-- a row with these entries and this constant is the decrease less the least permitted one
 pub loss-row : (w : ℕ) (f g : Form) (new_values : List Form) (k : ℤ) (xs : List ℤ) (c : ℤ) → AreWithin w f new_values
     → HasColumns (λ u. at f.coefs u -ℤ list_dot (map (number_in (column.Unknown u)) new_values) (at g.coefs)) w xs
     → c ≡ f.constant -ℤ list_dot (map (number_in column.Constant) new_values) (at g.coefs) -ℤ g.constant -ℤ k
@@ -90,7 +90,7 @@ loss-row w f g new_values k xs c within h e = record {
         (at-past f.coefs u (omega (arith, l, within.before))) (dot-past new_values (at g.coefs) w u l within.new_values)
         ∙ sym (loss-column (column.Unknown u) f g new_values k))
 
--- and one is the function less a number
+-- a row with these entries and this constant is the form less a number
 pub floor-row : (w : ℕ) (f : Form) (k : ℤ) (xs : List ℤ) (c : ℤ) → length f.coefs ≤ w → HasColumns (at f.coefs) w xs
     → c ≡ f.constant -ℤ k → IsAlike (record { coefs = xs; constant = c }) (less f (constant_form k))
 floor-row w f k xs c l h e = record {
@@ -110,11 +110,11 @@ floor-row w f k xs c l h e = record {
         at-past xs u (omega (arith, m, h.long))
         ∙ (past (at f.coefs u) (at-past f.coefs u (omega (arith, m, l))) ∙ sym (less-column (column.Unknown u) f (constant_form k)))
 
--- how many numbers a column has
+-- a column has one entry for each row
 pub new_values-length : (c : Column) (new_values : List Row) → length (map (number_in c) (map form_of new_values)) ≡ length new_values
 new_values-length c new_values = length-map (map form_of new_values) (number_in c) ∙ length-map new_values form_of
 
--- the number of a row at a position of a column
+-- the entry of a row in a column is at the row's position
 pub row-number : (c : Column) (new_values : List Row) (i : ℕ) (r : Row) (d : ℤ) → i < length new_values → r ≡ get_or new_values i r
     → get_or (map (number_in c) (map form_of new_values)) i d ≡ number_in c (form_of r)
 row-number c [] i r d l e = absurd (omega (arith, l))

@@ -1,15 +1,15 @@
--- the symbols of a set
+-- The symbols of a set of rules.
 mod Marking
--- what is lost by a rule
+-- the decrease by a rule
 mod GoalForms
 -- the shape of ranking nodes
 mod RankShapes
--- forms of ranking functions
+-- the forms of ranking functions
 mod RankForms
 mod OrderedForms
--- rows of what is lost
+-- the rows of the decrease and of the floor
 mod LossRows
--- places that are read
+-- the places that are read
 mod ReadPlaces
--- what is answered to ranking nodes
+-- the answers on ranking nodes
 mod RankAnswers

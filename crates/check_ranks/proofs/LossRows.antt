@@ -1,5 +1,5 @@
--- The rows of a rule's decrease and of a floor: their numbers are small, and certificates for them are those that are
--- required.
+-- The rows of a rule's decrease and of a floor: their numbers are small, and they are certified exactly if the decrease
+-- and the floor are.
 use Rattle.std.proofs.Common.{◌≡◌, ◌↔◌, ℕ, ◌^◌, ◌<◌, ◌≤◌, Bool, List, [], ◌∷◌, length, map, get_or, All, Option, Some, None, Vec}
 use Rattle.std.proofs.Common.{refl, sym, ap, ◌∙◌, subst, arith}
 use Rattle.std.specs.declared.alloc.Global.{Global}
@@ -39,7 +39,7 @@ use Rattle.check_ranks.specs.Goals.{AreWithin}
 use Rattle.check_ranks.proofs.RankForms.{form-limited, form-width}
 use Rattle.check_ranks.proofs.RankShapes.{moves-is}
 
--- the forms of a right shape have few coefficients
+-- forms of the right shape have few coefficients
 pub forms-short : (p : Program) (fs : List code.Form) → IsValid p → All (HasFormShape p) (map form_at_symbol fs)
     → All IsShort fs
 forms-short p [] v h = All-nil IsShort
@@ -58,19 +58,19 @@ module _ (p : Program) (n : code_node.RankNode) (h : HasRankShape (setting_of p)
       → IsFormInLimit (form_found o)
   found-limited o a e = subst IsFormInLimit (sym e) (form-limited p forms h.forms a)
 
-  -- and has few coefficients
+  -- the form at a symbol has few coefficients
   pub found-short : IsValid p → (o : Option (Bor code.Form)) (a : Option ℕ) → form_found o ≡ rank_form forms a
       → length (form_found o).coefs < 2 ^ 31
   found-short v o None e = omega (arith, ap (λ (f : Form). length f.coefs) e)
   found-short v o (Some a) e =
       omega (arith, ap (λ (f : Form). length f.coefs) e, form-width p forms h.forms a, few-places p a v)
 
-  -- the strict rule is one
+  -- the strict rule is a rule of the program
   pub strict-rule : IsRule p n.rule
   strict-rule = h.rules n.rule h.inside
 
   module _ (t : ℕ) (m : RuleRows) (suits : SuitsGoals p t m) where
-    -- at the source of a rule no more than the rule has unknowns
+    -- the form at the source of a rule has at most as many coefficients as the rule has unknowns
     pub found-width : (o : Option (Bor code.Form)) → form_found o ≡ at_source p (rank_of n) t
         → length (form_found o).coefs ≤ m.unknowns
     found-width o e = go (source_of p t) refl
@@ -89,7 +89,7 @@ module _ (p : Program) (n : code_node.RankNode) (h : HasRankShape (setting_of p)
         → AreWithin m.unknowns (form_found o) (map form_of m.new_values.items)
     found-within o e = record { before = found-width o e; new_values = suits.width }
 
-  -- a certificate for the row is one for what has to be lost
+  -- a test that decides whether the row of the decrease is certified decides whether the decrease is
   pub losing-by : (t least : ℕ) (b : Bool) (goal : Row) (rows new_values : List Form) (ms : List ℕ)
       (before after : Option (Bor code.Form)) → IsTrue b ↔ Implies rows ms (form_of goal)
       → IsAlike (form_of goal) (loss (form_found before) (form_found after) new_values (pos least))
@@ -102,7 +102,7 @@ module _ (p : Program) (n : code_node.RankNode) (h : HasRankShape (setting_of p)
       (λ i. Implies (e i) ms (loss (f i) (g i) (d i) (l i)))
       (by-alike rows ms (form_of goal) (loss (form_found before) (form_found after) new_values (pos least)) b k a)
 
-  -- and one for the row of the floor is one for the floor
+  -- a test that decides whether the row of the floor is certified decides whether the floor is
   pub floor-by : (b : Bool) (goal : Row) (rows : List Form) (before : Option (Bor code.Form))
       → IsTrue b ↔ Implies rows n.floor.items (form_of goal)
       → IsAlike (form_of goal) (less (form_found before) (constant_form (pos n.den)))
@@ -117,14 +117,14 @@ module _ (p : Program) (n : code_node.RankNode) (h : HasRankShape (setting_of p)
     moves-long : length n.moves.items ≡ length n.set.items
     moves-long = sym (length-map n.moves.items (λ (v : Vec ℕ Global). v.items)) ∙ h.one_each
 
-    -- the multipliers at a position of the set are those of the rule there
+    -- the multipliers at a position of the set are those of the rule at that position
     same-moves : moves_of n.set.items (rank_of n).moves (get_or n.set.items i 0) ≡ m.items
     same-moves = moves-is n.set.items n.moves.items i m h.ascending moves-long l e
 
     pub moves-limited : IsRule p (get_or n.set.items i 0) → AreInLimit m.items
     moves-limited is = subst AreInLimit same-moves (h.moves (get_or n.set.items i 0) (in-list n.set.items i 0 l)).limit
 
-    -- so with these it loses by that rule what it has to
+    -- a test with these multipliers decides whether the function decreases as required by that rule
     pub loses-by : (b : Bool) (t : ℕ) (ms : List ℕ) → t ≡ get_or n.set.items i 0 → ms ≡ m.items
         → IsTrue b ↔ Implies ((setting_of p).rows t) ms
         (loss (at_source p (rank_of n) t) (at_target p (rank_of n) t) ((setting_of p).new_values t) (least_loss (rank_of n) t))
@@ -135,6 +135,6 @@ module _ (p : Program) (n : code_node.RankNode) (h : HasRankShape (setting_of p)
         (loss (at_source p (rank_of n) t) (at_target p (rank_of n) t) ((setting_of p).new_values t) (least_loss (rank_of n) t)))
         (o ∙ (sym same-moves ∙ ap (moves_of n.set.items (rank_of n).moves) (sym d))) k)
 
-    -- the rule at a position of the set is one
+    -- the number at a position of the set is that of a rule
     pub rule-there : IsRule p (get_or n.set.items i 0)
     rule-there = h.rules (get_or n.set.items i 0) (in-list n.set.items i 0 l)

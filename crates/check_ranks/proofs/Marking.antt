@@ -1,4 +1,4 @@
--- Symbols by their numbers: what is done, and what is left.
+-- Marking symbols by their numbers: what has been marked, and what is left.
 use Rattle.std.proofs.Common.{◌≡◌, ℕ, ◌+◌, ◌<◌, ◌||◌, Bool, true, false, cond}
 use Rattle.std.proofs.Common.{List, [], ◌∷◌, ◌++◌, length, map, filter, get_or, take, Option, Some, None}
 use Rattle.std.proofs.Common.{refl, sym, ap, ◌∙◌, arith}
@@ -16,7 +16,7 @@ use Rattle.std.proofs.lemmas.List.{append-nil}
 use Rattle.check_ranks.specs.Marks.{mark, AreMarks}
 use Rattle.cert_types.proofs.Numbers.{numbers-more}
 
--- what passes a test so far, and one number more
+-- laws for the numbers of a range that pass a test, with one more number
 module _ (test : ℕ → Bool) (a : ℕ) where
   filter-more : (n : ℕ) → filter test (range_with_len a (n + 1))
       ≡ filter test (range_with_len a n) ++ cond (test (a + n)) ((a + n) ∷ []) []
@@ -38,7 +38,7 @@ module _ (test : ℕ → Bool) (a : ℕ) where
       ∙ (ap (λ (v : Bool). filter test (range_with_len a n) ++ cond v ((a + n) ∷ []) []) (ap test (sym e) ∙ h)
       ∙ append-nil (filter test (range_with_len a n)))
 
--- what a mark says of the test
+-- a number that is marked passes the test
 pub mark-some : (b : Bool) (n m : ℕ) → Some m ≡ mark b n → (b ≡ true) × (m ≡ n)
 mark-some true n m e = (refl, cc)
 mark-some false n m e = absurd (differ e)
@@ -46,7 +46,7 @@ mark-some false n m e = absurd (differ e)
     differ : Some m ≡ None → ⊥
     differ h = cc
 
--- what has no mark doesn't pass the test
+-- a number that isn't marked doesn't pass the test
 pub mark-none : (b : Bool) (n : ℕ) → None ≡ mark b n → b ≡ false
 mark-none false n e = refl
 mark-none true n e = absurd (differ e)
@@ -54,7 +54,7 @@ mark-none true n e = absurd (differ e)
     differ : None ≡ Some n → ⊥
     differ h = cc
 
--- the symbols so far, and one number more: it is one of them, or isn't
+-- laws for the marked numbers below n, and the number n
 module _ (test : ℕ → Bool) (n : ℕ) (old : List ℕ) (kept : old ≡ filter test (range_with_len 0 n)) where
   -- where the next number is marked, it is one more of the symbols
   pub marked-pushed : (m : ℕ) (new : List ℕ) → Some m ≡ mark (test n) n → new ≡ old ++ m ∷ []
@@ -70,18 +70,18 @@ module _ (test : ℕ → Bool) (n : ℕ) (old : List ℕ) (kept : old ≡ filter
   marked-passed e =
       kept ∙ sym (filter-passed test 0 n n (let z : n ≡ 0 + n = omega arith in z) (mark-none (test n) n e))
 
--- all numbers of symbols
+-- the marked numbers below the number of symbols are the symbols of the set
 pub symbols-whole : (p : Program) (set found : List ℕ) (n : ℕ) → n ≡ length p.symbols.items
     → found ≡ filter (touches (program_of p) set) (range_with_len 0 n) → found ≡ symbols_of (program_of p) set
 symbols-whole p set found n e h =
     h ∙ ap (λ (m : ℕ). filter (touches (program_of p) set) (range_with_len 0 m))
     (let k : n ≡ length (map symbol_of p.symbols.items) = omega (arith, e, length-map p.symbols.items symbol_of) in k)
 
--- marks by one test are those by another that says the same
+-- marks by one test are marks by another test that gives the same results
 pub marks-by : (f g : ℕ → Bool) (marks : List (Option ℕ)) → ((n : ℕ) → f n ≡ g n) → AreMarks f marks → AreMarks g marks
 marks-by f g marks same kept n l = kept n l ∙ ap (λ (b : Bool). mark b n) (same n)
 
--- the symbols that the rules so far touch, and one rule more
+-- the symbols that the rules before the next one and the next one touch
 pub touches-more : (p : plain.Program) (rules : List ℕ) (i : ℕ) → i < length rules → (n : ℕ)
     → ((touches p (take i rules) n || same_symbol (Some n) (source_of p (get_or rules i 0)))
     || same_symbol (Some n) (target_of p (get_or rules i 0))) ≡ touches p (take (i + 1) rules) n

@@ -33,7 +33,7 @@ from-first test (suc n) a = go (test a) refl (weaken _ (from-first test n (a + 1
     go true e later = rw e (omega arith, later)
     go false e later = rw e later
 
--- and ascend
+-- a number less than the numbers of an ascending list, put before it, gives an ascending list
 ascending-cons : (x : ℕ) (xs : List ℕ) → AllByRecursion (λ m. x + 1 ≤ m) xs → IsAscending xs → IsAscending (x ∷ xs)
 ascending-cons x [] h k = tt
 ascending-cons x (y ∷ xs) h k = (omega (arith, h.0), k)
@@ -47,19 +47,19 @@ filtered-ascends test (suc n) a = go (test a) refl (filtered-ascends test n (a +
     go true e h = rw e (ascending-cons a (filter test (range_with_len (a + 1) n)) (from-first test n (a + 1)) h)
     go false e h = rw e h
 
--- the same for the symbols of the forms of a right shape
+-- the symbols of the forms of a ranking node with the right shape ascend
 pub shape-ascends : (s : Setting) (n : code_node.RankNode) → HasRankShape s (rank_of n)
     → IsAscending (map symbol_in n.forms.items)
 shape-ascends s n h =
     subst IsAscending (sym (shape-symbols s n h))
     (filtered-ascends (touches s.program n.set.items) (length s.program.symbols) 0)
 
--- a tail of what ascends does
+-- the rest of an ascending list ascends
 tail-ascends : (x : ℕ) (xs : List ℕ) → IsAscending (x ∷ xs) → IsAscending xs
 tail-ascends x [] h = tt
 tail-ascends x (y ∷ xs) h = h.1
 
--- each symbol is at most the next
+-- of forms with ascending symbols each has a symbol of at most the next one's
 symbols-adjacent : (fs : List code.Form) → IsAscending (map symbol_in fs)
     → AllAdjacentBelow (λ (f g : code.Form). f.symbol ≤ g.symbol) fs (length fs)
 symbols-adjacent [] h k d l = absurd (omega (arith, l))
@@ -73,7 +73,7 @@ symbols-adjacent (f ∷ g ∷ fs) h (suc k) d l =
 pub symbols-rise : (fs : List code.Form) → IsAscending (map symbol_in fs) → IsNonDecreasingBy (λ f. f.symbol) fs
 symbols-rise fs h = IsNonDecreasingBy-from_all_adjacent (λ f. f.symbol) fs (symbols-adjacent fs h)
 
--- a form at another symbol isn't the one that is looked up
+-- if the first form is at another symbol, the form at a symbol is that among the rest
 passed : (f : code.Form) (a : ℕ) (rest : Form) → ¬ (f.symbol ≡ a) → cond (f.symbol == a) (form_of f).form rest ≡ rest
 passed f a rest n = go (f.symbol == a) refl
   where
@@ -81,7 +81,7 @@ passed f a rest n = go (f.symbol == a) refl
     go true e = absurd (n (same_number-sound f.symbol a e))
     go false e = refl
 
--- behind greater symbols there is none
+-- among forms with greater symbols there is no form at this one
 rank-above : (fs : List code.Form) (a b : ℕ) → IsAscending (b ∷ map symbol_in fs) → a ≤ b
     → rank_form (map form_of fs) (Some a) ≡ constant_form (pos 0)
 rank-above [] a b h l = refl
@@ -104,7 +104,7 @@ rank-here (g ∷ fs) (suc i) f a h below l e m =
     ∙ sym (passed g a (rank_form (map form_of fs) (Some a))
     (λ k. let first : g.symbol < a = below zero g (omega arith) (omega arith) in omega (arith, k, first)))
 
--- where all have lesser symbols there is none
+-- if all forms have lesser symbols, there is no form at this one
 pub rank-past : (fs : List code.Form) (i a : ℕ) → AllWithin (λ (g : code.Form). g.symbol < a) fs 0 i → length fs ≤ i
     → constant_form (pos 0) ≡ rank_form (map form_of fs) (Some a)
 rank-past [] i a below l = refl

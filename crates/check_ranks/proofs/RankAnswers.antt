@@ -1,4 +1,4 @@
--- What is answered to a ranking node: its first check that fails, or that all pass.
+-- The answer on a ranking node: the first check that fails, or that all pass.
 use Rattle.std.proofs.Common.{◌≡◌, inl, inr, ℕ, List, [], ◌∷◌, refl, sym, ap}
 use Rattle.std.proofs.Common.{Vec}
 use Rattle.std.specs.declared.alloc.Global.{Global}
@@ -32,37 +32,37 @@ use Rattle.cert_context.specs.Needed.{HasTime, HasSize}
 use Rattle.check_ranks.specs.RankChecks.{behind_floor}
 
 module _ (s : Setting) (table : Table) (node : RankNode) where
-  -- that the function doesn't rise by a rule
+  -- the check that the function decreases as required by rule t
   abbrev check_move : ℕ → Check
   check_move t = check (Move t) (Loses s node t)
 
   abbrev from_floor : List Check
   from_floor = check Floor (HasFloor s node) ∷ behind_floor s table node
 
-  -- its shape isn't right
+  -- if the shape isn't right, the reason is `Shape`
   pub no-shape : ¬ (HasRankShape s node) → IsFirstAmong (rank_checks s table node) Shape
   no-shape n = inl (n, refl)
 
-  -- it may rise by a rule
+  -- if the function may rise by a rule, and by none before it in the set, the reason is that rule
   pub rises : HasRankShape s node → (t : ℕ) → IsFirstFailing (Loses s node) node.set t
       → IsFirstAmong (rank_checks s table node) (Move t)
   rises h t k = inr (h, first-of-each check_move from_floor node.set t k)
 
   module _ (h : HasRankShape s node) (m : AllByRecursion (Loses s node) node.set) where
-    -- it has no floor
+    -- if there is no floor, the reason is `Floor`
     pub no-floor : ¬ (HasFloor s node) → IsFirstAmong (rank_checks s table node) Floor
     no-floor n = inr (h, behind-each check_move from_floor node.set Floor m (inl (n, refl)))
 
     module _ (f : HasFloor s node) where
-      -- a check behind the floor fails
+      -- the first reason among the checks after the floor is that of the node
       pub refused : (r : Reason) → IsFirstAmong (behind_floor s table node) r → IsFirstAmong (rank_checks s table node) r
       refused r k = inr (h, behind-each check_move from_floor node.set r m (inr (f, k)))
 
-      -- or all pass
+      -- if all checks after the floor pass, all checks pass
       pub passed : AllPass (behind_floor s table node) → AllPass (rank_checks s table node)
       passed k = (h, passes_each check_move from_floor node.set m (f, k))
 
-      -- so what is answered behind the floor is the answer
+      -- the answer on the checks after the floor is the answer on the node
       pub behind : (r : Result (Vec Fact Global) NodeFault) (fs : List plain.Fact)
           → MatchResult r (λ facts. States (behind_floor s table node) fs facts) (λ e. Refuses (behind_floor s table node) e)
           → MatchResult r (λ facts. States (rank_checks s table node) fs facts) (λ e. Refuses (rank_checks s table node) e)
@@ -83,12 +83,12 @@ module _ (p : Program) (table : Table) (node : RankNode) where
   abbrev last : List Check
   last = check_small (setting_of p) (rank_time (setting_of p) node table) ∷ []
 
-  -- an entry has no time
+  -- the first entry without a time is the reason
   pub untimed : (t : ℕ) → IsFirstFailing (HasTime table) es t → IsFirstAmong (behind_floor s table node) (MissingTime t)
   untimed t k = first-of-each (check_time table) (for_each (check_size table) result_variables last) es t k
 
   module _ (m : AllByRecursion (HasTime table) es) where
-    -- a place that is read after one has no size
+    -- the first place that is read after an entry and has no size is the reason
     pub missing : (result_variable : ResultVariable) → IsFirstFailing (HasSize table) result_variables result_variable
         → IsFirstAmong (behind_floor s table node) (MissingSize result_variable.rule result_variable.place)
     missing result_variable k =
@@ -96,7 +96,7 @@ module _ (p : Program) (table : Table) (node : RankNode) where
         (first-of-each (check_size table) last result_variables result_variable k)
 
     module _ (k : AllByRecursion (HasSize table) result_variables) where
-      -- what is composed is too large
+      -- if the composed bound is too large, its number of nodes is the reason
       pub large : (n : ℕ) → TooLarge n ≡ rewritten_within (rank_time (setting_of p) node table)
           → IsFirstAmong (behind_floor s table node) (Large n)
       large n e =
@@ -104,7 +104,7 @@ module _ (p : Program) (table : Table) (node : RankNode) where
           behind-each (check_time table) (for_each (check_size table) result_variables last) es _ m
           (behind-each (check_size table) last result_variables _ k (inl (w.0, ap Large (sym w.1))))
 
-      -- or it isn't, and is stated as it is rewritten
+      -- if the composed bound is small, it is stated as it is rewritten
       pub small : (b : Bound) → Fits b ≡ rewritten_within (rank_time (setting_of p) node table)
           → AllPass (behind_floor s table node) × (b ≡ rewritten (rank_time (setting_of p) node table))
       small b e =

@@ -11,7 +11,7 @@ use Rattle.cert_types.specs.cert_rules.Composed.{rank_form}
 use Rattle.cert_types.specs.cert_rules.Limits.{IsFormInLimit, IsInLimit}
 use Rattle.cert_types.specs.cert_rules.Nodes.{SymbolForm}
 
--- the form that is 0 is within the limit
+-- the form 0 is within the limit
 none-limited : IsFormInLimit (constant_form (pos 0))
 none-limited = record { coefs = All-nil (λ (c : ℤ). IsInLimit (nat_abs c)); constant = omega arith }
 
@@ -28,7 +28,7 @@ module _ (p : Program) where
       go true later = (All-head (HasFormShape p) f forms h).limit
       go false later = later
 
-  -- and has no more coefficients than the symbol has places
+  -- the form at a symbol has at most as many coefficients as the symbol has places
   pub form-width : (forms : List SymbolForm) → All (HasFormShape p) forms → (a : ℕ)
       → length (rank_form forms (Some a)).coefs ≤ arity_of p a
   form-width [] h a = omega arith

@@ -23,7 +23,7 @@ use Rattle.cert_types.proofs.cert_rules.CheckLists.{each-in, in-each}
 use Rattle.cert_types.proofs.cert_rules.GapPoints.{first-least, rest-ascends}
 use Rattle.check_ranks.specs.RankShapes.{symbol_in, IsRankSet, HasRankNumbers}
 
--- where a form has another symbol than the one at its position, the forms aren't those of these symbols
+-- if some form has another symbol than the one at its position, the symbols of the forms are not these
 pub symbol-breaks : (fs : List Form) (ns : List ℕ) (i : ℕ) (f : Form) (n : ℕ) → i < length fs → f ≡ get_or fs i f
     → n ≡ get_or ns i n → i < length ns → f.symbol ≢ n → ¬ (map symbol_in fs ≡ ns)
 symbol-breaks [] ns i f n l e k m d h = absurd (omega (arith, l))
@@ -51,37 +51,37 @@ moves-at (u ∷ ts) (m ∷ ms) (suc i) d e a l h =
 
 module _ (set : List ℕ) (ms : List (Vec ℕ Global)) (i : ℕ) (m : Vec ℕ Global)
     (a : IsAscending set) (l : length ms ≡ length set) (h : i < length set) (e : m ≡ get_or ms i m) where
-  -- the multipliers, rule by rule
+  -- the lists of multipliers, rule by rule
   abbrev lists : List (List ℕ)
   lists = map (λ (v : Vec ℕ Global). v.items) ms
 
-  -- those of the rule at a position are the ones at that position
+  -- the multipliers of the rule at a position are those at that position
   pub moves-is : moves_of set (map (λ (v : Vec ℕ Global). v.items) ms) (get_or set i 0) ≡ m.items
   moves-is =
       moves-at set lists i 0 m.items a (length-map ms (λ (v : Vec ℕ Global). v.items) ∙ l) h
       ∙ (get_or-map (λ (v : Vec ℕ Global). v.items) ms i m ∙ ap (λ (v : Vec ℕ Global). v.items) (sym e))
 
   module _ (Q : ℕ → List ℕ → Type 0) where
-    -- one rule more has its multipliers
+    -- if the rule at the next position has its multipliers, one more rule has
     pub moves-more : All (λ t. Q t (moves_of set (map (λ (v : Vec ℕ Global). v.items) ms) t)) (take i set)
         → Q (get_or set i 0) m.items
         → All (λ t. Q t (moves_of set (map (λ (v : Vec ℕ Global). v.items) ms) t)) (take (i + 1) set)
     moves-more k q =
         All-more (λ t. Q t (moves_of set lists t)) set i 0 h k (subst (Q (get_or set i 0)) (sym moves-is) q)
 
-    -- or not all have theirs
+    -- if the rule at a position hasn't its multipliers, not all rules have
     pub moves-break : ¬ (Q (get_or set i 0) m.items)
         → ¬ (AllByRecursion (λ t. Q t (moves_of set (map (λ (v : Vec ℕ Global). v.items) ms) t)) set)
     moves-break n all =
         n (subst (Q (get_or set i 0)) moves-is (each-at (λ t. Q t (moves_of set lists t)) set i 0 h all))
 
--- the symbols of forms as plain data
+-- the symbols of plain forms are those of the code's forms
 symbols-same : (fs : List Form) → map (λ (f : SymbolForm). f.symbol) (map form_of fs) ≡ map symbol_in fs
 symbols-same [] = refl
 symbols-same (f ∷ fs) = ap (λ (ns : List ℕ). symbol_in f ∷ ns) (symbols-same fs)
 
 module _ (s : Setting) (n : code.RankNode) where
-  -- where the shape is right, so is each part of it
+  -- if the shape is right, so is each part of it
   pub shape-set : HasRankShape s (rank_of n) → IsRankSet s.program (rank_of n)
   shape-set h = record { ascending = h.ascending; rules = in-each (IsRule s.program) n.set.items h.rules; inside = h.inside }
 
@@ -102,7 +102,7 @@ module _ (s : Setting) (n : code.RankNode) where
   pub shape-forms : HasRankShape s (rank_of n) → All (HasFormShape s.program) (map form_of n.forms.items)
   shape-forms h = h.forms
 
-  -- and where each part is, so is the shape
+  -- if each part of the shape is right, the shape is
   pub shape-whole : IsRankSet s.program (rank_of n) → HasRankNumbers s (rank_of n)
       → map symbol_in n.forms.items ≡ symbols_of s.program n.set.items
       → All (HasFormShape s.program) (map form_of n.forms.items) → HasRankShape s (rank_of n)

@@ -1,4 +1,4 @@
--- The places that are read after rules: what is done, and one more.
+-- The places that are read after rules, place by place and rule by rule.
 use Rattle.std.proofs.Common.{◌≡◌, ◌≢◌, ℕ, suc, ◌+◌, ◌<◌, not, List, [], ◌∷◌, ◌++◌, length, map, filter, get_or, take}
 use Rattle.std.proofs.Common.{refl, sym, ap, ◌∙◌, arith}
 use Rattle.std.specs.Prelude.{ℤ, pos}
@@ -14,12 +14,12 @@ use Rattle.cert_context.proofs.Cuts.{done-more}
 use Rattle.check_ranks.proofs.Marking.{filter-pushed, filter-passed}
 
 module _ (coefs : List ℤ) (e : ℕ) where
-  -- those among the first so many
+  -- the places that are read among the first n
   abbrev pub read_among : ℕ → List ResultVariable
   read_among n = result_variables_after e (filter (λ j. not (is_zero (at coefs j))) (range_with_len 0 n))
 
   module _ (i : ℕ) (first old : List ResultVariable) (done : old ≡ first ++ read_among i) where
-    -- a place whose coefficient isn't 0 is one more
+    -- a place whose coefficient isn't 0 is one more that is read
     pub read-pushed : (new : List ResultVariable) (x : ResultVariable) → new ≡ old ++ x ∷ [] → x ≡ record { rule = e; place = suc i }
         → at coefs i ≢ pos 0 → new ≡ first ++ read_among (i + 1)
     read-pushed new x k d n =
@@ -31,7 +31,7 @@ module _ (coefs : List ℤ) (e : ℕ) where
         (filter-pushed (λ j. not (is_zero (at coefs j))) 0 i i (let z : i ≡ 0 + i = omega arith in z) (not_zero-complete (at coefs i) n))
         ∙ map-append (λ (j : ℕ). record { rule = e; place = suc j }) (filter (λ j. not (is_zero (at coefs j))) (range_with_len 0 i)) (i ∷ [])))
 
-    -- one whose coefficient is 0 isn't read
+    -- a place whose coefficient is 0 isn't read
     pub read-passed : at coefs i ≡ pos 0 → old ≡ first ++ read_among (i + 1)
     read-passed z =
         done
@@ -39,7 +39,7 @@ module _ (coefs : List ℤ) (e : ℕ) where
         (sym (ap (result_variables_after e)
         (filter-passed (λ j. not (is_zero (at coefs j))) 0 i i (let k : i ≡ 0 + i = omega arith in k) (ap (λ (c : ℤ). not (is_zero c)) z))))
 
--- those after one rule more
+-- the places that are read after one more rule are those so far and those after that rule
 pub needed-more : (s : Setting) (node : RankNode) (es : List ℕ) (i : ℕ) → i < length es
     → needed_after_each s node (take (i + 1) es) ≡ needed_after_each s node (take i es) ++ needed_after s node (get_or es i 0)
 needed-more s node es i l = ap (needed_after_each s node) (more es i l) ∙ append (take i es)

@@ -1,8 +1,8 @@
--- numbers that are marked
+-- flags for numbers
 pub mod Marks
 -- the shape of ranking nodes
 pub mod RankShapes
--- what is lost by a rule
+-- the decrease by a rule
 pub mod Goals
--- checks behind the floor
+-- the checks after that of the floor
 pub mod RankChecks

@@ -1,4 +1,4 @@
--- The checks of a ranking node behind its floor, and the places that a form reads.
+-- The checks of a ranking node after that of its floor, and the places that a form reads.
 use Rattle.std.specs.Prelude.{ℕ, not, List, [], ◌∷◌, length, filter, ℤ}
 use Rattle.std.specs.List.{range_with_len}
 use Rattle.model.specs.Entries.{entries}
@@ -11,11 +11,11 @@ use Rattle.cert_types.specs.cert_rules.Nodes.{RankNode, ResultVariable}
 use Rattle.cert_types.specs.cert_rules.Reasons.{Check, for_each}
 use Rattle.cert_types.specs.cert_rules.Setting.{Setting}
 
--- the places that are read after a rule, whose coefficients aren't 0, ascending
+-- the places after a rule at which the coefficients aren't 0, ascending
 abbrev pub read_after : List ℤ → ℕ → List ResultVariable
 read_after coefs e = result_variables_after e (filter (λ j. not (is_zero (at coefs j))) (range_with_len 0 (length coefs)))
 
--- each entry has a time, and a size at each place that the function reads after it; and what is composed is small
+-- each entry has a time, and a size at each place that the function reads after it; and the composed bound is small
 abbrev pub behind_floor : Setting → Table → RankNode → List Check
 behind_floor s table node =
     for_each (check_time table) (entries s.program node.set)

@@ -1,4 +1,4 @@
-//! Forms of a ranking function, looked up by their symbols.
+//! Looks up the forms of a ranking function by their symbols.
 
 ghost use Rattle.std.specs.Prelude.{◌≡◌, ◌<◌, ◌≤◌, ◌==◌, cond, length, map, pos};
 ghost use Rattle.std.specs.List.{AllWithin};
@@ -12,7 +12,8 @@ ghost use Rattle.cert_types.specs.cert_rules.Numbers.{IsAscending};
 
 use cert_types::Form;
 
-/// The form at a symbol, where there is one, of forms whose symbols ascend. The time is logarithmic in their number.
+/// The form at a symbol, if there is one, of forms whose symbols ascend. The running time is logarithmic in their
+/// number.
 pub(crate) fn form_at(forms: &[Form], symbol: Option<u32>) -> Option<&Form>
     requires { IsAscending (map symbol_in forms.now) }
     ensures { form_found result ≡ rank_form (map form_of forms.now) symbol }
@@ -27,7 +28,7 @@ pub(crate) fn form_at(forms: &[Form], symbol: Option<u32>) -> Option<&Form>
     form_if(&forms[below], number)
 }
 
-// A form, where it is at this symbol.
+// The form, if it is at this symbol.
 fn form_if(form: &Form, symbol: u32) -> Option<&Form>
     ensures { form_found result ≡ cond (form.now.symbol == symbol) (form_of form.now).form (constant_form (pos 0)) }
 {
@@ -38,7 +39,7 @@ fn form_if(form: &Form, symbol: u32) -> Option<&Form>
     }
 }
 
-// How many of the forms are at symbols below this one.
+// The number of forms at symbols below this one.
 fn forms_below(forms: &[Form], symbol: u32) -> usize
     requires { IsNonDecreasingBy (λ f. f.symbol) forms.now }
     ensures bound { result ≤ length forms.now }

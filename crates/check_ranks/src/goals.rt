@@ -1,4 +1,4 @@
-//! The decrease of a ranking function by a rule, as a row.
+//! Rows for the checks of a ranking function: its decrease by a rule, and its floor.
 
 ghost use Rattle.std.specs.Prelude.{◌≡◌, ◌+◌, ◌*◌, ◌^◌, ◌≤◌, ◌-ℤ◌, length, map, pos, IfOk, unsigned_abs, nat_abs};
 ghost use Rattle.std.specs.List.{All};
@@ -22,7 +22,7 @@ use model::Memory;
 use poly_terms::Row;
 use std::alloc::Global;
 
-// The number of a form of a ranking function in a column.
+// The entry of a form of a ranking function in a column.
 fn number_at(form: &Form, column: Column) -> i64
     ensures { result ≡ number_in column (form_at_symbol form.now).form }
 {
@@ -32,7 +32,7 @@ fn number_at(form: &Form, column: Column) -> i64
     }
 }
 
-// The same where there is one; where there is no form, 0.
+// The entry of a form in a column, or 0 if there is no form.
 fn number_of(form: Option<&Form>, column: Column) -> i64
     ensures { result ≡ number_in column (form_found form.entry) }
 {
@@ -42,14 +42,14 @@ fn number_of(form: Option<&Form>, column: Column) -> i64
     }
 }
 
-// The same in more bits.
+// The entry of a form in a column, or 0, in 128 bits.
 fn wide_number(form: Option<&Form>, column: Column) -> i128
     ensures { result ≡ number_in column (form_found form.entry) }
 {
     i128::from(number_of(form, column))
 }
 
-// A column of the new values, each number times the coefficient of its place.
+// The column of the new values combined: the sum of each new value's entry times the coefficient of its place.
 fn combined(new_values: &[Row], coefs: &[i64], column: Column) -> i128
     requires few { length new_values.now ≤ 32 }
     requires new_values { All HasRowNumbers (map form_of new_values.now) }
@@ -64,7 +64,7 @@ fn combined(new_values: &[Row], coefs: &[i64], column: Column) -> i128
     sum
 }
 
-/// The coefficients of a form; where there is none, none.
+/// The coefficients of a form, or none if there is no form.
 pub(crate) fn coefs_of(form: Option<&Form>) -> &[i64]
     ensures { result.now ≡ (form_found form.entry).coefs }
 {
@@ -74,7 +74,7 @@ pub(crate) fn coefs_of(form: Option<&Form>) -> &[i64]
     }
 }
 
-// A number less another.
+// The difference of two numbers.
 fn difference(first: i128, second: i128) -> i128
     requires first_small { unsigned_abs first ≤ 2 ^ 125 }
     requires second_small { unsigned_abs second ≤ 2 ^ 124 }
@@ -83,7 +83,8 @@ fn difference(first: i128, second: i128) -> i128
     first - second
 }
 
-// A column of the decrease: the form before the rule, minus that after it at the new values.
+// The entry of the decrease in a column: that of the form before the rule, minus that of the form after it at the new
+// values.
 fn lost(before: Option<&Form>, after: Option<&Form>, new_values: &[Row], column: Column) -> i128
     requires before { IsFormInLimit (form_found before) }
     requires after { IsFormInLimit (form_found after) }
@@ -99,8 +100,8 @@ fn lost(before: Option<&Form>, after: Option<&Form>, new_values: &[Row], column:
     )
 }
 
-/// The decrease by a rule, less the least permitted one, as a row: the form before the rule, less that after it at the
-/// new values of the rule's prepared rows.
+/// The decrease by a rule, less the least permitted decrease, as a row: the form before the rule, less the form after
+/// it at the new values of the rule's prepared rows.
 ///
 /// # Errors
 ///
@@ -132,7 +133,7 @@ pub(crate) fn loss_row(
     Ok(Row { coefs, constant })
 }
 
-// The decrease at each of this many unknowns.
+// The coefficients of the decrease at this many unknowns.
 fn lost_coefs(
     alloc: Global,
     width: usize,
@@ -155,7 +156,7 @@ fn lost_coefs(
     Ok(coefs)
 }
 
-// The decrease in the column of constants, minus the least permitted one.
+// The constant of the decrease, minus the least permitted decrease.
 fn lost_constant(
     before: Option<&Form>,
     after: Option<&Form>,
@@ -209,7 +210,7 @@ fn floor_constant(form: Option<&Form>, least: u64) -> i128
     )
 }
 
-// The coefficients of this many unknowns.
+// The coefficients of a form at this many unknowns.
 fn own_coefs(alloc: Global, width: usize, form: Option<&Form>) -> Result<Vec<i128>, Memory>
     requires { IsFormInLimit (form_found form) }
     ensures { IfOk result (λ coefs. HasColumns (at (form_found form.entry).coefs) width coefs.items) }

@@ -1,4 +1,4 @@
-//! Checks that a ranking function decreases by the rules of its set as it must, and has a floor.
+//! Checks that a ranking function decreases as required by the rules of its set, and that it has a floor.
 
 ghost use Rattle.std.specs.Prelude.{◌≡◌, ◌↔◌, ◌<◌, length, pos, IfOk, IsTrue, MatchOption, slice_index_or};
 ghost use Rattle.std.specs.List.{AllByRecursion};
@@ -29,7 +29,7 @@ fn least_of(node: &RankNode, rule: u32) -> u64
     if rule == node.rule { node.den } else { 0 }
 }
 
-// Whether the function decreases by a rule as it must, as these multipliers certify.
+// Whether the function decreases as required by a rule, as these multipliers certify.
 fn is_losing(
     alloc: Global,
     context: &CheckContext,
@@ -54,7 +54,7 @@ fn is_losing(
     Ok(implies(&rows.rows, moves, &goal))
 }
 
-// Whether it does by the rule at a position of its set.
+// Whether the function decreases as required by the rule at a position of its set.
 fn loses_at(
     alloc: Global,
     context: &CheckContext,
@@ -76,7 +76,7 @@ fn loses_at(
     )
 }
 
-/// The first rule of the set by which the function may decrease less than it has to.
+/// The first rule of the set by which the decrease isn't certified as required.
 ///
 /// # Errors
 ///

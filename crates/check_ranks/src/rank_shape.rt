@@ -50,7 +50,7 @@ fn have_form_shapes(p: &Program, forms: &[Form]) -> bool
     true
 }
 
-// Whether the forms are those of these symbols, in order.
+// Whether the symbols of the forms are these, in order.
 fn are_of(forms: &[Form], symbols: &[u32]) -> bool
     ensures { IsTrue result ↔ (map symbol_in forms.now ≡ symbols.now) }
 {
@@ -65,7 +65,7 @@ fn are_of(forms: &[Form], symbols: &[u32]) -> bool
     true
 }
 
-// Whether there are multipliers for each rule of a set.
+// Whether there are multipliers for each rule of a set, one for each of its rows.
 fn are_moves(context: &CheckContext, set: &[u32], moves: &[Vec<u64>]) -> bool
     requires context { IsCheckContext context.now }
     requires ascending { IsAscending set.now }
@@ -84,7 +84,7 @@ fn are_moves(context: &CheckContext, set: &[u32], moves: &[Vec<u64>]) -> bool
     true
 }
 
-// Whether the multipliers and the denominator of a node are right whose set is.
+// Whether the multipliers and the denominator of a node are right, if its set is.
 fn has_numbers(context: &CheckContext, node: &RankNode) -> bool
     requires context { IsCheckContext context.now }
     requires set { IsRankSet (program context.now) (rank_of node.now) }

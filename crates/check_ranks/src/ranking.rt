@@ -49,8 +49,8 @@ pub fn rank_facts<K: Known>(
     time_facts(alloc, context, node, known)
 }
 
-// The time that a node states whose function decreases: each entry needs a time, and a size at each place that the
-// function reads after it.
+// The time that a node states whose function decreases as required. Each entry needs a time, and a size at each place
+// that the function reads after it.
 fn time_facts<K: Known>(
     alloc: Global,
     context: &CheckContext,

@@ -25,7 +25,7 @@ fn result_variable_at(rule: u32, position: usize) -> ResultVariable
     }
 }
 
-// Appends the places after a rule whose coefficients aren't 0.
+// Appends the places after a rule at which the coefficients aren't 0.
 fn push_read(
     result_variables: &mut Vec<ResultVariable>,
     coefs: &[i64],
@@ -43,7 +43,7 @@ fn push_read(
     Ok(())
 }
 
-/// The places that the function reads after these entries.
+/// The places that the function reads after these entries, in order.
 ///
 /// # Errors
 ///

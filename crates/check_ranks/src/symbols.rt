@@ -13,7 +13,7 @@ use its_model::Program;
 use model::Memory;
 use std::alloc::Global;
 
-/// The sources and targets of the rules of the set, in order. The time is linear in symbols and rules.
+/// The sources and targets of the rules of the set, in order. The running time is linear in symbols and rules.
 pub(crate) fn symbols_of_set(alloc: Global, p: &Program, set: &[u32]) -> Result<Vec<u32>, Memory>
     ensures { IfOk result (λ symbols. symbols.items ≡ symbols_of (program_of p.now) set.now) }
 {
@@ -25,14 +25,14 @@ pub(crate) fn symbols_of_set(alloc: Global, p: &Program, set: &[u32]) -> Result<
     marked(alloc, &marks)
 }
 
-// No symbol has a mark.
+// A mark for each symbol, none of them set.
 fn no_marks(alloc: Global, count: usize) -> Result<Vec<Option<u32>>, Memory>
     ensures { IfOk result (λ marks. marks.items ≡ replicate count None) }
 {
     Ok(vec![in alloc; None; count]?)
 }
 
-// Marks a symbol by its own number, where there is one that has a place.
+// Marks a symbol by its own number, if there is one that has a mark.
 fn mark_symbol(marks: &mut Vec<Option<u32>>, symbol: Option<u32>)
     ensures one_each { length marks.new.items ≡ length marks.old.items }
     ensures marks { (test : ℕ → Bool) → AreMarks test marks.old.items

@@ -1,4 +1,4 @@
--- What is answered to a node on a cost: what it states, or its first check that fails.
+-- The answer on a node on a cost: the fact that it states, or its first check that fails.
 use Rattle.std.proofs.Common.{◌≡◌, inl, inr, ℕ, true, false, List, [], ◌∷◌, Option, Some, None, refl, sym, ap, ◌∙◌, Vec}
 use Rattle.std.specs.List.{AllByRecursion}
 use Rattle.std.specs.declared.alloc.Global.{Global}
@@ -28,7 +28,7 @@ use Rattle.cert_context.specs.Needed.{HasSize}
 use Rattle.check_sizes.specs.CostAnswers.{ComposesCost}
 
 module _ (s : Setting) (table : Table) (t : ℕ) where
-  -- cost rows without a point cost nothing
+  -- if the cost rows have no point, the cost 0 is stated
   pub free : (ms : List ℕ) → Implies (s.cost_rows t) ms minus_one → ComposesCost s table t (EmptyCost ms) (Constant 0)
   free ms h = record { passed = (h, tt); result_is = refl }
 
@@ -36,7 +36,7 @@ module _ (s : Setting) (table : Table) (t : ℕ) where
       → IsFirstAmong (cost_checks_by s table t (EmptyCost ms)) NotEmpty
   not-free ms n = inl (n, refl)
 
-  -- the same for a rule that is known never to run
+  -- if the rule is known never to run, the cost 0 is stated
   pub unused : (b : Bound) → Some b ≡ table.time t → is_zero_bound b ≡ true → ComposesCost s table t NeverCost (Constant 0)
   unused b e z = record { passed = ((b, sym e), (ap (λ (o : Option Bound). is_zero_bound (known o)) (sym e) ∙ z, tt)); result_is = refl }
 
@@ -47,7 +47,7 @@ module _ (s : Setting) (table : Table) (t : ℕ) where
       differ : false ≡ true → ⊥
       differ h = cc
 
-  -- where no time is known, none is
+  -- an absent time isn't known
   pub no-time : None ≡ table.time t → ¬ (IsKnown (table.time t))
   no-time e k = differ k.0 (e ∙ k.1)
     where
@@ -61,7 +61,8 @@ module _ (p : Program) (table : Table) (t : ℕ) (side_bound : SideBound) where
   abbrev result_variables : List ResultVariable
   result_variables = needed_at_cost (setting_of p) t side_bound (pre p t)
 
-  -- a side bound isn't accepted; its rule has no time; a place that it reads has no size; what is composed is too large
+  -- the first reason of a cost by a side bound: it isn't accepted; its rule has no time; a place that it reads has no
+  -- size; or the composed bound is too large
   pub no-side_bound : ¬ (AcceptsCostSideBound (setting_of p) t side_bound) → IsFirstAmong (cost_checks_by (setting_of p) table t (SideBoundCost side_bound)) (SideBoundUp t 0)
   no-side_bound n = inl (n, refl)
 
@@ -81,7 +82,7 @@ module _ (p : Program) (table : Table) (t : ℕ) (side_bound : SideBound) where
             let w = (small-bounds.large (side_bound_cost (setting_of p) table t side_bound) n).0 (sym e) in
             inr (up, inr (time, behind-each (check_size table) _ result_variables _ sizes (inl (w.0, ap Large (sym w.1)))))
 
-        -- or the cost is stated as it is rewritten
+        -- if the composed cost is small, it is stated as it is rewritten
         pub side_bound-small : (b : Bound) → Fits b ≡ rewritten_within (side_bound_cost (setting_of p) table t side_bound)
             → ComposesCost (setting_of p) table t (SideBoundCost side_bound) b
         side_bound-small b e =
@@ -89,11 +90,11 @@ module _ (p : Program) (table : Table) (t : ℕ) (side_bound : SideBound) where
             record { passed = (up, (time, passes_each (check_size table) _ result_variables sizes (w.0, tt))); result_is = w.1 }
 
 module _ (s : Setting) (table : Table) (n : CostNode) where
-  -- the shape isn't right
+  -- if the shape isn't right, the reason is `Shape`
   pub cost-shape : ¬ (HasCostShape s n) → IsFirstAmong (cost_checks s table n) Shape
   cost-shape k = inl (k, refl)
 
-  -- or it is, and what is answered behind it is the answer
+  -- if the shape is right, the answer on how the cost is shown is the answer on the node
   pub cost-behind : HasCostShape s n → (facts : Vec Fact Global) (b : Bound) → ComposesCost s table n.rule n.by b
       → facts_of facts.items ≡ Cost n.rule b ∷ []
       → States (cost_checks s table n) (Cost n.rule (node_cost s table n) ∷ []) facts

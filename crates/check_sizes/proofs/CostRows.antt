@@ -1,4 +1,5 @@
--- What is prepared of the cost rule of a rule is what its setting has of the cost, and its side bounds can be read.
+-- The prepared rows of a cost rule are those that the program's setting has of the cost, and its side bounds can be
+-- read as bounds.
 use Rattle.std.proofs.Common.{◌≡◌, ℕ, zero, suc, ◌+◌, [], ◌∷◌, length, Option}
 use Rattle.std.proofs.Common.{refl, sym, ap, ◌∙◌, arith}
 use Rattle.std.proofs.lemmas.List.{length-map}
@@ -28,12 +29,12 @@ use Rattle.check_sizes.specs.Costs.{HasNumbersBy}
 use Rattle.check_sizes.proofs.SideBoundsOver.{numbers-shape, shape-numbers}
 
 module _ (p : Program) (t : ℕ) (m : RuleRows) (h : IsPreparedCostRule p t m) where
-  -- the update at a position is the cost at the only place
+  -- the update at a position of a cost rule is the cost at the only place
   only : (q : Polynomial) (i : ℕ) → nonlinear_at (q ∷ []) i ≡ only_place (nonlinear_at (q ∷ []) 0) i
   only q zero = refl
   only q (suc i) = refl
 
-  -- the prepared rows are those that the costs have of the rule
+  -- the prepared rows are those that the setting of the costs has for the rule
   pub cost-own : IsPreparedRuleOf (costs_of (setting_of p)) t m
   cost-own = record {
     rows = ap (λ (x : Prepared). x.rows) h.same ∙ sym (ap rows_in (cost-rule-is p t h.costs));
@@ -46,11 +47,11 @@ module _ (p : Program) (t : ℕ) (m : RuleRows) (h : IsPreparedCostRule p t m) w
     left = cost-lefts p t m h;
   }
 
-  -- and suits certificates
+  -- the prepared rows of a cost rule suit side bounds
   pub cost-side_bounds : IsValid p → SuitsSideBounds m
   cost-side_bounds v = suits-side_bounds (cost_rule h.costs.rule h.costs.cost) m (cost-rule-fits p t h.costs v) h.same
 
-  -- the numbers that certify the cost are right for the prepared rows where they are right for the costs
+  -- there are as many prepared rows as the setting of the costs has for the rule
   rows-count : length m.rows.items ≡ length ((costs_of (setting_of p)).rows t)
   rows-count = sym (length-map m.rows.items form_of) ∙ ap length cost-own.rows
 
@@ -64,7 +65,7 @@ module _ (p : Program) (t : ℕ) (m : RuleRows) (h : IsPreparedCostRule p t m) w
   numbers-by plain.NeverCost k = tt
   numbers-by (plain.SideBoundCost side_bound) k = shape-numbers (costs_of (setting_of p)) t m cost-own side_bound k
 
-  -- a side bound with the right numbers can be read
+  -- a side bound with numbers of the right shape can be read as a bound
   pub cost-readable : IsValid p → (side_bound : SideBound)
       → HasSideBoundNumbers (length m.rows.items) m.left (side_bound_of side_bound) → IsReadable side_bound
   cost-readable v (side_bounds.Linear den coefs constant multipliers) k = (k.over, omega (arith, k.long, cost-left p t m h v))

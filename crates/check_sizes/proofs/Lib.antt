@@ -1,11 +1,11 @@
--- what side bounds ask for
+-- The goals of side bounds.
 mod SideBoundGoals
 -- side bounds over prepared rows
 mod SideBoundsOver
 -- members
 mod MemberShapes
--- what is answered to nodes on sizes
+-- the answers on nodes on sizes
 mod SizedNodes
--- costs
+-- the rows of costs, and the answers on costs
 mod CostRows
 mod CostAnswers

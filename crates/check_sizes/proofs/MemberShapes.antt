@@ -17,16 +17,16 @@ module _ (p : Program) (result_variable : ResultVariable) where
   pub result_variable-is : (r : Rule) → rule_at p result_variable.rule ≡ Some r → 1 ≤ result_variable.place → result_variable.place ≤ arity_of p r.target → IsResultVariable p result_variable
   result_variable-is r e l m = record { rule = r; numbered = e; least = l; most = m }
 
-  -- no other is
+  -- no other number is a place of the target of its rule
   pub result_variable-most : (r : Rule) → rule_at p result_variable.rule ≡ Some r → IsResultVariable p result_variable → result_variable.place ≤ arity_of p r.target
   result_variable-most r e h =
       subst (λ (q : Rule). result_variable.place ≤ arity_of p q.target) (some-same h.rule r (sym h.numbered ∙ e)) h.most
 
-  -- its rule is one
+  -- the rule of a result variable is a rule of the program
   pub result_variable-rule : IsResultVariable p result_variable → IsRule p result_variable.rule
   result_variable-rule h = record { rule = h.rule; numbered = h.numbered }
 
--- members ascend where each comes before the next
+-- members ascend if each comes before the next
 pub ascend-from : (ms : List Member)
     → ((k : ℕ) (d : Member) → suc k < length ms → ComesBefore (result_variable_of (get_or ms k d).result_variable) (result_variable_of (get_or ms (suc k) d).result_variable))
     → AreAscending (map member_of ms)
@@ -35,7 +35,7 @@ ascend-from (m ∷ []) h = tt
 ascend-from (m ∷ n ∷ rest) h =
     (h 0 m (omega arith), ascend-from (n ∷ rest) (λ k d l. h (suc k) d (omega (arith, l))))
 
--- so each does
+-- of ascending members each comes before the next
 pub ascend-at : (ms : List Member) (k : ℕ) (d : Member) → AreAscending (map member_of ms) → suc k < length ms
     → ComesBefore (result_variable_of (get_or ms k d).result_variable) (result_variable_of (get_or ms (suc k) d).result_variable)
 ascend-at [] k d a l = absurd (omega (arith, l))
@@ -43,7 +43,7 @@ ascend-at (m ∷ []) k d a l = absurd (omega (arith, l))
 ascend-at (m ∷ n ∷ rest) zero d a l = a.0
 ascend-at (m ∷ n ∷ rest) (suc k) d a l = ascend-at (n ∷ rest) k d a.1 (omega (arith, l))
 
--- a member comes before the one behind it
+-- of ascending members each comes before the one at the next position
 pub next-at : (ms : List Member) (i : ℕ) (a b : Member) → AreAscending (map member_of ms) → 1 ≤ i → i < length ms
     → a ≡ get_or ms (i - 1) a → b ≡ get_or ms i b → ComesBefore (result_variable_of a.result_variable) (result_variable_of b.result_variable)
 next-at ms zero a b h l m e f = absurd (omega (arith, l))
@@ -53,7 +53,7 @@ next-at ms (suc k) a b h l m e f =
     (subst (λ (y : Member). ComesBefore (result_variable_of (get_or ms k a).result_variable) (result_variable_of y.result_variable))
     (get_or_default ms (suc k) a b m ∙ sym f) (ascend-at ms k a h m))
 
--- where the members so far ascend, so do they with the next
+-- if the members so far ascend, and the last comes before the next, they ascend with the next
 pub ascend-more : (ms : List Member) (i : ℕ) (a b : Member) → 1 ≤ i → i < length ms → a ≡ get_or ms (i - 1) a
     → b ≡ get_or ms i b
     → ((k : ℕ) (d : Member) → suc k < i → ComesBefore (result_variable_of (get_or ms k d).result_variable) (result_variable_of (get_or ms (suc k) d).result_variable))
@@ -81,7 +81,7 @@ target-is p zero r e = absurd (none e)
 target-is p (suc t) r e = ap target_in e
 
 module _ (p : Program) (result_variable : ResultVariable) (is : IsRule p result_variable.rule) where
-  -- a result variable of a rule with this target is a place of it, and no other is
+  -- a result variable of a rule with this target is a place of it, and no other number is
   pub result_variable-at : (target : ℕ) → Some target ≡ target_of p result_variable.rule → (1 ≤ result_variable.place) × (result_variable.place ≤ arity_of p target)
       → IsResultVariable p result_variable
   result_variable-at target e h =
@@ -97,14 +97,14 @@ module _ (p : Program) (result_variable : ResultVariable) (is : IsRule p result_
         (some-same h.rule.target target (sym (e ∙ target-is p result_variable.rule h.rule h.numbered))) h.most,
   )
 
-  -- each rule has one
+  -- a rule of the program has a target
   pub no-target : None ≡ target_of p result_variable.rule → ⊥
   no-target e = differ (e ∙ target-is p result_variable.rule is.rule is.numbered)
     where
       differ : None ≡ Some is.rule.target → ⊥
       differ k = cc
 
--- where the list isn't empty, there are members
+-- a list of members that isn't empty has at least one
 pub some-there : (ms : List Member) → nat_eq (length ms) 0 ≡ false → 1 ≤ length (map member_of ms)
 some-there [] e = absurd (let no : ⊥ = cc in no)
 some-there (m ∷ ms) e = omega arith

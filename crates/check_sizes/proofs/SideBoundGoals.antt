@@ -1,4 +1,4 @@
--- What a side bound asks of the rows of a rule, column by column.
+-- The goal of a side bound, column by column.
 use Rattle.std.proofs.Common.{◌≡◌, ℕ, ◌<◌, ◌≤◌, List, length, sym, ap, ◌∙◌, arith, ◌⊎◌, inl, inr}
 use Rattle.std.specs.Prelude.{ℤ, pos, neg_ℤ, ◌+ℤ◌, ◌*ℤ◌}
 use Rattle.std.proofs.lemmas.Bool.{cases_lt as order}
@@ -13,11 +13,11 @@ use Rattle.cert_context.specs.Columns.{number_in, IsAlike, HasColumns}
 use Rattle.cert_context.proofs.FormColumns.{at-past, sum-column, times-column}
 use Rattle.check_sizes.specs.SideBounds.{factor_of}
 
--- a column of a form, and of another times a factor
+-- the entry of a form plus another form times a factor
 times-right : (c : Column) (k : ℤ) (f v : Form) → number_in c f +ℤ number_in c (form_times k v) ≡ number_in c f +ℤ (number_in c v *ℤ k)
 times-right c k f v = ap (λ (x : ℤ). number_in c f +ℤ x) (times-column c k v ∙ mul_comm_ℤ k (number_in c v))
 
--- a column of what is to be at least 0
+-- the entry of the goal of a side bound in a column
 goal-column : (c : Column) (s : Side) (den : ℕ) (f v : Form)
     → number_in c (side_bound_goal s den f v) ≡ number_in c f +ℤ (number_in c v *ℤ factor_of s den)
 goal-column c Up den f v = sum-column c f (form_times (neg_ℤ (pos den)) v) ∙ times-right c (neg_ℤ (pos den)) f v
@@ -26,7 +26,7 @@ goal-column c Low den f v = sum-column c f (form_times (pos den) v) ∙ times-ri
 zero-mul : (b : ℤ) → pos 0 *ℤ b ≡ pos 0
 zero-mul b = omega (arith, ints)
 
--- a row with these columns, and the constant, is what is to be at least 0
+-- a row with these entries and this constant is the goal of the side bound
 pub side_bound-row : (w : ℕ) (s : Side) (den : ℕ) (f v : Form) (xs : List ℤ) (c : ℤ) → length f.coefs ≤ w → length v.coefs ≤ w
     → HasColumns (λ u. at f.coefs u +ℤ (at v.coefs u *ℤ factor_of s den)) w xs
     → c ≡ f.constant +ℤ (v.constant *ℤ factor_of s den) → IsAlike (record { coefs = xs; constant = c }) (side_bound_goal s den f v)

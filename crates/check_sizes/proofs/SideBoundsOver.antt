@@ -1,4 +1,4 @@
--- Arms over the prepared rows of a rule are those that a setting accepts at the rule.
+-- A side bound over the prepared rows of a rule is accepted exactly if the setting accepts it at the rule.
 use Rattle.std.specs.Bool.{IsTrue}
 use Rattle.std.proofs.Common.{◌≡◌, ◌↔◌, ℕ, zero, suc, ◌-◌, ◌≤◌, ◌<◌, Bool, List, [], ◌∷◌, length, get_or, map, Option, Some, None, refl, sym, ap, ◌∙◌, subst, arith}
 use Rattle.std.proofs.lemmas.List.{length-map}
@@ -24,7 +24,7 @@ module _ (s : Setting) (t : ℕ) (m : RuleRows) (own : IsPreparedRuleOf s t m) w
   rows-count : length m.rows.items ≡ length (s.rows t)
   rows-count = sym (length-map m.rows.items form_of) ∙ ap length own.rows
 
-  -- the numbers of a side bound are right for the rows and left places of a rule where its shape is
+  -- the numbers of a side bound have the right shape for the rule exactly if they have it for its rows and left places
   pub numbers-shape : (side_bound : SideBound) → HasSideBoundNumbers (length m.rows.items) m.left side_bound → HasSideBoundShape s t (left_of s.program t) side_bound
   numbers-shape (Linear den f ms) h = record {
     over = h.over;
@@ -47,7 +47,7 @@ module _ (s : Setting) (t : ℕ) (m : RuleRows) (own : IsPreparedRuleOf s t m) w
   shape-numbers Poly h = tt
 
   module _ (place : ℕ) (l : 1 ≤ place) where
-    -- the update at the place, where it has degree 2 or more
+    -- the update at the place, if it has degree 2 or more, is that of the setting
     update-is : nonlinear_at (map poly_of m.polys.items) (place - 1) ≡ poly_in s t place
     update-is = own.polys (place - 1) ∙ go place l
       where
@@ -55,7 +55,7 @@ module _ (s : Setting) (t : ℕ) (m : RuleRows) (own : IsPreparedRuleOf s t m) w
         go zero k = absurd (omega (arith, k))
         go (suc i) k = ap (s.poly t) (let z : suc i - 1 ≡ i = omega arith in z)
 
-    -- what is implied over the rows is accepted
+    -- a side bound that is certified over the prepared rows is accepted
     pub over-accepted : (side : Side) (side_bound : SideBound) → IsSideBoundOver m place side side_bound
         → AcceptsSideBound s (record { rule = t; place = place }) side side_bound
     over-accepted side (Linear den f ms) h =
@@ -71,7 +71,7 @@ module _ (s : Setting) (t : ℕ) (m : RuleRows) (own : IsPreparedRuleOf s t m) w
           left_alone = subst (λ (n : ℕ). ReadsLeft n q) own.left k;
         }
 
-    -- and the other way round
+    -- a side bound that is accepted is certified over the prepared rows
     pub accepted-over : (side : Side) (side_bound : SideBound) → AcceptsSideBound s (record { rule = t; place = place }) side side_bound
         → IsSideBoundOver m place side side_bound
     accepted-over side (Linear den f ms) h =
@@ -81,18 +81,18 @@ module _ (s : Setting) (t : ℕ) (m : RuleRows) (own : IsPreparedRuleOf s t m) w
         subst (IsLeftAlone m.left) (sym (update-is ∙ h.nonlinear))
         (subst (λ (n : ℕ). ReadsLeft n h.polynomial) (sym own.left) h.left_alone)
 
-    -- so a test of one is a test of the other
+    -- a test that decides whether a side bound is certified decides whether it is accepted
     pub side_bound-test : (side : Side) (side_bound : SideBound) (b : Bool) → IsTrue b ↔ IsSideBoundOver m place side side_bound
         → IsTrue b ↔ AcceptsSideBound s (record { rule = t; place = place }) side side_bound
     side_bound-test side side_bound b h = (λ e. over-accepted side side_bound (h.0 e), λ k. h.1 (accepted-over side side_bound k))
 
--- the new value at a position
+-- the new value at a position is that of the row there
 pub new-there : (rs : List Row) (i : ℕ) (r : Row) → i < length rs → r ≡ get_or rs i r → form_at (map form_of rs) i ≡ form_of r
 new-there [] i r l e = absurd (omega (arith, l))
 new-there (x ∷ rs) zero r l e = ap form_of (sym e)
 new-there (x ∷ rs) (suc i) r l e = new-there rs i r (omega (arith, l)) e
 
--- has small numbers, and few coefficients
+-- the new value at a position has small numbers and few coefficients
 pub new-suits : (m : RuleRows) (i : ℕ) (r : Row) → SuitsSideBounds m → i < length m.new_values.items → r ≡ get_or m.new_values.items i r
     → HasRowNumbers (form_of r) × (length (form_of r).coefs ≤ m.unknowns)
 new-suits m i r h l e = (

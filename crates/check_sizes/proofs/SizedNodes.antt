@@ -1,4 +1,4 @@
--- What a node on sizes states, or its first check that fails, by what is answered of its members.
+-- The facts of a node on sizes, or its first check that fails, by the result on its members.
 use Rattle.std.proofs.Common.{◌≡◌, inl, inr, List, [], ◌∷◌, refl, sym, ap, ◌∙◌, subst, Vec}
 use Rattle.std.specs.declared.alloc.Global.{Global}
 use Rattle.std.specs.List.{AllByRecursion}
@@ -32,7 +32,7 @@ same-reason : (checks : List Check) (r : result_is.Reason) (x : Reason) → reas
 same-reason checks r x e h = subst (IsFirstAmong checks) (sym e) h
 
 module _ (s : Setting) (table : Table) (m : Member) where
-  -- a place that doesn't loop: what is found is stated
+  -- if a size is found for a place that doesn't loop, it is stated
   spread-found : (sizing : Sizing) (facts : Vec Fact Global) → IsSpreadSizing s table m sizing
       → StatesSizes (m ∷ []) sizing facts
       → States (spread_checks s table m) (Size m.result_variable.rule m.result_variable.place (s.rewrite (spread_size s table m)) ∷ []) facts
@@ -45,7 +45,7 @@ module _ (s : Setting) (table : Table) (m : Member) where
   spread-found (sizings.Untimed rule) facts h k = absurd k
   spread-found (sizings.Large nodes) facts h k = absurd k
 
-  -- and else the first check that fails is reported
+  -- if no size is found for a place that doesn't loop, the first check that fails is reported
   spread-failed : (sizing : Sizing) (fault : NodeFault) → IsSpreadSizing s table m sizing → IsFaultOf sizing fault
       → Refuses (spread_checks s table m) fault
   spread-failed sizing node.Memory h k = tt
@@ -55,7 +55,7 @@ module _ (s : Setting) (table : Table) (m : Member) where
   spread-failed (sizings.Untimed rule) (node.Refused r) h k = absurd h
   spread-failed (sizings.Large nodes) (node.Refused r) h k = same-reason (spread_checks s table m) r _ k h
 
-  -- whichever it is
+  -- the answer on a place that doesn't loop is right in both cases
   pub spread-answer : (sizing : Sizing) (r : Result (Vec Fact Global) NodeFault) → IsSpreadSizing s table m sizing
       → MatchResult r (λ facts. StatesSizes (m ∷ []) sizing facts) (λ fault. IsFaultOf sizing fault)
       → MatchResult r
@@ -64,11 +64,11 @@ module _ (s : Setting) (table : Table) (m : Member) where
   spread-answer sizing (Ok facts) h k = spread-found sizing facts h k
   spread-answer sizing (Err fault) h k = spread-failed sizing fault h k
 
-  -- its shape isn't right
+  -- if the shape of a spread isn't right, the reason is `Shape`
   pub spread-shape : ¬ (HasMemberShape s m) → IsFirstAmong (spread_checks s table m) Shape
   spread-shape n = inl (n, refl)
 
-  -- its upper side bound isn't accepted, or its lower side bound
+  -- if a side bound of a spread isn't accepted, the reason is its side
   pub spread-up : HasMemberShape s m → ¬ (AcceptsUp s m) → IsFirstAmong (spread_checks s table m) (SideBoundUp m.result_variable.rule m.result_variable.place)
   spread-up h n = inr (h, inl (n, refl))
 
@@ -77,7 +77,7 @@ module _ (s : Setting) (table : Table) (m : Member) where
   spread-low h u n = inr (h, inr (u, inl (n, refl)))
 
 module _ (s : Setting) (table : Table) (ms : List Member) where
-  -- a loop: what is found is stated of each member
+  -- if a size is found for a loop, it is stated of each member
   cycle-found : (sizing : Sizing) (facts : Vec Fact Global) → IsCycleSizing s table ms sizing → StatesSizes ms sizing facts
       → States (cycle_checks s table ms) (cycle_facts (s.rewrite (cycle_size s table ms)) ms) facts
   cycle-found (sizings.Found premises bound) facts h k = record {
@@ -109,7 +109,7 @@ module _ (s : Setting) (table : Table) (ms : List Member) where
   pub cycle-shape : ¬ (HasCycleShape s ms) → IsFirstAmong (cycle_checks s table ms) Shape
   cycle-shape n = inl (n, refl)
 
-  -- the first member whose upper side bound isn't accepted, or whose lower side bound isn't
+  -- the first member whose upper side bound isn't accepted is the reason, or else the first whose lower one isn't
   pub cycle-up : HasCycleShape s ms → (m : Member) → IsFirstFailing (AcceptsUp s) ms m
       → IsFirstAmong (cycle_checks s table ms) (SideBoundUp m.result_variable.rule m.result_variable.place)
   cycle-up h m k = inr (h, first-of-each (check_up s) _ ms m k)

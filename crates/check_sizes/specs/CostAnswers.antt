@@ -1,4 +1,4 @@
--- The answer on a cost, by the way in which it is certified.
+-- The answer on a cost, for each way in which it is certified.
 use Rattle.std.specs.Prelude.{◌≡◌, ℕ, Result, MatchResult}
 use Rattle.bound_expr.specs.Views.{bound_of}
 use Rattle.bound_expr.specs.declared.bound.Bound as code
@@ -15,11 +15,11 @@ use Rattle.cert_context.specs.declared.refusal.NodeFault.{NodeFault}
 use Rattle.cost_nodes.specs.CostRules.{IsPreparedCostRule}
 use Rattle.check_sizes.specs.declared.cost_rows.CostRule.{CostRule}
 
--- the setting over which a cost is judged
+-- the setting in which a cost is checked
 abbrev pub cost_setting : CostRule → Setting
 cost_setting c = setting c.context.now
 
--- what was prepared is that of the cost rule of a rule of the program
+-- the prepared rows are those of the cost rule of a rule of the program
 pub record IsCostRule (c : CostRule) : Type 0 where
   pub context : IsCheckContext c.context.now
   pub rows : IsPreparedCostRule (program c.context.now) c.rule c.prepared.now
@@ -29,7 +29,7 @@ pub record ComposesCost (s : Setting) (table : Table) (t : ℕ) (by : CostBy) (b
   pub passed : AllPass (cost_checks_by s table t by)
   pub result_is : b ≡ stated_cost s table t by
 
--- the cost that is certified is stated, or the first check that fails is reported
+-- the certified cost is stated, or the first check that fails is reported
 abbrev pub AnswersCost : CostRule → Table → CostBy → Result code.Bound NodeFault → Type 0
 AnswersCost c table by r =
     MatchResult r (λ b. ComposesCost (cost_setting c) table c.rule by (bound_of b))

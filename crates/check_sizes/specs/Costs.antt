@@ -6,16 +6,16 @@ use Rattle.cert_types.specs.cert_rules.Limits.{AreInLimit}
 use Rattle.cert_types.specs.cert_rules.Nodes.{CostBy, EmptyCost, NeverCost, SideBoundCost, CostNode}
 use Rattle.check_sizes.specs.SideBounds.{HasSideBoundNumbers}
 
--- what a node on a cost holds beside its uses
+-- a node on a cost, without its premises
 abbrev pub cost_node : code.CostNode → CostNode
 cost_node n = record { rule = n.rule; by = cost_by_of n.by }
 
--- multipliers for this many rows, within the limit
+-- there are multipliers for this many rows, within the limit
 pub record AreRowMultipliers (rows : ℕ) (multipliers : List ℕ) : Type 0 where
   pub one_each : length multipliers ≡ rows
   pub within : AreInLimit multipliers
 
--- the numbers by which a cost is shown are right for this many rows and left places
+-- the numbers by which a cost is shown have the right shape for this many rows and left places
 abbrev pub HasNumbersBy : ℕ → ℕ → CostBy → Type 0
 HasNumbersBy rows left (EmptyCost multipliers) = AreRowMultipliers rows multipliers
 HasNumbersBy rows left NeverCost = ⊤

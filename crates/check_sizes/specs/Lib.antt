@@ -1,6 +1,6 @@
--- side bounds over the prepared rows of a rule
+-- Side bounds over the prepared rows of a rule.
 pub mod SideBounds
--- what nodes on sizes state
+-- the facts of nodes on sizes
 pub mod SizeAnswers
 -- nodes on costs
 pub mod Costs

@@ -1,4 +1,4 @@
--- When side bounds are certified by the prepared rows of a rule.
+-- When side bounds are certified over the prepared rows of a rule.
 use Rattle.std.specs.Prelude.{◌≡◌, ℕ, ◌-◌, ◌≤◌, List, length, map, ℤ, pos, neg_ℤ, Option, Some, None, ⊤}
 use Rattle.guard_prep.specs.declared.rule_rows.RuleRows.{RuleRows}
 use Rattle.model.specs.Polynomials.{Polynomial}
@@ -15,7 +15,7 @@ use Rattle.check_sizes.specs.declared.side_bound_numbers.LinearSideBound.{Linear
 use Rattle.check_sizes.specs.declared.side_bounds.Side.{Side}
 use Rattle.check_sizes.specs.declared.side_bounds.Side.TheVariants as side
 
--- the numbers of a linear side bound are right for this many rows and left places
+-- the numbers of a linear side bound have the right shape for this many rows and left places
 pub record HasLinearNumbers (rows left den : ℕ) (form : Form) (multipliers : List ℕ) : Type 0 where
   pub over : 1 ≤ den
   pub den_limit : IsInLimit den
@@ -28,7 +28,7 @@ pub record HasLinearNumbers (rows left den : ℕ) (form : Form) (multipliers : L
 abbrev pub form_in : LinearSideBound → Form
 form_in side_bound = record { coefs = side_bound.coefs.now; constant = side_bound.constant }
 
--- and those of a side bound; a polynomial side bound has none
+-- the numbers of a side bound have the right shape for this many rows and left places; a polynomial side bound has none
 abbrev pub HasSideBoundNumbers : ℕ → ℕ → SideBound → Type 0
 HasSideBoundNumbers rows left (Linear den form multipliers) = HasLinearNumbers rows left den form multipliers
 HasSideBoundNumbers rows left Poly = ⊤
@@ -38,7 +38,7 @@ abbrev pub side_of : Side → nodes.Side
 side_of side.Up = nodes.Up
 side_of side.Low = nodes.Low
 
--- by what the new value is taken: the denominator, with the sign of the side
+-- the factor of the new value in a goal: the denominator, with the sign of the side
 abbrev pub factor_of : nodes.Side → ℕ → ℤ
 factor_of nodes.Up den = neg_ℤ (pos den)
 factor_of nodes.Low den = pos den
@@ -48,8 +48,8 @@ abbrev pub IsLeftAlone : ℕ → Option Polynomial → Type 0
 IsLeftAlone left None = ⊥
 IsLeftAlone left (Some q) = ReadsLeft left q
 
--- the prepared rows of a rule imply a side bound over the new value at a place, counted from 1; or the update there is
--- its own polynomial, in left variables
+-- the prepared rows of a rule imply a side bound over the new value at a place, counted from 1; or the side bound is
+-- the polynomial of the update there, in left variables
 abbrev pub IsSideBoundOver : RuleRows → ℕ → nodes.Side → SideBound → Type 0
 IsSideBoundOver m place s (Linear den form multipliers) =
     Implies (map form_of m.rows.items) multipliers

@@ -1,4 +1,4 @@
--- The facts of a node on sizes, or why it states none, given the answer on its members.
+-- The facts of a node on sizes, or why it states none, given the result on its members.
 use Rattle.std.specs.Prelude.{◌≡◌, List, ⊤}
 use Rattle.std.specs.Global.{Vec}
 use Rattle.bound_expr.specs.Views.{bound_of}
@@ -14,11 +14,11 @@ use Rattle.size_nodes.specs.declared.sizing.Sizing.TheVariants as sizings
 use Rattle.cert_context.specs.declared.refusal.NodeFault.{NodeFault}
 use Rattle.cert_context.specs.declared.refusal.NodeFault.TheVariants as node
 
--- what a node on the size of a place holds beside its uses
+-- a node on the size of a place, without its premises, as a member
 abbrev pub spread_member : SpreadNode → Member
 spread_member n = record { result_variable = result_variable_of n.result_variable; local = local_of n.local }
 
--- the facts are that what was found is the size of each of these members
+-- the facts are that the size that was found is the size of each of these members
 abbrev pub StatesSizes : List Member → Sizing → Vec Fact → Type 0
 StatesSizes members (sizings.Found premises bound) facts = facts_of facts.items ≡ cycle_facts (bound_of bound) members
 StatesSizes members (sizings.Missing result_variable) facts = ⊥
@@ -26,7 +26,7 @@ StatesSizes members (sizings.Nonlinear result_variable) facts = ⊥
 StatesSizes members (sizings.Untimed rule) facts = ⊥
 StatesSizes members (sizings.Large nodes) facts = ⊥
 
--- the reason is the one for which no size was found; running out of memory is always permitted
+-- the reason is that for which no size was found; running out of memory is always permitted
 abbrev pub IsFaultOf : Sizing → NodeFault → Type 0
 IsFaultOf sizing node.Memory = ⊤
 IsFaultOf (sizings.Found premises bound) (node.Refused reason) = ⊥

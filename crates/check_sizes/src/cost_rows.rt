@@ -1,4 +1,4 @@
-//! Rules with costs, and the numbers that certify these.
+//! Rules with costs, and the shapes of the numbers that certify them.
 
 ghost use Rattle.std.specs.Prelude.{◌↔◌, length, IsTrue};
 ghost use Rattle.check_sizes.specs.Costs.{AreRowMultipliers, HasNumbersBy};
@@ -9,8 +9,8 @@ use cert_context::{CheckContext, are_within_limit};
 use cert_types::CostBy;
 use guard_prep::RuleRows;
 
-/// A rule with a cost, and the prepared rows of its cost rule: those of its guard and of the atom that the cost is at
-/// least 0, and the cost as the only new value.
+/// A rule with a cost, and the prepared rows of its cost rule. The rows are those of the guard and of the atom that the
+/// cost is at least 0, and the cost is the only new value.
 #[derive(Drop)]
 pub struct CostRule<'a> {
     pub context: &'a CheckContext<'a>,
@@ -18,7 +18,7 @@ pub struct CostRule<'a> {
     pub prepared: &'a RuleRows,
 }
 
-/// Whether the numbers that certify a cost are right.
+/// Whether the numbers that certify a cost have the right shape.
 pub(crate) fn has_cost_numbers(prepared: &RuleRows, by: &CostBy) -> bool
     ensures { IsTrue result
         ↔ HasNumbersBy (length prepared.now.rows.items) prepared.now.left (cost_by_of by.now) }

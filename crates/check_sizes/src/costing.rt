@@ -61,7 +61,7 @@ pub fn cost_facts<K: Known>(
     }
 }
 
-// The cost that is stated for a rule with a cost, by its certificate.
+// The cost that is stated for a rule with a cost, as it is certified.
 fn cost_by<K: Known>(
     alloc: Global,
     costing: &CostRule,
@@ -80,7 +80,7 @@ fn cost_by<K: Known>(
     }
 }
 
-// The cost 0, where the cost rows have no point.
+// The cost 0, if the cost rows are shown to have no point.
 fn no_cost(costing: &CostRule, multipliers: &[u64]) -> Result<Bound, NodeFault>
     requires rule { IsCostRule costing.now }
     requires numbers { AreRowMultipliers (length costing.now.prepared.now.rows.items) multipliers.now }
@@ -94,7 +94,7 @@ fn no_cost(costing: &CostRule, multipliers: &[u64]) -> Result<Bound, NodeFault>
     }
 }
 
-// The cost 0, where the rule is known never to run.
+// The cost 0, if the rule is known never to run.
 fn never_cost<K: Known>(costing: &CostRule, known: &K) -> Result<Bound, NodeFault>
     ensures { AnswersCost costing.now (K.table known.now) NeverCost result }
 {

@@ -30,7 +30,7 @@ fn is_result_variable(p: &Program, result_variable: ResultVariable) -> bool
     }
 }
 
-// Whether a place is one of this many, counted from 1.
+// Whether a place is among the first `count`, counted from 1.
 fn is_place(place: u32, count: u32) -> bool
     ensures { IsTrue result ↔ ((1 ≤ place) × (place ≤ count)) }
 {

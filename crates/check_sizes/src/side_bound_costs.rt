@@ -1,4 +1,4 @@
-//! Costs by side bounds.
+//! Costs that side bounds certify.
 
 ghost use Rattle.std.specs.Prelude.{length};
 ghost use Rattle.cert_context.specs.Needed.{HasTime};
@@ -17,7 +17,7 @@ use cert_types::{Known, Reason, SideBound};
 use cost_nodes::{PreparedCost, composed_cost, needed_sizes};
 use std::alloc::Global;
 
-/// The cost that is stated by a side bound of the cost.
+/// The cost that a side bound of the cost composes.
 ///
 /// # Errors
 ///
@@ -46,8 +46,8 @@ pub(crate) fn side_bound_cost<K: Known>(
     sized_cost(alloc, costing, side_bound, known)
 }
 
-// The cost that is stated by a side bound that is accepted, of a rule with a time: each place that the side bound reads
-// needs a size.
+// The cost that an accepted side bound composes for a rule with a time. Each place that the side bound reads needs a
+// size.
 fn sized_cost<K: Known>(
     alloc: Global,
     costing: &CostRule,

@@ -1,4 +1,4 @@
-//! Checks the numbers of side bounds.
+//! Checks the shapes of the numbers of side bounds.
 
 ghost use Rattle.std.specs.Prelude.{◌↔◌, IsTrue};
 ghost use Rattle.check_sizes.specs.SideBounds.{HasSideBoundNumbers, HasLinearNumbers, form_in};
@@ -17,7 +17,7 @@ pub(crate) struct LinearSideBound<'a> {
     pub multipliers: &'a [u64],
 }
 
-/// Whether the numbers of a side bound are right for this many left places and rows.
+/// Whether the numbers of a side bound have the right shape for this many left places and rows.
 pub(crate) fn has_side_bound_numbers(side_bound: &SideBound, left: u32, rows: usize) -> bool
     ensures { IsTrue result ↔ HasSideBoundNumbers rows left (side_bound_of side_bound.now) }
 {
@@ -40,7 +40,7 @@ pub(crate) fn has_side_bound_numbers(side_bound: &SideBound, left: u32, rows: us
     }
 }
 
-// Whether those of a linear side bound are.
+// Whether the numbers of a linear side bound have the right shape for this many left places and rows.
 fn has_linear_numbers(side_bound: &LinearSideBound, left: u32, rows: usize) -> bool
     ensures { IsTrue result
         ↔ HasLinearNumbers rows left side_bound.now.den (form_in side_bound.now) side_bound.now.multipliers.now }

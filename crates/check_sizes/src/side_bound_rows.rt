@@ -1,4 +1,4 @@
-//! The row that a side bound needs from the rows of a rule.
+//! The row that has to be implied for a side bound.
 
 ghost use Rattle.std.specs.Prelude.{◌≡◌, ◌≤◌, ◌<◌, ◌+ℤ◌, ◌*ℤ◌, length, map, IfOk, nat_abs, unsigned_abs};
 ghost use Rattle.std.specs.List.{All};
@@ -18,7 +18,7 @@ use model::Memory;
 use poly_terms::Row;
 use std::alloc::Global;
 
-// The factor of the new value.
+// The factor of the new value: the denominator, negated on the upper side.
 fn factor(side: Side, den: u64) -> i128
     requires { IsInLimit den }
     ensures value { result ≡ factor_of (side_of side) den }
@@ -30,7 +30,7 @@ fn factor(side: Side, den: u64) -> i128
     }
 }
 
-// The number of a side bound, and that of the new value times a factor.
+// An entry of the goal: that of the side bound, and that of the new value times a factor.
 fn goal_number(own: i64, value: i128, times: i128) -> i128
     requires own_small { unsigned_abs own ≤ certificate_limit }
     requires value_small { unsigned_abs value < row_limit }
@@ -40,7 +40,7 @@ fn goal_number(own: i64, value: i128, times: i128) -> i128
     i128::from(own) + product(value, times)
 }
 
-// The same at an unknown.
+// The entry of the goal at an unknown.
 fn goal_at(coefs: &[i64], value: &Row, times: i128, unknown: usize) -> i128
     requires coefs_small { All (λ c. IsInLimit (nat_abs c)) coefs.now }
     requires value_small { HasRowNumbers (form_of value.now) }
@@ -52,7 +52,7 @@ fn goal_at(coefs: &[i64], value: &Row, times: i128, unknown: usize) -> i128
     goal_number(own, other, times)
 }
 
-// The same in the column of constants.
+// The entry of the goal in the column of constants.
 fn goal_constant(constant: i64, value: &Row, times: i128) -> i128
     requires constant_small { IsInLimit (nat_abs constant) }
     requires value_small { HasRowNumbers (form_of value.now) }
@@ -62,7 +62,7 @@ fn goal_constant(constant: i64, value: &Row, times: i128) -> i128
     goal_number(constant, value.constant, times)
 }
 
-// The same at each of this many unknowns.
+// The entries of the goal at this many unknowns.
 fn goal_coefs(
     alloc: Global,
     width: usize,

@@ -20,12 +20,12 @@ use model::Memory;
 use poly_terms::{Monomial, Poly, Row};
 use std::alloc::Global;
 
-/// The side that a side bound is for.
+/// The side of a local bound.
 #[derive(Clone, Copy, Debug)]
 pub(crate) enum Side {
-    /// Over the new value.
+    /// The side of the new value.
     Up,
-    /// Over its negation.
+    /// The side of its negation.
     Low,
 }
 
@@ -54,7 +54,7 @@ fn are_left_alone(monomials: &[Monomial], left: u32) -> bool
     true
 }
 
-// Whether a polynomial is there, and has left variables alone.
+// Whether there is a polynomial, and it has left variables alone.
 fn is_left_alone(poly: Option<&Poly>, left: u32) -> bool
     ensures { IsTrue result ↔ IsLeftAlone left (optional_poly poly.entry) }
 {

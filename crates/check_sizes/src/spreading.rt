@@ -18,7 +18,7 @@ use size_nodes::sized_spread;
 use std::alloc::Global;
 use std::slice::from_ref;
 
-// The contents of a node on a size, apart from its uses, as a member.
+// The contents of a node on a size, without its premises, as a member.
 fn member_in(alloc: Global, node: &SpreadNode) -> Result<Member, Memory>
     ensures { IfOk result (λ member. member_of member ≡ spread_member node.now) }
 {

@@ -9,11 +9,11 @@ use cert_types::{Fact, Member, Reason};
 use size_nodes::{Sizing, size_facts};
 use std::alloc::Global;
 
-/// The facts that this is the size of each member, where one was found.
+/// The facts that this is the size of each member, if a size was found.
 ///
 /// # Errors
 ///
-/// `Refused` with the reason why none was; `Memory` where an allocation fails.
+/// `Refused` with the reason why no size was found; `Memory` where an allocation fails.
 pub(crate) fn stated(
     alloc: Global,
     members: &[Member],

@@ -11,9 +11,9 @@ use Rattle.cert_types.specs.cert_rules.Printable.{HasTidyFactNumbers}
 use Rattle.cert_types.proofs.cert_program.Tidying.{facts-printable}
 use Rattle.cert_context.proofs.JoinedFacts.{all-joined}
 use Rattle.check_file.specs.Files.{IsAcceptedWith}
-use Rattle.check_text.specs.Told.{IsListedFact}
+use Rattle.check_text.specs.StatedErrors.{IsListedFact}
 
--- what holds of all facts as plain data holds of all facts
+-- a property of all facts as plain data is one of all facts
 each-fact : (P : plain.Fact → Type 0) (fs : List Fact) → All P (facts_of fs) → All (λ f. P (fact_of f)) fs
 each-fact P [] h = All-nil (λ f. P (fact_of f))
 each-fact P (f ∷ fs) h =

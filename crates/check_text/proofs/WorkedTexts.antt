@@ -1,4 +1,4 @@
--- The texts that were worked out by hand are these.
+-- The worked texts of verdicts are right.
 use Rattle.std.proofs.Common.{◌≡◌, ◌≢◌, ℕ, List, [], ◌∷◌, get_or, refl, ap, arith, codes}
 use Rattle.std.specs.Fmt.{digits}
 use Rattle.model.specs.Bounds.{Constant}
@@ -7,7 +7,7 @@ use Rattle.cert_types.specs.cert_rules.Reasons.{Shape}
 use Rattle.check_text.specs.Texts.{accepted_text, fact_lines, no_lemma_text}
 use Rattle.check_text.specs.WorkedTexts.{FactsAreWorkedOut, ReasonsAreWorkedOut, FaultsAreWorkedOut, AnswersAreWorkedOut}
 
--- the text of the first rule is different
+-- facts in another order have another text
 other_order : fact_lines (codes "A" ∷ []) (Time 1 (Constant 1) ∷ Time 2 (Constant 2) ∷ [])
     ≢ fact_lines (codes "A" ∷ []) (Time 2 (Constant 2) ∷ Time 1 (Constant 1) ∷ [])
 unfolding digits
@@ -18,12 +18,12 @@ other_node : no_lemma_text 1 20 Shape ≢ no_lemma_text 20 1 Shape
 unfolding digits
 other_node e = let digit : 49 ≡ 50 = ap (λ (w : List ℕ). get_or w 9 0) e in omega (arith, digit)
 
--- the text of facts and gaps
+-- the worked text of facts and gaps is right
 facts_are : FactsAreWorkedOut
 unfolding accepted_text digits
 facts_are = record { each = refl; none = refl; order = other_order }
 
--- reasons
+-- the worked texts of reasons are right
 reasons_are : ReasonsAreWorkedOut
 unfolding digits
 reasons_are = record {
@@ -45,7 +45,7 @@ reasons_are = record {
   which = other_node;
 }
 
--- faults
+-- the worked texts of faults are right
 faults_are : FaultsAreWorkedOut
 unfolding digits
 faults_are = record {
@@ -64,6 +64,6 @@ faults_are = record {
   limit = refl;
 }
 
--- all of it
+-- all worked texts are right
 pub answers_are : AnswersAreWorkedOut
 answers_are = record { facts = facts_are; reasons = reasons_are; faults = faults_are }

@@ -5,4 +5,4 @@ pub mod Verdicts
 -- values that were worked out by hand
 pub mod WorkedTexts
 -- what the contracts of the functions inside cite
-pub mod Told
+pub mod StatedErrors

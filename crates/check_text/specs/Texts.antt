@@ -1,5 +1,5 @@
 -- The texts of the checker's verdicts: the facts and the gaps of a file that is accepted, the first refusal of one that
--- isn't, and the first fault of a text that is no proof file's.
+-- isn't, and the first fault of a text that isn't that of a proof file.
 use Rattle.std.specs.Prelude.{ℕ, List, [], ◌∷◌, ◌++◌, slice_get, Option, Some, None, codes, decimal}
 use Rattle.its_model.specs.text_core.Readers.{Fault}
 use Rattle.model.specs.Bounds.{Bound}
@@ -97,7 +97,7 @@ abbrev pub no_gap_text : Program → ℕ → GapFault → List ℕ
 no_gap_text p gap fault =
     codes "no gap " ++ (decimal gap ++ (codes ": " ++ (fault_text p.symbols fault ++ codes "\n")))
 
--- the text where a proof's file is too long
+-- the text if a proof's file is too long
 abbrev pub proof_too_long_text : List ℕ
 proof_too_long_text = codes "proof refused: too long\n"
 

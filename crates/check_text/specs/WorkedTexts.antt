@@ -15,7 +15,7 @@ use Rattle.check_text.specs.Texts.{proof_kind_text, proof_refusal_text}
 abbrev pub one_of_each : List Fact
 one_of_each = Time 0 (Constant 1) ∷ Size 0 1 (Input 0) ∷ Cost 12 (Constant 5) ∷ []
 
--- the text of facts and a gap, and of none; the order of facts shows
+-- the text of facts and a gap, and of none; another order of facts has another text
 pub record FactsAreWorkedOut : Type 0 where
   pub each : accepted_text counting one_of_each (gap_with [] ∷ [])
       ≡ codes "accepted\ntime 0: 1\nsize 0.1: A\ncost 12: 5\ngap 2\n"
@@ -59,7 +59,7 @@ pub record FaultsAreWorkedOut : Type 0 where
   pub reference : proof_kind_text BadReference ≡ codes "BadReference"
   pub limit : proof_kind_text Limit ≡ codes "Limit"
 
--- all of it
+-- all worked values of verdicts
 pub record AnswersAreWorkedOut : Type 0 where
   pub facts : FactsAreWorkedOut
   pub reasons : ReasonsAreWorkedOut

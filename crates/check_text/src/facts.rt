@@ -8,7 +8,7 @@ ghost use Rattle.its_model.specs.Views.{name_of, program_of};
 ghost use Rattle.cert_types.specs.AnswerViews.{gap_of};
 ghost use Rattle.cert_types.specs.Views.{fact_of, facts_of};
 ghost use Rattle.check_text.specs.Texts.{accepted_text, bound_end, fact_line, fact_lines, gap_line, gap_lines};
-ghost use Rattle.check_text.specs.Told.{IsListedFact};
+ghost use Rattle.check_text.specs.StatedErrors.{IsListedFact};
 
 use crate::numbers::{push_number, push_place};
 use bound_expr::Bound;

@@ -5,7 +5,7 @@ ghost use Rattle.its_model.specs.Views.{program_of, symbol_of};
 ghost use Rattle.cert_types.specs.AnswerViews.{fault_of, reason_of};
 ghost use Rattle.check_text.specs.Texts.{side_bound_text, balance_text, fault_text, name_in, no_gap_text, no_lemma_text};
 ghost use Rattle.check_text.specs.Texts.{place_text, reason_text};
-ghost use Rattle.check_text.specs.Told.{TellsError};
+ghost use Rattle.check_text.specs.StatedErrors.{StatesError};
 
 use crate::numbers::{push_number, push_place};
 use cert_types::{GapFault, Reason};
@@ -20,7 +20,7 @@ use std::alloc::{AllocError, Global};
 ///
 /// `Memory` where an allocation fails, and where the file wasn't checked because memory ran out.
 pub(crate) fn fault(alloc: Global, p: &Program, error: &CheckError) -> Result<Vec<u8>, Memory>
-    ensures { IfOk result (λ text. TellsError (program_of p.now) error.now text.items) }
+    ensures { IfOk result (λ text. StatesError (program_of p.now) error.now text.items) }
 {
     match error {
         CheckError::No {
@@ -85,7 +85,7 @@ fn push_reason(text: &mut Vec<u8>, reason: &Reason) -> Result<(), Memory>
     }
 }
 
-// A rule behind a word.
+// A rule after a word.
 fn push_rule(text: &mut Vec<u8>, word: &[u8], rule: u32) -> Result<(), Memory>
     ensures { OnOk result (text.new.items ≡ text.old.items ++ (word.now ++ decimal rule)) }
 {
@@ -93,7 +93,7 @@ fn push_rule(text: &mut Vec<u8>, word: &[u8], rule: u32) -> Result<(), Memory>
     push_number(text, u64::from(rule))
 }
 
-// A rule and a place behind a word.
+// A rule and a place after a word.
 fn push_result_variable(
     text: &mut Vec<u8>,
     word: &[u8],

@@ -1,7 +1,7 @@
 //! The text of the refusal of a proof's text.
 
 ghost use Rattle.std.specs.Prelude.{◌≡◌, IfOk, IfSome, IsErr, None};
-ghost use Rattle.cert_text.specs.Told.{refusal_in};
+ghost use Rattle.cert_text.specs.StatedErrors.{refusal_in};
 ghost use Rattle.check_text.specs.Texts.{proof_refusal_line, proof_refusal_text};
 
 use cert_text::ProofTextError;

@@ -1,4 +1,4 @@
-//! The answer to a line: lemmas divided by `|`, behind each `!` a gap, and behind a semicolon rules from l0.
+//! The answer to a line: lemmas divided by `|`, after each `!` a gap, and after a semicolon rules from l0.
 
 ghost use Rattle.std.specs.Prelude.{IfOk, IfSome};
 ghost use Rattle.its_model.specs.Valid.{IsValid};
@@ -28,7 +28,7 @@ pub(crate) fn answer(alloc: Global, line: &str) -> Result<String, Memory> {
     }
 }
 
-// The program with these rules, from l0, where they are read.
+// The program with these rules, from l0, if they are read.
 fn program(alloc: Global, rules: &str) -> Result<Option<Program>, Memory>
     ensures { IfOk result (λ read. IfSome read (λ p. IsValid (program_of p))) }
 {

@@ -1,9 +1,9 @@
-//! Lemmas as lines write them: the words of their nodes, each behind those of its children. The fields of a word,
-//! behind its kind, are divided by colons: `start`, `cite:LEMMA`, `empty:RULE:MULTIPLIERS`, `unreached:RULE:USES`,
-//! `never`, `weaken:BOUND`, `rank:RULE:SET:DEN:FORMS:MOVES:FLOOR:USES`, `spread:RULE:PLACE:UP:LOW:USES`,
-//! `cycle:MEMBERS:USES`, `cost:RULE:BY:USES`, where USES says how many of the nodes before are its uses. A bound is a
-//! term, or several that `+` divides: a number, `v` with the number of an input from 0, or `b` with a base, which is
-//! raised to 1; a number and `x` before a term repeat it so often.
+//! Lemmas as lines write them: the words of their nodes, each after those of its children. The fields of a word, after
+//! its kind, are divided by colons: `start`, `cite:LEMMA`, `empty:RULE:MULTIPLIERS`, `unreached:RULE:USES`, `never`,
+//! `weaken:BOUND`, `rank:RULE:SET:DEN:FORMS:MOVES:FLOOR:USES`, `spread:RULE:PLACE:UP:LOW:USES`, `cycle:MEMBERS:USES`,
+//! `cost:RULE:BY:USES`, where USES says how many of the nodes before are its uses. A bound is a term, or several that
+//! `+` divides: a number, `v` with the number of an input from 0, or `b` with a base, which is raised to 1; a number
+//! and `x` before a term repeat it this many times.
 
 use crate::nodes::{cost_node, cycle_node, empty_node, rank_node, spread_node};
 use crate::words::{number, part, parts_of, wide};
@@ -22,7 +22,7 @@ pub(crate) fn lemma(alloc: Global, words: &str) -> Result<Option<Proof>, Memory>
     Ok(stack.pop())
 }
 
-// The node of a word, over those before.
+// The node of a word, over the nodes before it.
 fn node(alloc: Global, word: &str, stack: &mut Vec<Proof>) -> Result<Proof, Memory> {
     let (kind, rest) = word.split_once(':').unwrap_or((word, ""));
     let parts = parts_of(alloc, rest, ':')?;
@@ -75,7 +75,7 @@ fn keyed_node(
     }
 }
 
-// The last node, as the child of one; where there is none, `start`.
+// The last node, as the child of one; if there is none, `start`.
 fn child(stack: &mut Vec<Proof>) -> Proof {
     stack.pop().unwrap_or(Proof::Start)
 }

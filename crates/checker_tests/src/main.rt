@@ -1,5 +1,5 @@
-//! Answers each line of the standard input by one line: what the checker says of the lemmas and gaps in it, for the
-//! rules in it. A line that begins with `#`, a remark, is written as it is.
+//! Answers each line of the standard input by one line: the checker's verdict on the lemmas and gaps in it, for the
+//! rules in it. A line that begins with `#`, a remark, is written unchanged.
 #![tactic(auto)]
 
 mod answers;

@@ -1,8 +1,7 @@
-//! Nodes by the parts of their words.
-//! MULTIPLIERS, SET and FLOOR are numbers divided by commas; MOVES are such lists divided by `/`; FORMS are divided by
-//! `/` too, each a symbol, the constant and the coefficients. A side bound is `poly`, or a denominator, the constant and the
-//! coefficients, and behind a `/` the multipliers. MEMBERS are divided by `+`, each RULE=PLACE=UP=LOW. BY is `never`,
-//! `empty=` with multipliers, or a side bound.
+//! Nodes by the parts of their words. MULTIPLIERS, SET and FLOOR are numbers divided by commas; MOVES are such lists
+//! divided by `/`; FORMS are divided by `/` too, each a symbol, the constant and the coefficients. A side bound is
+//! `poly`, or a denominator, the constant and the coefficients, and after a `/` the multipliers. MEMBERS are divided by
+//! `+`, each RULE=PLACE=UP=LOW. BY is `never`, `empty=` with multipliers, or a side bound.
 
 use crate::words::{first_and_rest, number, numbers, part, parts_of, signed, wide, wides};
 use cert_types::{

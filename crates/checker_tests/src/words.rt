@@ -63,7 +63,7 @@ pub(crate) fn signed(alloc: Global, list: &str) -> Result<Vec<i64>, Memory> {
     Ok(found)
 }
 
-/// The first number, or 0, and those behind it.
+/// The first number, or 0, and those after it.
 pub(crate) fn first_and_rest(alloc: Global, list: &[i64]) -> Result<(i64, Vec<i64>), Memory> {
     match list.split_first() {
         Some((first, rest)) => Ok((*first, rest.to_vec(alloc)?)),

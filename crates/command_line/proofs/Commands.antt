@@ -1,4 +1,4 @@
--- What the words behind a command ask for.
+-- The requests of the words after a command.
 use Rattle.std.proofs.Common.{◌≡◌, ◌≢◌, ℕ, List, [], ◌∷◌, ◌++◌, Option, Some, None, MatchOption, ◌+◌, sym, ◌∙◌, ap}
 use Rattle.std.proofs.Common.{subst, take, drop, length, true, false, refl}
 use Rattle.std.specs.Prelude.{nat_eq}
@@ -13,7 +13,7 @@ use Rattle.command_line.specs.Views.{request_of}
 use Rattle.command_line.proofs.OneWay.{one_line, one_command, request_by, one_by}
 use Rattle.command_line.proofs.Firsts.{gives_along}
 
--- the rest of a word behind its first bytes
+-- stripping a prefix gives nothing if the word doesn't begin with it
 pub none_behind : (w p : List ℕ) → pointwise nat_eq (take (length p) w) p ≡ false → (rest : List ℕ) → w ≢ p ++ rest
 none_behind w p h rest e = other_text (take (length p) w) p (sym h) (ap (take (length p)) e ∙ take_first p rest)
   where
@@ -21,14 +21,14 @@ none_behind w p h rest e = other_text (take (length p) w) p (sym h) (ap (take (l
     take_first [] rest = refl
     take_first (p ∷ ps) rest = ap (λ (qs : List ℕ). p ∷ qs) (take_first ps rest)
 
--- a word that begins with these bytes is these bytes and what is left of it behind them
+-- a word that begins with these bytes is these bytes followed by the stripped rest
 pub some_behind : (w p x : List ℕ) → pointwise nat_eq (take (length p) w) p ≡ true → x ≡ drop (length p) w → w ≡ p ++ x
 some_behind w p x h e =
     let first : take (length p) w ≡ p = same_text (take (length p) w) p (sym h) in
     let all : take (length p) w ++ drop (length p) w ≡ w = take-append-drop (length p) w in
     cc
 
--- of what is left behind the first bytes, where these are a word's
+-- a property of the stripped rest of a word, if the word begins with the prefix
 pub stripped : {X : Type 0} (r : Option X) (f : X → List ℕ) (w p : List ℕ)
     → MatchOption r (pointwise nat_eq (take (length p) w) p ≡ false)
     (λ x. (pointwise nat_eq (take (length p) w) p ≡ true) × (f x ≡ drop (length p) w) × (length (f x) + length p ≡ length w))
@@ -36,25 +36,25 @@ pub stripped : {X : Type 0} (r : Option X) (f : X → List ℕ) (w p : List ℕ)
 stripped None f w p h = none_behind w p h
 stripped (Some x) f w p h = some_behind w p (f x) h.0 h.1
 
--- no words ask for nothing
+-- the empty list of words has no request
 pub none_of_none : (q : Request) → ¬ (Asks [] q)
 none_of_none q h = let e : [] ≡ word_of (command_of q) ∷ h.others = h.command in cc
 
--- words that begin with no command ask for nothing
+-- words that don't begin with a command have no request
 pub none_without_command : (words : Words) (first : Word) (others : Words) → words ≡ first ∷ others
     → ((c : Command) → first ≢ word_of c) → (q : Request) → ¬ (Asks words q)
 none_without_command words first others e none q h =
     let same : first ≡ word_of (command_of q) = cc (e, h.command) in
     none (command_of q) same
 
--- where the words behind the command give nothing, there is no request
+-- if the words after the command give no values and positionals, there is no request
 pub none_given : (words : Words) (first : Word) (others : Words) → words ≡ first ∷ others → ((v p : Words) → ¬ (Gives others v p))
     → (q : Request) → ¬ (Asks words q)
 none_given words first others e none q h =
     let same : others ≡ h.others = cc (e, h.command) in
     none h.values h.positionals (gives_along _ _ _ _ _ _ same refl refl h.gives)
 
--- what they give is the request
+-- the request is that of the given values and positionals
 pub asked_for : (words : Words) (first : Word) (others vs ps : Words) (c : Command) (r : Option declared.Request)
     → words ≡ first ∷ others → first ≡ word_of c → Gives others vs ps
     → MatchOption r (AsksNone c vs ps) (λ q. IsAskedBy c vs ps (request_of q))
@@ -79,7 +79,7 @@ asked_for words first others vs ps c (Some q) e f g a = record {
   parts = a.parts;
 }
 
--- a command has no request with these values and positionals where its only possible one isn't a request
+-- a command has no request with these values and positionals if its only possible one isn't a request
 pub none_by : (c : Command) (vs ps : Words) → ¬ (AsksWith (request_by c vs ps) vs ps) → AsksNone c vs ps
 none_by c vs ps none q a =
     none (subst (λ (r : Request). AsksWith r vs ps)

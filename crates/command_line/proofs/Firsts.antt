@@ -5,7 +5,7 @@ use Rattle.command_line.specs.Lines.{Word, Words, is_plain, is_value, Item, Apar
 use Rattle.command_line.specs.Lines.{values_of, positionals_of, Gives}
 use Rattle.command_line.specs.Steps.{IsOther, GivesValue}
 
--- what a first word can be
+-- the first word is one of these
 pub data First (word : Word) (words values positionals : Words) : Type 0 where
   Ended : word ≡ codes "--" → values ≡ [] → positionals ≡ words → First word words values positionals
   WithNext : word ≡ codes "--pivots" → GivesValue words values positionals → First word words values positionals
@@ -14,7 +14,7 @@ pub data First (word : Word) (words values positionals : Words) : Type 0 where
   Alone : (more : Words) → IsTrue (is_plain word) → Gives words values more → positionals ≡ word ∷ more
       → First word words values positionals
 
--- what the words of these items give
+-- the values and positionals of the words of these items
 pub gives_of : (items : List Item) (behind : Option Words) → AreItems items
     → Gives (words_of_items items behind) (values_of items) (positionals_of items behind)
 gives_of items behind proper = record {
@@ -26,7 +26,7 @@ gives_of items behind proper = record {
   has_positionals = refl;
 }
 
--- what items give, for words, values and positionals that are given by equations
+-- words, values and positionals that are equal to given ones are given
 pub gives_along : (xs ys vs ws ps qs : Words) → xs ≡ ys → vs ≡ ws → ps ≡ qs → Gives ys ws qs → Gives xs vs ps
 gives_along xs ys vs ws ps qs e f g h = record {
   items = h.items;
@@ -74,7 +74,7 @@ pub first : (word : Word) (words values positionals : Words) → Gives (word ∷
 first word words values positionals h =
     first_of_items word words values positionals h.items h.behind h.proper h.spelled h.has_values h.has_positionals
 
--- no words give nothing
+-- the empty list of words gives no values and no positionals
 pub none_first : (values positionals : Words) → Gives [] values positionals → (values ≡ []) × (positionals ≡ [])
 none_first values positionals h = go h.items h.behind h.spelled h.has_values h.has_positionals
   where
@@ -106,7 +106,7 @@ end_not_joined word v e f = omega (arith, ap (λ (w : Word). get_or w 2 0) (sym 
 apart_not_joined : (word v : Word) → word ≡ codes "--pivots" → word ≡ codes "--pivots=" ++ v → ⊥
 apart_not_joined word v e f = omega (arith, ap (λ (w : Word). get_or w 8 0) (sym e ∙ f))
 
--- behind `--` all words are positionals
+-- after `--` all words are positionals
 pub end_first : (word : Word) (words values positionals : Words) → word ≡ codes "--" → Gives (word ∷ words) values positionals
     → (values ≡ []) × (positionals ≡ words)
 end_first word words values positionals e h = go (first word words values positionals h)
@@ -155,7 +155,7 @@ plain_first word words values positionals e h = go (first word words values posi
     go (Whole more v f is g w) = absurd (joined_not_plain word v f e)
     go (Alone more is g p) = (more, g, p)
 
--- a word that is none of these is permitted nowhere
+-- a word of another kind is permitted nowhere
 pub other_first : (word : Word) (words values positionals : Words) → IsOther word → Gives (word ∷ words) values positionals → ⊥
 other_first word words values positionals o h = go (first word words values positionals h)
   where

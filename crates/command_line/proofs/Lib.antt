@@ -1,11 +1,11 @@
--- the first word behind the command decides the first item
+-- the first word after the command decides the first item
 pub mod Firsts
--- one word more
+-- what words give with one word more
 pub mod StepLaws
--- reading in one way
+-- words are read in one way
 pub mod OneWay
--- the words behind a command
+-- the words after a command
 pub mod Commands
--- what was worked out by hand
+-- the worked values hold
 pub mod WorkedLines
 pub mod WorkedOthers

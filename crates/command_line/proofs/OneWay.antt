@@ -15,7 +15,7 @@ use Rattle.command_line.specs.Requests.{command_of, default_pivots, AllowsPivots
 use Rattle.command_line.specs.Laws.{WordsAreReadInOneWay}
 use Rattle.command_line.proofs.Firsts.{end_first, apart_first, joined_first, plain_first, none_first, gives_along}
 
--- what the words of items give is what the items have
+-- the words of items give the values and positionals of the items
 one : (items : List Item) (behind : Option Words) → AreItems items → (values positionals : Words)
     → Gives (words_of_items items behind) values positionals → (values ≡ values_of items) × (positionals ≡ positionals_of items behind)
 one [] None proper values positionals h = none_first values positionals h
@@ -74,7 +74,7 @@ found_listed word (d ∷ cs) c e = go (pointwise nat_eq word (word_of d)) e (fou
 pub command_listed : (c : Command) → Contains all_commands c
 command_listed c = found_listed (word_of c) all_commands c (named_first c)
 
--- a word is that of one command
+-- two commands with the same word are equal
 pub one_command : (c d : Command) → word_of c ≡ word_of d → c ≡ d
 one_command c d e =
     let same : Some c ≡ Some d = sym (named_first c) ∙ (ap (λ (w : Word). first_named w all_commands) e ∙ named_first d) in
@@ -127,7 +127,7 @@ one_by (While n f) values positionals h =
     ap (λ (k : ℕ). While k f) (one_number values n h.allowed)
     ∙ ap (λ (ws : Words). While (pivots_by values) (first_of ws)) (sym h.one)
 
--- words ask for one thing at most
+-- words have at most one request
 one_request : (words : Words) (r q : Request) → Asks words r → Asks words q → r ≡ q
 one_request words r q a b =
     let heads : word_of (command_of r) ≡ word_of (command_of q) = cc (a.command, b.command) in
@@ -138,6 +138,6 @@ one_request words r q a b =
     let second : q ≡ request_by (command_of q) b.values b.positionals = one_by q b.values b.positionals b.parts in
     cc (first, second, commands_are, line.0, line.1)
 
--- words are read in one way, and ask for one thing at most
+-- words are read in one way, and have at most one request
 pub read_in_one_way : WordsAreReadInOneWay
 read_in_one_way = record { one_line = one_line; one_request = one_request }

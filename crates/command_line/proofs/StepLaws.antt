@@ -1,4 +1,4 @@
--- One word more: what the words behind it give, and what they give with it before.
+-- One word more: what the remaining words give with the word before them.
 use Rattle.std.proofs.Common.{◌≡◌, List, [], ◌∷◌, ◌++◌, Some, None, IsTrue, IsFalse, refl, sym, ◌∙◌, ap, subst, codes}
 use Rattle.std.proofs.Common.{append_assoc, true, false}
 use Rattle.std.proofs.lemmas.List.{append-nil, at_drop_more}
@@ -13,11 +13,11 @@ use Rattle.command_line.specs.declared.line.Next.TheVariants as nexts
 use Rattle.command_line.specs.declared.line.Line.{Line}
 use Rattle.command_line.proofs.Firsts.{end_first, apart_first, joined_first, plain_first, other_first, gives_along}
 
--- a state from its parts
+-- a state of these parts
 abbrev pub state : Next → Words → Words → State
 state next values positionals = record { next = next; values = values; positionals = positionals }
 
--- a positional before what is given
+-- a positional before other words
 with_positional : (word : Word) (words values positionals : Words) → IsTrue (is_plain word) → Gives words values positionals
     → Gives (word ∷ words) values (word ∷ positionals)
 with_positional word words values positionals is h = record {
@@ -29,7 +29,7 @@ with_positional word words values positionals is h = record {
   has_positionals = ap (λ (ws : Words). word ∷ ws) h.has_positionals;
 }
 
--- the option with its value in one word before what is given
+-- the option with its value in one word before other words
 with_joined : (value : Word) (words values positionals : Words) → IsTrue (is_value value) → Gives words values positionals
     → Gives ((codes "--pivots=" ++ value) ∷ words) (value ∷ values) positionals
 with_joined value words values positionals is h = record {
@@ -41,7 +41,7 @@ with_joined value words values positionals is h = record {
   has_positionals = h.has_positionals;
 }
 
--- the option and its value in two words before what is given
+-- the option and its value in two words before other words
 with_apart : (value : Word) (words values positionals : Words) → IsTrue (is_value value) → Gives words values positionals
     → Gives (codes "--pivots" ∷ value ∷ words) (value ∷ values) positionals
 with_apart value words values positionals is h = record {
@@ -53,7 +53,7 @@ with_apart value words values positionals is h = record {
   has_positionals = h.has_positionals;
 }
 
--- a positional where any word is permitted
+-- a positional is taken where any word is permitted
 takes_plain : (word : Word) (vs ps : Words) → IsTrue (is_plain word)
     → Takes (state nexts.Word vs ps) word (state nexts.Word vs (ps ++ word ∷ []))
 takes_plain word vs ps is = record {
@@ -75,7 +75,7 @@ takes_plain word vs ps is = record {
       };
 }
 
--- any word behind `--`
+-- any word after `--` is taken
 takes_positional : (word : Word) (vs ps : Words) → Takes (state nexts.Positional vs ps) word (state nexts.Positional vs (ps ++ word ∷ []))
 takes_positional word vs ps = record {
   forth = λ left values positionals h. record {
@@ -94,7 +94,7 @@ takes_positional word vs ps = record {
   };
 }
 
--- `--`
+-- `--` is taken
 takes_end : (vs ps : Words) → Takes (state nexts.Word vs ps) (codes "--") (state nexts.Positional vs ps)
 takes_end vs ps = record {
   forth = λ left values positionals h. record {
@@ -113,7 +113,7 @@ takes_end vs ps = record {
   };
 }
 
--- `--pivots`
+-- `--pivots` is taken
 takes_pivots : (vs ps : Words) → Takes (state nexts.Word vs ps) (codes "--pivots") (state nexts.Value vs ps)
 takes_pivots vs ps = record {
   forth = λ left values positionals h. record {
@@ -133,7 +133,7 @@ takes_pivots vs ps = record {
   };
 }
 
--- the value behind `--pivots`
+-- the value after `--pivots` is taken
 takes_value : (word : Word) (vs ps : Words) → IsTrue (is_value word)
     → Takes (state nexts.Value vs ps) word (state nexts.Word (vs ++ word ∷ []) ps)
 takes_value word vs ps is = record {
@@ -157,7 +157,7 @@ takes_value word vs ps is = record {
       };
 }
 
--- `--pivots=V`
+-- `--pivots=V` is taken
 takes_joined : (value : Word) (vs ps : Words) → IsTrue (is_value value)
     → Takes (state nexts.Word vs ps) (codes "--pivots=" ++ value) (state nexts.Word (vs ++ value ∷ []) ps)
 takes_joined value vs ps is = record {
@@ -179,12 +179,12 @@ takes_joined value vs ps is = record {
       };
 }
 
--- along equations of states and words
+-- taking a word depends only on the state and the word
 along : (old a : State) (word w : Word) (new b : State) → old ≡ a → word ≡ w → new ≡ b → Takes a w b → Takes old word new
 along old a word w new b e f g h =
     subst (λ (s : State). Takes s word new) (sym e) (subst (λ (u : Word). Takes a u new) (sym f) (subst (λ (s : State). Takes a w s) (sym g) h))
 
--- the states of lines that were read
+-- the state of a line with one positional, or one value, more
 with_one : (old new : Line) (word : Word) → HasOnePositional old word new
     → state_of new ≡ state old.next (values_in old) (positionals_in old ++ word ∷ [])
 with_one old new word h = go new.next (values_in new) (positionals_in new) h.next h.values h.positionals
@@ -204,7 +204,7 @@ valued old new word h = go new.next (values_in new) (positionals_in new) h.next 
 state_at : (old : Line) (n : Next) → old.next ≡ n → state_of old ≡ state n (values_in old) (positionals_in old)
 state_at old n e = ap (λ (m : Next). state m (values_in old) (positionals_in old)) e
 
--- a line takes a word
+-- a line takes a positional where any word is permitted
 pub plain_taken : (old new : Line) (word : Word) → old.next ≡ nexts.Word → IsTrue (is_plain word) → HasOnePositional old word new
     → Takes (state_of old) word (state_of new)
 plain_taken old new word e is h =
@@ -212,7 +212,7 @@ plain_taken old new word e is h =
     (with_one old new word h ∙ ap (λ (m : Next). state m (values_in old) (positionals_in old ++ word ∷ [])) e)
     (takes_plain word (values_in old) (positionals_in old) is)
 
--- behind `--` any word is taken as a positional
+-- after `--` any word is taken as a positional
 pub positional_taken : (old new : Line) (word : Word) → old.next ≡ nexts.Positional → HasOnePositional old word new
     → Takes (state_of old) word (state_of new)
 positional_taken old new word e h =
@@ -232,7 +232,7 @@ pub pivots_taken : (old new : Line) (word : Word) → old.next ≡ nexts.Word �
 pivots_taken old new word e f g =
     along _ _ _ _ _ _ (state_at old nexts.Word e) f g (takes_pivots (values_in old) (positionals_in old))
 
--- behind `--pivots` a word that can be a value is taken as one
+-- after `--pivots` a word that can be a value is taken as one
 pub value_taken : (old new : Line) (word : Word) → old.next ≡ nexts.Value → IsTrue (is_value word) → IsValued old word new
     → Takes (state_of old) word (state_of new)
 value_taken old new word e is h =
@@ -244,11 +244,11 @@ pub joined_taken : (old new : Line) (word value : Word) → old.next ≡ nexts.W
 joined_taken old new word value e f is h =
     along _ _ _ _ _ _ (state_at old nexts.Word e) f (valued old new value h) (takes_joined value (values_in old) (positionals_in old) is)
 
--- a line refuses a word
+-- a word that can't be a value doesn't begin a value, whatever follows
 no_value : (word : Word) → IsFalse (is_value word) → IsTrue (is_value word) → ⊥
 no_value word f t = let e : false ≡ true = sym f ∙ t in cc
 
--- behind `--pivots` a word that can't be a value is refused
+-- after `--pivots` a word that can't be a value is refused
 pub value_refused : (old : Line) (word : Word) → old.next ≡ nexts.Value → IsFalse (is_value word) → Refuses (state_of old) word
 value_refused old word e f = subst (λ (s : State). Refuses s word) (sym (state_at old nexts.Value e)) (record { none = λ left values positionals h. go left h.more_values h.more_positionals h.gives })
   where
@@ -264,13 +264,13 @@ joined_refused old word value e f other = subst (λ (s : State). Refuses s word)
   none = λ left values positionals h. no_value value other ((joined_first word value left h.more_values h.more_positionals f h.gives).1);
 })
 
--- a word that begins nothing which can be written is refused
+-- a word with which no item can begin is refused
 pub other_refused : (old : Line) (word : Word) → old.next ≡ nexts.Word → IsOther word → Refuses (state_of old) word
 other_refused old word e o = subst (λ (s : State). Refuses s word) (sym (state_at old nexts.Word e)) (record {
   none = λ left values positionals h. other_first word left h.more_values h.more_positionals o h.gives;
 })
 
--- from word to word
+-- taking a word leads from state to state
 pub leads_on : (all left : Words) (old : State) (word : Word) (new : State) → Leads all old (word ∷ left) → Takes old word new
     → Leads all new left
 leads_on all left old word new l t = record {
@@ -291,12 +291,12 @@ leads_first all vs ps e f =
     subst (λ (ws : Words). Leads all (state nexts.Word ws ps) all) (sym e)
     (subst (λ (ws : Words). Leads all (state nexts.Word [] ws) all) (sym f) (leads_from_none all))
 
--- where a word is refused, all give nothing
+-- if a word is refused, all words give nothing
 pub leads_nowhere : (all left : Words) (old : State) (word : Word) → Leads all old (word ∷ left) → Refuses old word
     → (values positionals : Words) → ¬ (Gives all values positionals)
 leads_nowhere all left old word l r values positionals h = r.none left values positionals (l.back values positionals h)
 
--- at the end any word could come next, or words behind `--`; but not a value
+-- at the end any word could come next, or words after `--`; but not a value
 pub leads_to_end : (all : Words) (line : Line) → Leads all (state_of line) [] → line.next ≡ nexts.Word
     → Gives all (values_in line) (positionals_in line)
 leads_to_end all line l e =
@@ -309,7 +309,7 @@ leads_to_end all line l e =
       has_positionals = sym (append-nil (positionals_in line));
     }))
 
--- where the words end behind `--`, all of them give what was read
+-- where the words end after `--`, all of them give what was read
 pub leads_behind : (all : Words) (line : Line) → Leads all (state_of line) [] → line.next ≡ nexts.Positional
     → Gives all (values_in line) (positionals_in line)
 leads_behind all line l e =
@@ -322,7 +322,7 @@ leads_behind all line l e =
       has_positionals = sym (append-nil (positionals_in line));
     }))
 
--- where the words end at an option that has no value yet, all of them give nothing
+-- if the words end at an option without its value, they give nothing
 pub leads_to_value : (all : Words) (line : Line) → Leads all (state_of line) [] → line.next ≡ nexts.Value
     → (values positionals : Words) → ¬ (Gives all values positionals)
 leads_to_value all line l e values positionals h =
@@ -331,7 +331,7 @@ leads_to_value all line l e values positionals h =
     go : GivesBeside (state nexts.Value (values_in line) (positionals_in line)) [] values positionals → ⊥
     go b = let e : [] ≡ b.gives.value ∷ b.gives.others = b.gives.first in cc
 
--- one word more of those that are left
+-- the remaining words begin with the next word
 pub next_left : (all : Words) (words : List (String Global)) (i : ℕ) (d : String Global) (old : State) (word : Word) → i < length words
     → string_bytes (get_or words i d) ≡ word → Leads all old (map string_bytes (drop i words))
     → Leads all old (word ∷ map string_bytes (drop (i + 1) words))
@@ -345,7 +345,7 @@ pub none_left : (all : Words) (words : List (String Global)) (i : ℕ) (old : St
 none_left all words i old le l =
     subst (λ (ws : List (String Global)). Leads all old (map string_bytes ws)) (drop_of_length-le words le) l
 
--- a word that was taken, and one that was refused
+-- if the returned flag says so, the word was taken
 pub taken_here : (t : Bool) (old : State) (word : Word) (new : State) → t ≡ true → MatchBool t (Takes old word new) (Refuses old word)
     → Takes old word new
 taken_here t old word new e h = subst (λ (b : Bool). MatchBool b (Takes old word new) (Refuses old word)) e h

@@ -1,4 +1,4 @@
--- Command lines, and what they ask for.
+-- The requests of command lines.
 use Rattle.std.proofs.Common.{ℕ, [], ◌∷◌, Some, None, refl, arith, codes}
 use Rattle.command_line.specs.declared.command.Command.TheVariants as commands
 use Rattle.command_line.specs.declared.task.ProgramTask.{ProgramTask}
@@ -12,7 +12,7 @@ use Rattle.command_line.specs.Requests.{OfFile, While, Selfrun, Lp, Translate, w
 use Rattle.command_line.specs.Worked.{CommandLines}
 use Rattle.command_line.proofs.Firsts.{gives_of as line}
 
--- what is written behind a command with a program's file
+-- the words after a command with a program's file
 of_program : (task : ProgramTask) (others values : Words) (n : ℕ) (file : Word) → Gives others values (file ∷ []) → AllowsPivots values n
     → Asks (word_of (commands.OfProgram task) ∷ others) (OfProgram task n file)
 of_program task others values n file g a = record {
@@ -24,7 +24,7 @@ of_program task others values n file g a = record {
   parts = record { allowed = a; one = refl };
 }
 
--- behind one with two files, without the option
+-- the words after a command with two files, without the option
 of_pair : (task : PairTask) (others : Words) (file second : Word) → Gives others [] (file ∷ second ∷ [])
     → Asks (word_of (commands.OfPair task) ∷ others) (OfPair task file second)
 of_pair task others file second g = record {
@@ -36,7 +36,7 @@ of_pair task others file second g = record {
   parts = record { no_option = refl; two = refl };
 }
 
--- behind one with a file alone, without it
+-- the words after a command with a file alone, without the option
 of_file : (task : FileTask) (others : Words) (file : Word) → Gives others [] (file ∷ [])
     → Asks (word_of (commands.OfFile task) ∷ others) (OfFile task file)
 of_file task others file g = record {
@@ -48,7 +48,7 @@ of_file task others file g = record {
   parts = record { no_option = refl; one = refl };
 }
 
--- behind the command of a while program, with it
+-- the words after the command of a while program, with the option
 of_while : (others values : Words) (n : ℕ) (file : Word) → Gives others values (file ∷ []) → AllowsPivots values n
     → Asks (word_of commands.While ∷ others) (While n file)
 of_while others values n file g a = record {
@@ -60,7 +60,7 @@ of_while others values n file g a = record {
   parts = record { allowed = a; one = refl };
 }
 
--- and behind one with a number, without it
+-- the words after a command with a number, without the option
 of_number : (task : NumberTask) (others : Words) (word : Word) (n : ℕ) → Gives others [] (word ∷ []) → IsNumber 100 word n
     → Asks (word_of (commands.OfNumber task) ∷ others) (OfNumber task n)
 of_number task others word n g h = record {

@@ -1,4 +1,4 @@
--- Words that ask for nothing.
+-- Words without a request.
 use Rattle.std.proofs.Common.{◌≡◌, ℕ, [], ◌∷◌, ◌++◌, refl, sym, ◌∙◌, ap, subst, arith, codes, get_or, true, false}
 use Rattle.command_line.specs.declared.command.Command.{Command}
 use Rattle.command_line.specs.declared.command.Command.TheVariants as commands
@@ -17,7 +17,7 @@ use Rattle.command_line.proofs.OneWay.{one_command, no_command, request_by}
 use Rattle.command_line.proofs.Commands.{none_of_none, none_without_command, none_by}
 use Rattle.command_line.proofs.Firsts.{apart_first, joined_first, plain_first, other_first, none_first, gives_along}
 
--- words with a command that asks for nothing with what they give ask for nothing
+-- if a command has no request with the given values and positionals, words with this command have none
 nothing : (c : Command) (others : Words)
     → ((values positionals : Words) → Gives others values positionals → ¬ (AsksWith (request_by c values positionals) values positionals))
     → AsksNothing (word_of c ∷ others)
@@ -27,33 +27,33 @@ nothing c others none r h =
     none_by c h.values h.positionals (none h.values h.positionals (gives_along _ _ _ _ _ _ same refl refl h.gives)) r
     (record { command_is = one_command (command_of r) c heads; parts = h.parts })
 
--- so do those behind a command with a program's file where there is no file with a number of pivots
+-- words after a command with a program's file have no request if they don't give one file and a number of pivots
 no_program : (task : ProgramTask) (others : Words)
     → ((values : Words) (n : ℕ) (file : Word) → Gives others values (file ∷ []) → AllowsPivots values n → ⊥)
     → AsksNothing (word_of (commands.OfProgram task) ∷ others)
 no_program task others none =
     nothing (commands.OfProgram task) others (λ values positionals g h. none values _ _ (gives_along _ _ _ _ _ _ refl refl (sym h.one) g) h.allowed)
 
--- behind that of a while program in the same way
+-- words after the command of a while program have no request if they don't give these
 no_while : (others : Words)
     → ((values : Words) (n : ℕ) (file : Word) → Gives others values (file ∷ []) → AllowsPivots values n → ⊥)
     → AsksNothing (word_of commands.While ∷ others)
 no_while others none =
     nothing commands.While others (λ values positionals g h. none values _ _ (gives_along _ _ _ _ _ _ refl refl (sym h.one) g) h.allowed)
 
--- behind one with two files where there are no two files without the option
+-- words after a command with two files have no request if they don't give two files without the option
 no_pair : (task : PairTask) (others : Words) → ((first second : Word) → Gives others [] (first ∷ second ∷ []) → ⊥)
     → AsksNothing (word_of (commands.OfPair task) ∷ others)
 no_pair task others none =
     nothing (commands.OfPair task) others (λ values positionals g h. none _ _ (gives_along _ _ _ _ _ _ refl (sym h.no_option) (sym h.two) g))
 
--- behind one with a file alone where there is no file without it
+-- words after a command with a file alone have no request if they don't give one file without the option
 no_file_of : (task : FileTask) (others : Words) → ((file : Word) → Gives others [] (file ∷ []) → ⊥)
     → AsksNothing (word_of (commands.OfFile task) ∷ others)
 no_file_of task others none =
     nothing (commands.OfFile task) others (λ values positionals g h. none _ (gives_along _ _ _ _ _ _ refl (sym h.no_option) (sym h.one) g))
 
--- and behind one with a number where there is no number without it
+-- words after a command with a number have no request if they don't give one number without the option
 no_number_of : (task : NumberTask) (others : Words) → ((word : Word) (n : ℕ) → Gives others [] (word ∷ []) → IsNumber 100 word n → ⊥)
     → AsksNothing (word_of (commands.OfNumber task) ∷ others)
 no_number_of task others none =
@@ -62,11 +62,11 @@ no_number_of task others none =
 no_word : AsksNothing []
 no_word = none_of_none
 
--- `Analyse` is no command
+-- `Analyse` isn't a command
 other_command : AsksNothing (codes "Analyse" ∷ codes "p" ∷ [])
 other_command = none_without_command _ (codes "Analyse") (codes "p" ∷ []) refl (no_command (codes "Analyse") refl)
 
--- nor are `gen`, `analys` and `fact`, which lack letters, `whiles`, which has one more, and an option
+-- `gen`, `analys` and `fact`, which lack letters, `whiles`, which has one more, and an option aren't commands
 shorter_command : AsksNothing (codes "gen" ∷ codes "1" ∷ [])
 shorter_command = none_without_command _ (codes "gen") (codes "1" ∷ []) refl (no_command (codes "gen") refl)
 
@@ -89,7 +89,7 @@ option_first =
 no_file : (values : Words) (n : ℕ) (file : Word) → Gives [] values (file ∷ []) → AllowsPivots values n → ⊥
 no_file values n file g a = let e = (none_first values (file ∷ []) g).1 in cc
 
--- the option and then the file
+-- words with the option before the file
 file_last : (values : Words) (file : Word) → Gives (codes "p" ∷ []) values (file ∷ []) → values ≡ []
 file_last values file g =
     let one = plain_first (codes "p") [] values (file ∷ []) refl g in
@@ -222,7 +222,7 @@ option_of_lp file g =
     let e : [] ≡ codes "5" ∷ one.0 = one.3 in
     cc
 
--- the number that is the only word behind a command
+-- the number that is the only word after a command
 the_number : (w word : Word) (n : ℕ) → is_plain w ≡ true → Gives (w ∷ []) [] (word ∷ []) → IsNumber 100 word n → IsNumber 100 w n
 the_number w word n plain g h =
     let one = plain_first w [] [] (word ∷ []) plain g in

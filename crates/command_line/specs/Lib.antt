@@ -1,4 +1,4 @@
--- command lines and what they ask for
+-- command lines and their requests
 pub mod Lines
 pub mod Numerals
 pub mod Requests

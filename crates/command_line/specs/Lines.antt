@@ -1,4 +1,4 @@
--- The words behind the command as they are written: options, positionals, and the words behind `--`.
+-- The words after the command as they are written: options, positionals, and the words after `--`.
 use Rattle.std.specs.Prelude.{◌≡◌, ℕ, Bool, true, not, ◌==◌, List, [], ◌∷◌, ◌++◌, Option, Some, None, IsTrue, ⊤}
 use Rattle.std.specs.Prelude.{codes}
 
@@ -26,18 +26,18 @@ pub data Item : Type 0 where
   Joined : Word → Item
   Positional : Word → Item
 
--- it is permitted where options are
+-- the item is permitted where options are
 abbrev pub IsItem : Item → Type 0
 IsItem (Apart value) = IsTrue (is_value value)
 IsItem (Joined value) = IsTrue (is_value value)
 IsItem (Positional word) = IsTrue (is_plain word)
 
--- each of them can
+-- each of the items is permitted where options are
 abbrev pub AreItems : List Item → Type 0
 AreItems [] = ⊤
 AreItems (item ∷ items) = IsItem item × AreItems items
 
--- the words of the items, and then, where there are words behind it, `--` with these words
+-- the words of the items, and then, where there are words after it, `--` with these words
 abbrev pub words_of_items : List Item → Option Words → Words
 words_of_items [] None = []
 words_of_items [] (Some behind) = codes "--" ∷ behind
@@ -52,7 +52,7 @@ values_of (Apart value ∷ items) = value ∷ values_of items
 values_of (Joined value ∷ items) = value ∷ values_of items
 values_of (Positional word ∷ items) = values_of items
 
--- the positionals, in order: those among the items, and all words behind `--`
+-- the positionals, in order: those among the items, and all words after `--`
 abbrev pub positionals_of : List Item → Option Words → Words
 positionals_of [] None = []
 positionals_of [] (Some behind) = behind
@@ -60,7 +60,7 @@ positionals_of (Apart value ∷ items) behind = positionals_of items behind
 positionals_of (Joined value ∷ items) behind = positionals_of items behind
 positionals_of (Positional word ∷ items) behind = word ∷ positionals_of items behind
 
--- the words are written of items that are permitted there, with these values of the option and these positionals
+-- the words are written of items that are permitted there, and have these values of the option and these positionals
 pub record Gives (words values positionals : Words) : Type 0 where
   pub items : List Item
   pub behind : Option Words

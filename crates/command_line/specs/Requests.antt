@@ -14,8 +14,8 @@ use Rattle.command_line.specs.Lines.{Word, Words, Gives}
 use Rattle.command_line.specs.Numerals.{IsNumber}
 
 -- the requests, by form: a task for the program in a file, with this many pivots for each linear program; a task for
--- the program in a file and what a second file has about it; a task for a number; a task for a file of another kind;
--- or the analysis of the while program in a file, with this many pivots for each linear program
+-- the program in a file and a second file about it; a task for a number; a task for a file of another kind; or the
+-- analysis of the while program in a file, with this many pivots for each linear program
 pub data Request : Type 0 where
   OfProgram : ProgramTask → ℕ → Word → Request
   OfPair : PairTask → Word → Word → Request
@@ -79,7 +79,7 @@ AllowsPivots [] n = n ≡ default_pivots
 AllowsPivots (value ∷ []) n = IsNumber maximum_pivots value n
 AllowsPivots (value ∷ other ∷ values) n = ⊥
 
--- the values of the option allow so many pivots, and the file is the one positional
+-- the values of the option allow this many pivots, and the file is the only positional
 pub record AsksProgram (values positionals : Words) (pivots : ℕ) (file : Word) : Type 0 where
   pub allowed : AllowsPivots values pivots
   pub one : positionals ≡ file ∷ []
@@ -89,12 +89,12 @@ pub record AsksTwo (values positionals : Words) (first second : Word) : Type 0 w
   pub no_option : values ≡ []
   pub two : positionals ≡ first ∷ second ∷ []
 
--- the option isn't given, and the file is the one positional
+-- the option isn't given, and the file is the only positional
 pub record AsksFile (values positionals : Words) (file : Word) : Type 0 where
   pub no_option : values ≡ []
   pub one : positionals ≡ file ∷ []
 
--- the option isn't given, and the one positional is the number, which is in its range
+-- the option isn't given, and the only positional is the number, which is in its range
 pub record AsksNumber (values positionals : Words) (n : ℕ) : Type 0 where
   pub no_option : values ≡ []
   pub word : Word
@@ -109,7 +109,7 @@ AsksWith (OfNumber task n) values positionals = AsksNumber values positionals n
 AsksWith (OfFile task file) values positionals = AsksFile values positionals file
 AsksWith (While pivots file) values positionals = AsksProgram values positionals pivots file
 
--- the words after the program's name ask for this: they are the word of its command, and behind it the values of the
+-- the words after the program's name have this request: they are the word of its command, followed by the values of the
 -- option and the positionals of the request, options before or after positionals
 pub record Asks (words : Words) (request : Request) : Type 0 where
   pub others : Words

@@ -1,4 +1,4 @@
--- How the words behind the command are read, one by one.
+-- How the words after the command are read, one by one.
 use Rattle.std.specs.Prelude.{◌≡◌, ◌≢◌, [], ◌∷◌, ◌++◌, map, string_bytes, IsTrue, IsFalse, codes}
 use Rattle.command_line.specs.Lines.{Word, Words, is_plain, is_value, Gives}
 use Rattle.command_line.specs.Requests.{Request, command_of, AsksWith}
@@ -9,7 +9,7 @@ use Rattle.command_line.specs.declared.line.Next.{Next}
 use Rattle.command_line.specs.declared.line.Next.TheVariants as nexts
 use Rattle.command_line.specs.declared.line.Line.{Line}
 
--- no way to write anything begins with this word
+-- no item can begin with this word
 pub record IsOther (word : Word) : Type 0 where
   pub end : word ≢ codes "--"
   pub apart : word ≢ codes "--pivots"
@@ -24,7 +24,7 @@ IsKind (kinds.PivotsOf value) word = word ≡ codes "--pivots=" ++ value.now
 IsKind kinds.Plain word = IsTrue (is_plain word)
 IsKind kinds.Other word = IsOther word
 
--- a word that is the value of the option before it, and what the others give
+-- a word that is the value of the option before it, and what the later words give
 pub record GivesValue (words values positionals : Words) : Type 0 where
   pub value : Word
   pub others : Words
@@ -34,7 +34,7 @@ pub record GivesValue (words values positionals : Words) : Type 0 where
   pub gives : Gives others more positionals
   pub has_values : values ≡ value ∷ more
 
--- what the remaining words give, by what may come next
+-- the values and positionals that the remaining words give, by what may come next
 abbrev pub GivesNext : Next → Words → Words → Words → Type 0
 GivesNext nexts.Word words values positionals = Gives words values positionals
 GivesNext nexts.Value words values positionals = GivesValue words values positionals
@@ -46,7 +46,7 @@ pub record State : Type 0 where
   pub values : Words
   pub positionals : Words
 
--- what the words that are left give, beside what was read
+-- the values and positionals that the remaining words give, added to those that were read
 pub record GivesBeside (read : State) (words values positionals : Words) : Type 0 where
   pub more_values : Words
   pub more_positionals : Words
@@ -69,7 +69,7 @@ pub record Leads (all : Words) (read : State) (left : Words) : Type 0 where
   pub forth : (values positionals : Words) → GivesBeside read left values positionals → Gives all values positionals
   pub back : (values positionals : Words) → Gives all values positionals → GivesBeside read left values positionals
 
--- the word is taken: what the words behind it give is then what they give with it before
+-- the word is taken: after it, the remaining words give what they and the word gave before it
 pub record Takes (old : State) (word : Word) (new : State) : Type 0 where
   pub forth : (left values positionals : Words) → GivesBeside new left values positionals
       → GivesBeside old (word ∷ left) values positionals
@@ -86,7 +86,7 @@ pub record HasOnePositional (old : Line) (word : Word) (new : Line) : Type 0 whe
   pub positionals : positionals_in new ≡ positionals_in old ++ word ∷ []
   pub next : new.next ≡ old.next
 
--- the line has one more value of the option, behind which any word is permitted
+-- the line has one more value of the option, after which any word is permitted
 pub record IsValued (old : Line) (value : Word) (new : Line) : Type 0 where
   pub values : values_in new ≡ values_in old ++ value ∷ []
   pub positionals : positionals_in new ≡ positionals_in old

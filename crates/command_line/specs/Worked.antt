@@ -4,11 +4,11 @@ use Rattle.command_line.specs.Lines.{Words}
 use Rattle.command_line.specs.Requests.{Request, OfProgram, OfPair, OfNumber, Analyse, Prove, Facts, Check, Replay}
 use Rattle.command_line.specs.Requests.{OfFile, While, Lasso, Generate, Selfrun, Lp, Translate, Asks}
 
--- the words ask for nothing
+-- the words have no request
 abbrev pub AsksNothing : Words → Type 0
 AsksNothing words = (r : Request) → ¬ (Asks words r)
 
--- command lines, and what they ask for
+-- command lines and their requests
 pub record CommandLines : Type 0 where
   pub file_alone : Asks (codes "analyse" ∷ codes "p" ∷ []) (OfProgram Analyse 10000 (codes "p"))
   pub standard_input : Asks (codes "analyse" ∷ codes "-" ∷ []) (OfProgram Analyse 10000 (codes "-"))
@@ -34,7 +34,7 @@ pub record CommandLines : Type 0 where
   pub while_within : Asks (codes "while" ∷ codes "--pivots=5" ∷ codes "--" ∷ codes "-p" ∷ []) (While 5 (codes "-p"))
   pub translation : Asks (codes "translate" ∷ codes "p" ∷ []) (OfFile Translate (codes "p"))
 
--- words that ask for nothing
+-- words without a request
 pub record OtherWords : Type 0 where
   pub no_word : AsksNothing []
   pub other_command : AsksNothing (codes "Analyse" ∷ codes "p" ∷ [])

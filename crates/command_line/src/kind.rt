@@ -66,7 +66,7 @@ pub(crate) fn is_same(word: &[u8], other: &[u8]) -> bool
     word == other
 }
 
-// The rest of a word behind a prefix, if it has this prefix.
+// The rest of a word after a prefix, if it has this prefix.
 fn behind<'a>(word: &'a [u8], first: &[u8]) -> Option<&'a [u8]>
     ensures { MatchOption result ((rest : List ℕ) → word.now ≢ first.now ++ rest)
         (λ rest. word.now ≡ first.now ++ rest.now) }

@@ -9,8 +9,8 @@ pub fn words_are_read_in_one_way()
     ensures { WordsAreReadInOneWay }
 {}
 
-/// The law that the usage text has a line for each command, and that no two commands have the same word. The function has
-/// no code: its contract is the law.
+/// The law that the usage text has a line for each command, and that no two commands have the same word. The function
+/// has no code: its contract is the law.
 pub fn commands_are_listed()
     ensures { CommandsAreListed }
 {}

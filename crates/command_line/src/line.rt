@@ -1,4 +1,4 @@
-//! Reads the words behind the command, one by one.
+//! Reads the words after the command, one by one.
 
 ghost use Rattle.std.specs.Prelude.{◌≡◌, map, string_bytes, MatchBool, MatchOption, IfOk, OnOk};
 ghost use Rattle.command_line.specs.Lines.{Words, Gives};
@@ -15,7 +15,7 @@ pub(crate) enum Next {
     Word,
     /// The value of the option before it.
     Value,
-    /// A positional: all words behind `--` are.
+    /// A positional: all words after `--` are.
     Positional,
 }
 
@@ -51,7 +51,7 @@ pub(crate) fn read_line(alloc: Global, words: &[String]) -> Result<Option<Line>,
     }
 }
 
-// Adds a word to the line; no, if the word isn't permitted there.
+// Adds a word to the line; returns no if the word isn't permitted there.
 fn take(alloc: Global, line: &mut Line, word: &str) -> Result<bool, Memory>
     ensures { IfOk result (λ taken. MatchBool taken
         (Takes (state_of line.old) word.now (state_of line.new))
@@ -74,7 +74,7 @@ fn take(alloc: Global, line: &mut Line, word: &str) -> Result<bool, Memory>
     }
 }
 
-// Adds a word where options are permitted; no, if it isn't permitted there.
+// Adds a word where options are permitted; returns no if it isn't permitted there.
 fn take_word(alloc: Global, line: &mut Line, word: &str) -> Result<bool, Memory>
     requires { line.old.next ≡ Next.Word }
     ensures { IfOk result (λ taken. MatchBool taken
@@ -114,7 +114,7 @@ fn push_positional(alloc: Global, line: &mut Line, word: &str) -> Result<(), Mem
     Ok(())
 }
 
-// Adds a value of the option; any word is permitted behind it.
+// Adds a value of the option; any word is permitted after it.
 fn push_value(alloc: Global, line: &mut Line, value: &[u8]) -> Result<(), Memory>
     ensures { OnOk result (IsValued line.old value.now line.new) }
 {

@@ -1,4 +1,4 @@
-//! Numbers as words.
+//! Numbers that are written as words.
 
 ghost use Rattle.std.specs.Prelude.{◌≡◌, ℕ, MatchOption, IsTrue};
 ghost use Rattle.std.specs.List.{list_all};

@@ -13,7 +13,7 @@ use crate::task::{FileTask, NumberTask, PairTask, ProgramTask};
 use model::Memory;
 use std::alloc::Global;
 
-/// The request of a command line: a task, and what it is about. `pivots` is how many pivots each linear program may take,
+/// The request of a command line: a task, and its operands. `pivots` is how many pivots each linear program may take,
 /// up to 1,000,000, and `n` is at most 100.
 #[derive(Debug, PartialEq, Eq, Drop)]
 pub enum Request {
@@ -23,7 +23,7 @@ pub enum Request {
         pivots: u32,
         file: String,
     },
-    /// A task for the program in a file and what a second file has about it.
+    /// A task for the program in a file and a second file about it.
     OfPair {
         task: PairTask,
         file: String,
@@ -68,7 +68,7 @@ pub fn asks(alloc: Global, words: &[String]) -> Result<Option<Request>, Memory>
     Ok(asked_by(command, line))
 }
 
-// The request of a command with a line behind it.
+// The request of a command with a line after it.
 fn asked_by(command: Command, line: Line) -> Option<Request>
     ensures { MatchOption result (AsksNone command (values_in line) (positionals_in line))
         (λ request. IsAskedBy command (values_in line) (positionals_in line) (request_of request)) }

@@ -3,9 +3,9 @@
 /// What is done with the program in a file.
 #[derive(Clone, Copy, Debug, PartialEq, Eq)]
 pub enum ProgramTask {
-    /// `analyse`: its analysis.
+    /// `analyse`: the analysis of the program.
     Analyse,
-    /// `prove`: the proofs of what its analysis finds.
+    /// `prove`: the proofs of the bounds that the analysis finds.
     Prove,
     /// `facts`: the facts that are kept at its locations, and its analysis with them.
     Facts,
@@ -18,7 +18,7 @@ pub enum PairTask {
     Check,
     /// `replay`: the replay of the run in the second file, of the program.
     Replay,
-    /// `lasso`: whether the turn of the lasso in the second file, of the program, leads back.
+    /// `lasso`: whether the turn of the lasso in the second file, of the program, leads back, or moves on.
     Lasso,
 }
 

@@ -1,4 +1,4 @@
--- A node that cites lemmas by numbers states the same behind further lemmas.
+-- A node that cites lemmas by numbers states the same after further lemmas.
 use Rattle.std.proofs.Common.{◌≡◌, ◌≢◌, ℕ, zero, suc, ◌==◌, Bool, true, false, not, List, [], ◌∷◌, ◌++◌, filter, refl}
 use Rattle.std.proofs.Common.{ap, sym, subst, ◌∙◌, arith}
 use Rattle.std.specs.List.{Contains}
@@ -15,11 +15,11 @@ use Rattle.bound_fixpoint.specs.Needs.{cites, once, uses_from}
 use Rattle.bound_fixpoint.proofs.CitedFacts.{once-in, other_is}
 use Rattle.bound_fixpoint.proofs.FactLists.{IsNumbered, stating_numbered}
 
--- an earlier lemma is one behind further lemmas
+-- an earlier lemma is one among further lemmas
 pub numbered-before : (past more : List (List Fact)) (n : ℕ) → IsNumbered past n → IsNumbered (past ++ more) n
 numbered-before past more n h = record { least = h.least; earlier = omega (arith, h.earlier, length-append past more) }
 
--- and states what it stated
+-- an earlier lemma states the same facts among further lemmas
 lemma-before : (past more : List (List Fact)) (n : ℕ) → IsNumbered past n → facts_of_lemma (past ++ more) n ≡ facts_of_lemma past n
 lemma-before past more zero h = absurd (omega (arith, h.least))
 lemma-before [] more (suc n) h = absurd (omega (arith, h.earlier))
@@ -27,14 +27,14 @@ lemma-before (facts ∷ past) more (suc zero) h = refl
 lemma-before (facts ∷ past) more (suc (suc n)) h =
     lemma-before past more (suc n) (record { least = omega arith; earlier = omega (arith, h.earlier) })
 
--- a fact of a lemma is one of it behind further lemmas
+-- a fact of a lemma is one of it among further lemmas
 pub contains-before : (past more : List (List Fact)) (n : ℕ) (f : Fact) → Contains (facts_of_lemma past n) f
     → Contains (facts_of_lemma (past ++ more) n) f
 contains-before past more n f h =
     subst (λ (facts : List Fact). Contains facts f) (sym (lemma-before past more n (stating_numbered past n f h))) h
 
 module _ (s : Setting) (past more : List (List Fact)) where
-  -- what is stated by citing earlier lemmas
+  -- citing earlier lemmas states the same facts among further lemmas
   cites-before : (ns : List ℕ) → ((n : ℕ) → is_in n ns ≡ true → IsNumbered past n)
       → joined_facts s (past ++ more) (cites ns) ≡ joined_facts s past (cites ns)
   cites-before [] h = refl
@@ -44,7 +44,7 @@ module _ (s : Setting) (past more : List (List Fact)) where
       ∙ ap (λ (facts : List Fact). facts_of_lemma past n ++ facts)
       (cites-before ns (λ m k. h m (or_right (m == n) (is_in m ns) k)))
 
-  -- the same with the virtual entry first
+  -- citing the virtual entry and earlier lemmas states the same facts among further lemmas
   pub uses-before : (ns : List ℕ) → ((n : ℕ) → is_in n ns ≡ true → n ≢ 0 → IsNumbered past n)
       → joined_facts s (past ++ more) (uses_from ns) ≡ joined_facts s past (uses_from ns)
   uses-before ns h = go (is_in 0 ns) refl
@@ -63,13 +63,13 @@ module _ (s : Setting) (past more : List (List Fact)) where
       go false e = rw e same
 
 module _ (s : Setting) where
-  -- what lemmas state that are followed by others
+  -- the facts of appended lists of lemmas
   pub facts-append : (past : List (List Fact)) (xs ys : List Proof)
       → facts_from s past (xs ++ ys) ≡ facts_from s (facts_from s past xs) ys
   facts-append past [] ys = refl
   facts-append past (x ∷ xs) ys = facts-append (past ++ facts_of s past x ∷ []) xs ys
 
-  -- lemmas that are accepted, and others that are accepted behind them
+  -- lemmas that are accepted, with others that are accepted after them, are accepted together
   pub accepts-append : (past : List (List Fact)) (xs ys : List Proof) → AcceptsFrom s past xs
       → AcceptsFrom s (facts_from s past xs) ys → AcceptsFrom s past (xs ++ ys)
   accepts-append past [] ys h k = k

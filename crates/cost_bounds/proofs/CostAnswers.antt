@@ -1,4 +1,4 @@
--- How the answers of the code are read.
+-- How the answers of the code represent outcomes.
 use Rattle.std.proofs.Common.{◌≡◌, ◌∙◌, ℕ, ap}
 use Rattle.model.specs.Bounds.{Bound}
 use Rattle.model.specs.Facts.{Cost}
@@ -13,7 +13,7 @@ use Rattle.cost_bounds.specs.declared.answer.CostAnswer.{CostAnswer}
 use Rattle.cost_bounds.specs.declared.answer.CostAnswer.TheVariants as answers
 
 module _ (q : CostQuestion) (number : ℕ → ℕ → ℕ) where
-  -- an answer that stands for an outcome of one kind stands for one of a wider kind
+  -- an answer that represents an outcome with a property represents one with a weaker property
   pub answers-weaker : (Is Other : CostOutcome → Type 0) → ((o : CostOutcome) → Is o → Other o) → (a : CostAnswer)
       → AnswersWith q number Is a → AnswersWith q number Other a
   answers-weaker Is Other wider (answers.Found node fact) (by, is, proof, states) = (by, wider _ is, proof, states)
@@ -23,7 +23,7 @@ module _ (q : CostQuestion) (number : ℕ → ℕ → ℕ) where
   answers-weaker Is Other wider (answers.Untimed u) h = wider _ h
   answers-weaker Is Other wider (answers.Large n) h = wider _ h
 
-  -- a node that is found stands for its certificate, where it cites what this needs and states what this does
+  -- a node that is found represents its certificate, if it cites the certificate's premises and states its bound
   pub found-answers : (Is : CostOutcome → Type 0) (by : CostBy) (uses : Proofs) (bound : Bound) (a : CostAnswer)
       → IsFound q.rule by uses bound a → Is (BoundedBy by)
       → uses ≡ uses_for number (cost_premises (setting_of q.program) q.rule by)

@@ -1,4 +1,5 @@
--- The node on a cost that is bounded is accepted over the table, and over each table with the same bounds where it looks.
+-- The node on a cost that is bounded is accepted over the table, and over each table with the same bounds wherever the
+-- node reads.
 use Rattle.std.proofs.Common.{◌≡◌, inl, inr, ℕ, suc, ◌<◌, Bool, true, false, List, [], ◌∷◌, filter, Option, Some, None}
 use Rattle.std.proofs.Common.{length, refl, sym, ap, ◌∙◌, subst}
 use Rattle.std.specs.List.{range_with_len}
@@ -53,7 +54,7 @@ zero_known None e = absurd (no e)
     no k = cc
 zero_known (Some b) e = (b, refl)
 
--- and it is 0
+-- a time that passes the test for 0 is 0
 pub zero_is : (o : Option Bound) → is_zero_time o ≡ true → is_zero_bound (known o) ≡ true
 zero_is None e = refl
 zero_is (Some b) e = e
@@ -74,7 +75,7 @@ module _ (p : Program) (pivots : ℕ) (tab : Table) (t : ℕ) where
     pub numbers : AreMultipliers (costs_of (setting_of p)) t multipliers
     pub shows : Implies ((setting_of p).cost_rows t) multipliers minus_one
 
-  -- a side bound of one step is found, its time and sizes are known, and what it composes is small
+  -- a side bound of one step is found, its time and sizes are known, and the composed bound is small
   pub record IsStepCost (costs : HasCost p t) (side_bound : SideBound) : Type 0 where
     pub feasibility : GuardFeasibility
     pub local : LocalBound
@@ -84,20 +85,20 @@ module _ (p : Program) (pivots : ℕ) (tab : Table) (t : ℕ) where
     pub timed : IsKnown (tab.time t)
     pub small : IsSmallComposed (setting_of p).rewrite (composed_bound (question p tab t) side_bound)
 
-  -- what an outcome with a bound says of its certificate
+  -- the property that an outcome with a bound shows of its certificate
   abbrev pub Certifies : HasCost p t → CostBy → Type 0
   Certifies costs (EmptyCost multipliers) = IsEmptyCost multipliers
   Certifies costs NeverCost = is_zero_time (tab.time t) ≡ true
   Certifies costs (SideBoundCost side_bound) = IsStepCost costs side_bound
 
-  -- one certificate that is another certifies
+  -- a certificate that is equal to the one of an outcome has this property
   same-by : (costs : HasCost p t) (x y : CostBy) → BoundedBy x ≡ BoundedBy y → Certifies costs y → Certifies costs x
   same-by costs x y e h = subst (Certifies costs) (sym (inner e)) h
     where
       inner : BoundedBy x ≡ BoundedBy y → x ≡ y
       inner k = cc
 
-  -- the outcome of a bound is certified
+  -- the certificate of the outcome of a bound has this property
   pub certified : (h : (by : CostBy) × IsCostOf p pivots tab t (BoundedBy by)) → Certifies h.1.costs h.0
   certified (by, h) = go h.feasibility h.answered h.first
     where
@@ -169,12 +170,12 @@ module _ (p : Program) (pivots : ℕ) (tab : Table) (t : ℕ) where
     module _ (side_bound : SideBound) (h : IsStepCost costs side_bound)
         (time : other.time t ≡ tab.time t)
         (sizes : (e i : ℕ) → has_key (sizes_read (question p tab t) side_bound) e i ≡ true → other.size e i ≡ tab.size e i) where
-      -- it is accepted
+      -- the side bound of one step is accepted
       accepted : AcceptsCostSideBound (setting_of p) t side_bound
       accepted = subst (λ (x : SideBound). AcceptsCostSideBound (setting_of p) t x) h.up
           (up-accepts p t costs v pivots h.feasibility h.local h.found)
 
-      -- each place that it reads after a rule that can come before is among those that it needs
+      -- each place that the side bound reads after a rule that can come before is among its premises
       listed : (es : List ℕ) (e : ℕ) → is_in e es ≡ true → (j : ℕ) → j < left_of p t
           → reads ((setting_of p).cost_poly t) side_bound j ≡ true
           → has_key (needed_at_cost (setting_of p) t side_bound es) e (suc j) ≡ true
@@ -191,7 +192,7 @@ module _ (p : Program) (pivots : ℕ) (tab : Table) (t : ℕ) where
           (λ later. has_key-right (result_variables_after x (filter (reads ((setting_of p).cost_poly t) side_bound) (range_with_len 0 (left_of p t))))
           (needed_at_cost (setting_of p) t side_bound es) e (suc j) (listed es e later j l r))
 
-      -- so it is the same bound at the sizes of both tables
+      -- the side bound has the same bound at the sizes of both tables
       step-same : (e : ℕ) → is_in e (pre p t) ≡ true
           → composed_side_bound ((setting_of p).cost_poly t) side_bound (sizes_after other.size e)
           ≡ composed_side_bound ((setting_of p).cost_poly t) side_bound (sizes_after tab.size e)
@@ -204,7 +205,7 @@ module _ (p : Program) (pivots : ℕ) (tab : Table) (t : ℕ) where
               reads-left (costs_of (setting_of p)) (cost_result_variable t) Up side_bound
               (cost-numbers v costs (SideBoundCost side_bound) h) accepted j r
 
-      -- and composes the same bound
+      -- the side bound composes the same cost over both tables
       pub cost-same : side_bound_cost (setting_of p) other t side_bound ≡ side_bound_cost (setting_of p) tab t side_bound
       cost-same =
           ap (λ (o : Option Bound). ProductOf (both_parts (known o) (step_cost_of (setting_of p) t side_bound other.size))) time
@@ -213,7 +214,7 @@ module _ (p : Program) (pivots : ℕ) (tab : Table) (t : ℕ) where
           (λ e. composed_side_bound ((setting_of p).cost_poly t) side_bound (sizes_after other.size e))
           (λ e. composed_side_bound ((setting_of p).cost_poly t) side_bound (sizes_after tab.size e)) step-same)
 
-      -- its checks pass
+      -- the checks of the side bound pass
       pub step-passes : AllPass (cost_checks_by (setting_of p) other t (SideBoundCost side_bound))
       step-passes = (
         accepted,
@@ -227,22 +228,22 @@ module _ (p : Program) (pivots : ℕ) (tab : Table) (t : ℕ) where
         ),
       )
 
-    -- the time and the sizes that a certificate needs are the same in the other table
+    -- the time and the sizes that are premises of a certificate are the same in the other table
     pub record AgreesOn (by : CostBy) : Type 0 where
       pub time : has_key (cost_premises (setting_of p) t by) t 0 ≡ true → other.time t ≡ tab.time t
       pub sizes : (e i : ℕ) → has_key (cost_premises (setting_of p) t by) e i ≡ true → other.size e i ≡ tab.size e i
 
-    -- the time is among what a bound on one step needs
+    -- the rule's time is among the premises of a bound on one step
     own-time : (side_bound : SideBound) → AgreesOn (SideBoundCost side_bound) → other.time t ≡ tab.time t
     own-time side_bound same = same.time (has_key-first (time_key t) (sizes_read (question p tab t) side_bound))
 
-    -- and so are its sizes
+    -- the sizes that the bound reads are among its premises
     own-sizes : (side_bound : SideBound) → AgreesOn (SideBoundCost side_bound) → (e i : ℕ)
         → has_key (sizes_read (question p tab t) side_bound) e i ≡ true → other.size e i ≡ tab.size e i
     own-sizes side_bound same e i m =
         same.sizes e i (has_key-later (time_key t) (sizes_read (question p tab t) side_bound) e i m)
 
-    -- over tables that agree on what it needs a node states the same bound
+    -- over tables that agree on its premises a node states the same bound
     pub node-same : (by : CostBy) → Certifies costs by → AgreesOn by
         → node_cost (setting_of p) other (cost_node t by) ≡ node_cost (setting_of p) tab (cost_node t by)
     node-same (EmptyCost multipliers) h same = refl
@@ -250,7 +251,7 @@ module _ (p : Program) (pivots : ℕ) (tab : Table) (t : ℕ) where
     node-same (SideBoundCost side_bound) h same =
         ap (setting_of p).rewrite (cost-same side_bound h (own-time side_bound same) (own-sizes side_bound same))
 
-    -- its checks pass
+    -- the checks of the node pass
     passes : (by : CostBy) → Certifies costs by → AgreesOn by → AllPass (cost_checks_by (setting_of p) other t by)
     passes (EmptyCost multipliers) h same = (h.shows, tt)
     passes NeverCost h same =
@@ -261,7 +262,7 @@ module _ (p : Program) (pivots : ℕ) (tab : Table) (t : ℕ) where
         )
     passes (SideBoundCost side_bound) h same = step-passes side_bound h (own-time side_bound same) (own-sizes side_bound same)
 
-    -- so it is accepted over the other table
+    -- the node is accepted over the other table
     pub node-accepted : (by : CostBy) → Certifies costs by → AgreesOn by → AcceptsCost (setting_of p) other (cost_node t by)
     node-accepted by h same =
         passes-cost (setting_of p) other (cost_node t by) (record { cost = costs; numbers = cost-numbers v costs by h }, passes by h same)

@@ -1,4 +1,4 @@
--- The program of a cost, whose only rule is the cost rule: so what is known of the places of programs is known of costs.
+-- The program of a cost, whose only rule is the cost rule: local bounds of its only place are bounds on the cost.
 use Rattle.std.proofs.Common.{◌≡◌, ℕ, ◌<◌, List, [], ◌∷◌, length, get_or, Option, refl, sym, ap, ◌∙◌, subst, arith}
 use Rattle.std.specs.Prelude.{Some, slice_get}
 use Rattle.std.proofs.lemmas.Option.{slice_get-get_or}
@@ -41,16 +41,16 @@ module _ (p : Program) (t : ℕ) (h : HasCost p t) (v : IsValid p) where
   pub source : (s : Symbol) × (slice_get p.symbols h.rule.source ≡ Some s)
   source = element p.symbols h.rule.source (rule-valid p t h.rule v h.numbered).source
 
-  -- the program of its cost
+  -- the program of the cost
   abbrev pub alone : Program
   alone = cost_program source.0 h.rule h.cost
 
-  -- which is valid
+  -- the program of the cost is valid
   pub alone-valid : IsValid alone
   alone-valid = cost-programs-tell-costs.valid p alone t v
       (record { costs = h; symbol = source.0; source = source.1; program = refl })
 
-  -- its only rule has the one place
+  -- the only rule of the program of the cost has one place
   pub alone-place : IsResultVariableOf alone only_place_of (cost_rule h.rule h.cost)
   alone-place = record {
     numbered = refl;
@@ -77,7 +77,7 @@ module _ (p : Program) (t : ℕ) (h : HasCost p t) (v : IsValid p) where
   }
   shape-of_cost Poly k = tt
 
-  -- and what is accepted over it is accepted as a side bound of the cost
+  -- a side bound that is accepted over the program of the cost is accepted as a side bound of the cost
   accepted-of_cost : (side_bound : SideBound) → AcceptsSideBound (setting_of alone) only_place_of Up side_bound
       → AcceptsCostSideBound (setting_of p) t side_bound
   accepted-of_cost (Linear den form multipliers) k =
@@ -91,7 +91,7 @@ module _ (p : Program) (t : ℕ) (h : HasCost p t) (v : IsValid p) where
 
   module _ (pivots : ℕ) (e : GuardFeasibility) (l : LocalBound)
       (is : IsLocal (prepared_cost h) (cost_result_variable t) pivots e (HasBound l)) where
-    -- so the upper side bound of an answer on the cost has the right shape, and is accepted
+    -- the upper side bound of an answer on the cost has the right shape, and is accepted
     pub up-shaped : HasSideBoundShape (costs_of (setting_of p)) t (left_of p t) l.up
     up-shaped = shape-of_cost l.up
         (bound-shaped alone (cost_rule h.rule h.cost) only_place_of pivots alone-valid alone-place e l is).up

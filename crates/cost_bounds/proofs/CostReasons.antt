@@ -29,7 +29,7 @@ use Rattle.cert_types.specs.AnswerViews.{scaled_of}
 use Rattle.cert_types.proofs.cert_rules.CheckLists.{each-append, each-map, in-each}
 use Rattle.rank_search.specs.rule_questions.EmptyAnswers.{IsEmptyAnswer}
 use Rattle.outcome.specs.Reports.{NoSize, SizeUnbounded, SizeHitLimit, SizeMissing, SizeUntimed, SizeLarge}
-use Rattle.local_size.specs.LocalAnswers.{Local, HasBound, IsUnboundedOn, HasHitLimit, IsLocal, PassesNone, SideComesTo}
+use Rattle.local_size.specs.LocalAnswers.{Local, HasBound, IsUnboundedOn, HasHitLimit, IsLocal, PassesNone, SideHasResult}
 use Rattle.local_size.specs.Sides.{LimitPassed}
 use Rattle.local_size.proofs.UnboundedAnswers.{kept-point, none-affine, ray-limits, ray-of_side}
 use Rattle.size_nodes.specs.Needs.{first_missing, this_or}
@@ -39,7 +39,7 @@ use Rattle.cost_bounds.specs.CostReasons.{prepared_cost, ExceedsFirst, HasNoCost
 use Rattle.cost_bounds.specs.Laws.{CostReasonsAreTrue}
 use Rattle.cost_bounds.proofs.CostPrograms.{alone, alone-valid, alone-place, only_place_of}
 
--- the first place without a size has what all that are looked at have, and no size
+-- the first place without a size has no size, and each property of all places in the list
 first-is : (tab : Table) (P : ResultVariable → Type 0) (ms : List ResultVariable) (m : ResultVariable) → AllByRecursion P ms
     → first_missing tab ms ≡ Some m → P m × (tab.size m.rule m.place ≡ None)
 first-is tab P [] m all e = absurd (none_some m e)
@@ -86,11 +86,11 @@ module _ (p : Program) (pivots : ℕ) (tab : Table) (t : ℕ) (why : NoSize) (v 
   abbrev costs : HasCost p t
   costs = h.costs
 
-  -- this is answered of the cost of one step
+  -- the answer on the cost of one step
   abbrev IsStep : GuardFeasibility → Local → Type 0
   IsStep e step = IsLocal (prepared_cost costs) (cost_result_variable t) pivots e step
 
-  -- what is said of another reason that is the same
+  -- what a reason says of the program, if the outcome is equal to one with this reason
   because : (other : NoSize) → NotBounded why ≡ NotBounded other → HasNoCostBound p pivots tab t other
       → HasNoCostBound p pivots tab t why
   because other e k = subst (HasNoCostBound p pivots tab t) (sym (inner e)) k
@@ -172,8 +172,8 @@ module _ (p : Program) (pivots : ℕ) (tab : Table) (t : ℕ) (why : NoSize) (v 
     exceeds = go own.first;
   }
     where
-      go : SideComesTo (prepared_cost costs) 1 pivots Up (LimitPassed (cause_of x.cause))
-          ⊎ (PassesNone (prepared_cost costs) 1 pivots Up × SideComesTo (prepared_cost costs) 1 pivots Low (LimitPassed (cause_of x.cause)))
+      go : SideHasResult (prepared_cost costs) 1 pivots Up (LimitPassed (cause_of x.cause))
+          ⊎ (PassesNone (prepared_cost costs) 1 pivots Up × SideHasResult (prepared_cost costs) 1 pivots Low (LimitPassed (cause_of x.cause)))
           → ExceedsFirst (prepared_cost costs) t pivots (record { question = questions.Cost t; cause = x.cause })
       go (inl up) = inl up
       go (inr low) = inr (inl low)

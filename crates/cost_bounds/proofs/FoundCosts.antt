@@ -1,4 +1,4 @@
--- The answers of the code are those of the outcomes, along the decisions.
+-- The answers of the code represent the outcomes, along the decisions.
 use Rattle.std.proofs.Common.{◌≡◌, inl, inr, ℕ, Bool, true, false, not, List, [], ◌∷◌, Option, Some, None, refl, sym, ap, ◌∙◌, subst}
 use denote.Ref.{Bor}
 use Rattle.std.specs.Prelude.{is_some}
@@ -44,7 +44,7 @@ cost-prepared p k given = record {
   same = given.rows.same;
 }
 
--- a time that is seen to be there isn't missing, and one that isn't is
+-- a time for which the test for a missing one fails isn't missing, and one for which it succeeds is
 pub time-there : (o : Option (Bor code.Bound)) (v : Bool) → is_some o ≡ not v → v ≡ false → (optional_bound o ≡ None) → ⊥
 time-there None v e f h = absurd (no (e ∙ ap not f))
   where
@@ -59,26 +59,26 @@ time-missing (Some b) v e t = absurd (no (e ∙ ap not t))
     no : true ≡ false → ⊥
     no k = cc
 
--- the decisions over the sizes that are read
+-- the decisions by the sizes that are read
 module _ (q : CostQuestion) (number : ℕ → ℕ → ℕ) (side_bound : SideBound) (a : CostAnswer) where
-  -- by whether one of them is missing
+  -- the decision by whether one of the sizes is missing
   pub sized-by : (o : Option ResultVariable) → first_missing q.table (sizes_read q side_bound) ≡ o
       → AnswersWith q number (SizedTo q side_bound o) a
       → AnswersWith q number (SizedTo q side_bound (first_missing q.table (sizes_read q side_bound))) a
   sized-by o e h = subst (λ (x : Option ResultVariable). AnswersWith q number (SizedTo q side_bound x) a) (sym e) h
 
-  -- and then by whether the rule has a time
+  -- the decision by whether the rule has a time
   pub timed-by : (o : Option Bound) → q.table.time q.rule ≡ o → AnswersWith q number (TimedTo q side_bound o) a
       → AnswersWith q number (SizedTo q side_bound None) a
   timed-by o e h = subst (λ (x : Option Bound). AnswersWith q number (TimedTo q side_bound x) a) (sym e) h
 
-  -- a time that is known decides for what is composed
+  -- if the time is known, the answer is that of the composed bound
   pub composed-by : (o : Option Bound) → ((o ≡ None) → ⊥) → AnswersWith q number (ComposesTo q side_bound) a
       → AnswersWith q number (TimedTo q side_bound o) a
   composed-by None some h = absurd (some refl)
   composed-by (Some b) some h = h
 
--- what is composed is small, or too large
+-- the composed bound is small, or too large
 module _ (p : Program) (tab : Table) (number : ℕ → ℕ → ℕ) (t : ℕ) (side_bound : SideBound) where
   pub large-answers : (n : ℕ) → TooLarge n ≡ rewritten_within (composed_bound (question p tab t) side_bound)
       → ComposesTo (question p tab t) side_bound (NotBounded (SizeLarge n))
@@ -95,14 +95,14 @@ module _ (p : Program) (tab : Table) (number : ℕ → ℕ → ℕ) (t : ℕ) (s
       found-answers (question p tab t) number (ComposesTo (question p tab t) side_bound) (SideBoundCost side_bound)
       (uses_for number keys) bound a h (inl (w.0, refl)) (ap (uses_for number) listed) w.1
 
--- the decisions over the rows of a cost
+-- the decisions by the rows of a cost
 module _ (p : Program) (pivots : ℕ) (tab : Table) (number : ℕ → ℕ → ℕ) (k : PreparedCost) (given : IsPreparedCost p k) where
-  -- this is answered of the cost of one step
+  -- the answer on the cost of one step
   abbrev IsStep : GuardFeasibility → Local → Type 0
   IsStep e step = IsLocal (prepared_cost given.rows.costs) (cost_result_variable k.rule) pivots e step
 
   module _ (e : GuardFeasibility) (answered : IsEmptyAnswer (prepared_of k.rows.now) k.rule pivots e) where
-    -- an outcome after the answer on the rows
+    -- the outcome is decided by the answer on the rows
     decided : (o : CostOutcome) → FeasibleTo (question p tab k.rule) (IsStep e) e o → IsCostOf p pivots tab k.rule o
     decided o h = record {
       costs = given.rows.costs;
@@ -111,7 +111,7 @@ module _ (p : Program) (pivots : ℕ) (tab : Table) (number : ℕ → ℕ → �
       first = h;
     }
 
-    -- rows without a point
+    -- the answer if the rows have no point
     pub empty-answers : (node : EmptyNode) → e ≡ feasible.Empty node → (ms : List ℕ) → ms ≡ node.multipliers.items
         → (a : CostAnswer) → IsFound k.rule (EmptyCost ms) NoProof (Constant 0) a → IsCostAnswer p pivots tab number k.rule a
     empty-answers node is ms same a h =
@@ -121,7 +121,7 @@ module _ (p : Program) (pivots : ℕ) (tab : Table) (number : ℕ → ℕ → �
         (ap (λ (xs : List ℕ). BoundedBy (EmptyCost xs)) same))) refl refl
 
     module _ (may_run : ¬ SaysEmpty e) where
-      -- an outcome after whether the time is 0
+      -- the outcome is decided by whether the time is 0
       running : (d : GuardFeasibility) → (¬ SaysEmpty d) → (o : CostOutcome)
           → RunsTo (question p tab k.rule) (IsStep d) (is_zero_time (tab.time k.rule)) o
           → FeasibleTo (question p tab k.rule) (IsStep d) d o
@@ -129,7 +129,7 @@ module _ (p : Program) (pivots : ℕ) (tab : Table) (number : ℕ → ℕ → �
       running (feasible.Point z) may o h = h
       running (feasible.OutOfLimits x) may o h = h
 
-      -- the time is 0
+      -- the answer if the time is 0
       pub never-answers : is_zero_time (tab.time k.rule) ≡ true → (a : CostAnswer)
           → IsFound k.rule NeverCost (uses_for number (time_key k.rule ∷ [])) (Constant 0) a
           → IsCostAnswer p pivots tab number k.rule a
@@ -139,7 +139,7 @@ module _ (p : Program) (pivots : ℕ) (tab : Table) (number : ℕ → ℕ → �
           (decided _ (running e may_run _
           (subst (λ (v : Bool). RunsTo (question p tab k.rule) (IsStep e) v (BoundedBy NeverCost)) (sym zero) refl))) refl refl
 
-      -- or it isn't
+      -- the answer if the time isn't 0
       pub step-answers : is_zero_time (tab.time k.rule) ≡ false → (step : Local)
           → IsLocal (prepared_of k.rows.now) (cost_result_variable k.rule) pivots e step → (a : CostAnswer)
           → AnswersWith (question p tab k.rule) number (StepTo (question p tab k.rule) step) a

@@ -23,7 +23,7 @@ use Rattle.cost_bounds.specs.CostReasons.{prepared_cost}
 use Rattle.cost_bounds.specs.Laws.{CostAnswersAreOne}
 
 module _ (q : CostQuestion) (x y : CostOutcome) where
-  -- two outcomes that are the same third one are one
+  -- two outcomes that are equal to a third one are equal
   both : (z : CostOutcome) → x ≡ z → y ≡ z → x ≡ y
   both z g h = g ∙ sym h
 
@@ -48,7 +48,7 @@ module _ (q : CostQuestion) (x y : CostOutcome) where
   step-once (HasHitLimit limit_hit) g h = g ∙ sym h
 
   module _ (m : Prepared) (pivots : ℕ) where
-    -- this is answered of the cost of one step
+    -- the answer on the cost of one step
     abbrev IsStep : GuardFeasibility → Local → Type 0
     IsStep e step = IsLocal m (cost_result_variable q.rule) pivots e step
 
@@ -75,7 +75,7 @@ module _ (q : CostQuestion) (x y : CostOutcome) where
     feasible-once (feasible.OutOfLimits t) (feasible.OutOfLimits u) same g h =
         runs-once (feasible.OutOfLimits t) (feasible.OutOfLimits u) same (is_zero_time (q.table.time q.rule)) g h
 
--- a rule has one cost, and so one cost rule
+-- a rule with a cost has one cost rule
 one-cost : (p : Program) (t : ℕ) (h k : HasCost p t) → prepared_cost h ≡ prepared_cost k
 one-cost p t h k =
     ap (λ (r : Rule). prepared (cost_rule r h.cost)) rules ∙ ap (λ (c : Term). prepared (cost_rule k.rule c)) costs
@@ -86,7 +86,7 @@ one-cost p t h k =
     costs : h.cost ≡ k.cost
     costs = some_same h.cost k.cost (sym h.written ∙ (ap (λ (r : Rule). r.cost) rules ∙ k.written))
 
--- so it has one outcome
+-- the cost of a rule has one outcome
 cost-once : (p : Program) (pivots : ℕ) (tab : Table) (t : ℕ) (x y : CostOutcome) → IsCostOf p pivots tab t x
     → IsCostOf p pivots tab t y → x ≡ y
 cost-once p pivots tab t x y g h =

@@ -1,4 +1,4 @@
--- What was worked out of costs by hand.
+-- The worked values of costs hold.
 use Rattle.std.proofs.Common.{◌≡◌, inl, false, refl, sym, ◌∙◌, ap, subst, arith}
 use Rattle.bound_table.specs.Below.{below}
 use Rattle.bound_table.specs.InForce.{rewritten}
@@ -34,7 +34,7 @@ not-of_a_place x place k = differ (sym place ∙ ap (λ (y : LimitHit). y.questi
     differ : questions.Local 2 1 ≡ questions.Cost 2 → ⊥
     differ e = cc
 
--- a rule that may run isn't free
+-- a rule that may run doesn't cost 0
 not-never : RunsTo (paying_over once no_size 2) (λ step. step ≡ up_to by_B) false (BoundedBy NeverCost) → ⊥
 not-never (step, same, k) = other (subst (λ (x : Local). StepTo (paying_over once no_size 2) x (BoundedBy NeverCost)) same k)
   where

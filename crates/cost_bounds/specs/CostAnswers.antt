@@ -18,7 +18,8 @@ use Rattle.cost_bounds.specs.declared.answer.CostAnswer.TheVariants as answers
 use Rattle.cost_bounds.specs.CostLemmas.{cost_lemma, cost_node}
 use Rattle.cost_bounds.specs.CostOutcomes.{CostOutcome, BoundedBy, NotBounded, CostQuestion, question, IsCostOf}
 
--- the answer is the node on the cost of a rule, certified so, with these uses; and its fact has this bound
+-- the answer is the node that bounds the cost of a rule, with this certificate and these premises; its fact has this
+-- bound
 abbrev pub IsFound : ℕ → CostBy → Proofs → Bound → CostAnswer → Type 0
 IsFound t by uses bound (answers.Found node fact) = (proof_of node ≡ Charge (cost_node t by) uses) × (fact_of fact ≡ Cost t bound)
 IsFound t by uses bound (answers.UnboundedSide l) = ⊥
@@ -27,8 +28,8 @@ IsFound t by uses bound (answers.Missing m) = ⊥
 IsFound t by uses bound (answers.Untimed u) = ⊥
 IsFound t by uses bound (answers.Large n) = ⊥
 
--- an answer stands for an outcome of which this holds: a node that is found cites its premises by these numbers, and
--- states what its certificate does over the table
+-- an answer represents an outcome with a property: a node that is found cites its premises by these numbers, and states
+-- what its certificate composes over the table
 abbrev pub AnswersWith : CostQuestion → (ℕ → ℕ → ℕ) → (CostOutcome → Type 0) → CostAnswer → Type 0
 AnswersWith q number Is (answers.Found node fact) = (by : CostBy) × Is (BoundedBy by)
     × (proof_of node ≡ cost_lemma (setting_of q.program) number (cost_node q.rule by))
@@ -39,11 +40,11 @@ AnswersWith q number Is (answers.Missing m) = Is (NotBounded (SizeMissing (resul
 AnswersWith q number Is (answers.Untimed u) = Is (NotBounded (SizeUntimed u))
 AnswersWith q number Is (answers.Large n) = Is (NotBounded (SizeLarge n))
 
--- this is answered of the cost of a rule over a table, whose bounds are those of lemmas with these numbers
+-- the answer on the cost of a rule over a table, whose bounds are those of lemmas with these numbers
 abbrev pub IsCostAnswer : Program → ℕ → Table → (ℕ → ℕ → ℕ) → ℕ → CostAnswer → Type 0
 IsCostAnswer p pivots tab number t a = AnswersWith (question p tab t) number (IsCostOf p pivots tab t) a
 
--- the upper one of local bounds, where there are some, can be read as a bound
+-- an upper side bound, if there are local bounds, can be read as a bound
 abbrev pub HasReadableUp : LocalAnswer → Type 0
 HasReadableUp (locals.Bound l) = IsReadable l.up
 HasReadableUp (locals.UnboundedSide l) = ⊤

@@ -38,29 +38,30 @@ question p tab t = record { program = p; table = tab; rule = t }
 abbrev pub sizes_read : CostQuestion → SideBound → List ResultVariable
 sizes_read q side_bound = needed_at_cost (setting_of q.program) q.rule side_bound (pre q.program q.rule)
 
--- the bound that it composes: the rule's time, times its maximum at the sizes before
+-- the bound that an upper bound on the cost of one step composes: the rule's time, times its maximum at the sizes
+-- before
 abbrev pub composed_bound : CostQuestion → SideBound → Bound
 composed_bound q side_bound = side_bound_cost (setting_of q.program) q.table q.rule side_bound
 
--- the composed bound is small, and bounds the cost; or it is too large, with so many nodes
+-- the outcome of a composed bound: it is small, and bounds the cost; or it is too large, with this many nodes
 abbrev pub ComposesTo : CostQuestion → SideBound → CostOutcome → Type 0
 ComposesTo q side_bound o =
     (IsSmallComposed (setting_of q.program).rewrite (composed_bound q side_bound) × (o ≡ BoundedBy (SideBoundCost side_bound)))
     ⊎ ((¬ (IsSmallComposed (setting_of q.program).rewrite (composed_bound q side_bound)))
     × (o ≡ NotBounded (SizeLarge (large_nodes (setting_of q.program).rewrite (composed_bound q side_bound)))))
 
--- where the rule has no time, that is the reason
+-- if the rule has no time, this is the reason
 abbrev pub TimedTo : CostQuestion → SideBound → Option Bound → CostOutcome → Type 0
 TimedTo q side_bound None o = o ≡ NotBounded (SizeUntimed q.rule)
 TimedTo q side_bound (Some time) o = ComposesTo q side_bound o
 
--- where a size that is read is missing, the first such size is the reason
+-- if a size that is read is missing, the first such size is the reason
 abbrev pub SizedTo : CostQuestion → SideBound → Option ResultVariable → CostOutcome → Type 0
 SizedTo q side_bound (Some missing) o = o ≡ NotBounded (SizeMissing missing)
 SizedTo q side_bound None o = TimedTo q side_bound (q.table.time q.rule) o
 
--- where the cost of one step is unbounded, or its search exceeds a limit, that is the reason; the question of the limit
--- is the cost of the rule
+-- if the cost of one step is unbounded, or its search exceeds a limit, this is the reason; the question of the limit is
+-- the cost of the rule
 abbrev pub StepTo : CostQuestion → Local → CostOutcome → Type 0
 StepTo q (HasBound local) o = SizedTo q local.up (first_missing q.table (sizes_read q local.up)) o
 StepTo q (IsUnboundedOn side ray kept) o = o ≡ NotBounded (SizeUnbounded side ray kept)
@@ -72,19 +73,19 @@ abbrev pub is_zero_time : Option Bound → Bool
 is_zero_time None = false
 is_zero_time (Some time) = is_zero_bound time
 
--- where the rule's time is 0, its steps cost nothing; else this is answered of the cost of one step
+-- if the rule's time is 0, its steps cost nothing; else the outcome is by the answer on the cost of one step
 abbrev pub RunsTo : CostQuestion → (Local → Type 0) → Bool → CostOutcome → Type 0
 RunsTo q IsStep true o = o ≡ BoundedBy NeverCost
 RunsTo q IsStep false o = (step : Local) × IsStep step × StepTo q step o
 
--- where the rows of the cost rule have no point, the rule's steps cost nothing
+-- if the rows of the cost rule have no point, the rule's steps cost nothing
 abbrev pub FeasibleTo : CostQuestion → (Local → Type 0) → GuardFeasibility → CostOutcome → Type 0
 FeasibleTo q IsStep (feasible.Empty node) o = o ≡ BoundedBy (EmptyCost node.multipliers.items)
 FeasibleTo q IsStep (feasible.Point z) o = RunsTo q IsStep (is_zero_time (q.table.time q.rule)) o
 FeasibleTo q IsStep (feasible.OutOfLimits x) o = RunsTo q IsStep (is_zero_time (q.table.time q.rule)) o
 
--- this is the outcome for the cost of a rule, where each linear program may take this many pivots: by the answer whether
--- the rows of its cost rule have a point, and by that on the only place of this rule's target, which holds the cost
+-- the outcome for the cost of a rule, if each linear program may take this many pivots: by the answer whether the rows
+-- of its cost rule have a point, and by that on the only place of this rule's target, which holds the cost
 pub record IsCostOf (p : Program) (pivots : ℕ) (tab : Table) (t : ℕ) (o : CostOutcome) : Type 0 where
   pub costs : HasCost p t
   pub feasibility : GuardFeasibility

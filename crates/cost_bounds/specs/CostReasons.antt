@@ -23,7 +23,7 @@ use Rattle.cert_types.specs.declared.answer.LimitHit.{LimitHit}
 use Rattle.cert_types.specs.declared.answer.Question.TheVariants as questions
 use Rattle.rank_search.specs.rule_questions.EmptyAnswers.{IsEmptyAnswer}
 use Rattle.outcome.specs.Reports.{NoSize, SizeUnbounded, SizeHitLimit, SizeMissing, SizeNonlinear, SizeUntimed, SizeLarge}
-use Rattle.local_size.specs.LocalAnswers.{both_polynomial, HasSideBounds, LacksForm, PassesNone, SideComesTo}
+use Rattle.local_size.specs.LocalAnswers.{both_polynomial, HasSideBounds, LacksForm, PassesNone, SideHasResult}
 use Rattle.local_size.specs.Places.{value_on, is_polynomial_at}
 use Rattle.local_size.specs.Sides.{LimitPassed}
 use Rattle.size_nodes.specs.Needs.{first_missing}
@@ -33,9 +33,9 @@ use Rattle.cost_bounds.specs.CostOutcomes.{composed_bound, question, sizes_read}
 abbrev pub prepared_cost : {p : Program} {t : ℕ} → HasCost p t → Prepared
 prepared_cost costs = prepared (cost_rule costs.rule costs.cost)
 
--- the cost of one step passes every affine form in the arguments: from the point of the cost rows along the ray, on which
--- no argument moves and the cost rises. And it isn't a polynomial of degree 2 or more in the arguments alone, which would
--- bound it. The ray and the point have a number for each variable of the cost rule
+-- the cost of one step passes every affine form in the arguments: from the point of the cost rows along the ray, on
+-- which no argument moves and the cost rises. And it isn't a polynomial of degree 2 or more in the arguments alone,
+-- which would bound it. The ray and the point have a number for each variable of the cost rule
 pub record StepIsUnbounded (p : Program) (t : ℕ) (side : Side) (ray : List ℤ) (kept : ScaledPoint) : Type 0 where
   pub costs : HasCost p t
   pub straight : is_polynomial_at (prepared_cost costs) 1 ≡ false
@@ -48,8 +48,8 @@ pub record StepIsUnbounded (p : Program) (t : ℕ) (side : Side) (ray : List ℤ
 -- of the linear programs for the upper side of the cost, and then for the lower side, the first that exceeds a limit
 -- exceeds this one; or none exceeds one, a side has no form, and the one for a point of the cost rows exceeds it
 abbrev pub ExceedsFirst : Prepared → ℕ → ℕ → LimitHit → Type 0
-ExceedsFirst m t pivots x = SideComesTo m 1 pivots Up (LimitPassed (cause_of x.cause))
-    ⊎ ((PassesNone m 1 pivots Up × SideComesTo m 1 pivots Low (LimitPassed (cause_of x.cause)))
+ExceedsFirst m t pivots x = SideHasResult m 1 pivots Up (LimitPassed (cause_of x.cause))
+    ⊎ ((PassesNone m 1 pivots Up × SideHasResult m 1 pivots Low (LimitPassed (cause_of x.cause)))
     ⊎ (((side : Side) × ((ray : List ℤ) × LacksForm m 1 pivots side ray))
     × ((y : LimitHit) × IsEmptyAnswer m t pivots (feasible.OutOfLimits y) × (y.cause ≡ x.cause))))
 

@@ -5,7 +5,7 @@ pub mod CostLemmas
 pub mod CostAnswers
 -- what each reason says of the program
 pub mod CostReasons
--- what the answers are worth
+-- what the answers prove
 pub mod Laws
 -- worked values
 pub mod WorkedCosts

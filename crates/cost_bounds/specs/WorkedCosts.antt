@@ -1,5 +1,5 @@
--- Worked values of which outcome of a cost is the first that applies, of what its bound needs, and of its lemma: for the
--- program that enters a loop for a cost of A, and pays B for each round.
+-- Worked values of which outcome of a cost is the first that applies, of what its bound needs, and of its lemma: for
+-- the program that enters a loop for a cost of A, and pays B for each round.
 use Rattle.std.specs.Prelude.{◌≡◌, ℕ, zero, suc, true, false, [], ◌∷◌, pos, Option, Some, None}
 use Rattle.model.specs.Bounds.{Bound, Constant, Input, SumOf, NoParts}
 use Rattle.model.specs.Facts.{Cost}
@@ -17,11 +17,11 @@ use Rattle.cost_bounds.specs.CostLemmas.{cost_fact, cost_lemma, cost_node, cost_
 use Rattle.cost_bounds.specs.CostOutcomes.{BoundedBy, NotBounded, CostQuestion, question, is_zero_time, sizes_read}
 use Rattle.cost_bounds.specs.CostOutcomes.{RunsTo, StepTo}
 
--- these times and sizes
+-- the table of these times and sizes
 abbrev pub known_as : (ℕ → Option Bound) → (ℕ → ℕ → Option Bound) → Table
 known_as time size = record { time = time; size = size }
 
--- the cost of the rule with this number over them
+-- the question of the cost of the rule with this number over them
 abbrev pub paying_over : (ℕ → Option Bound) → (ℕ → ℕ → Option Bound) → ℕ → CostQuestion
 paying_over time size t = question paying (known_as time size) t
 
@@ -63,9 +63,9 @@ pub record ZeroTimesAreWorkedOut : Type 0 where
   pub one : is_zero_time (Some (Constant 1)) ≡ false
   pub sum : is_zero_time (Some (SumOf NoParts)) ≡ false
 
--- the first reason that applies: a missing size comes before the missing time, the first one by rules; then the time. The
--- question of a limit is the cost, whatever was asked; and a rule whose time is 0 costs nothing, though the cost of a step
--- isn't known
+-- a missing size is reported before the missing time, and the first one by rules; then the time. The question of a
+-- limit is the cost, whatever the linear program was for; and a rule whose time is 0 costs nothing, though the cost of
+-- a step isn't known
 pub record ReasonsAreWorkedOut : Type 0 where
   pub no_bounds : StepTo (paying_over no_time no_size 2) (up_to by_B) (NotBounded (SizeMissing (key 1 2)))
   pub not_untimed : ¬ (StepTo (paying_over no_time no_size 2) (up_to by_B) (NotBounded (SizeUntimed 2)))
@@ -89,14 +89,15 @@ pub record BoundsAreWorkedOut : Type 0 where
   pub empty_costs : cost_fact (setting_of paying) (known_as once own_size) (cost_node 1 (EmptyCost (0 ∷ []))) ≡ Cost 1 (Constant 0)
   pub never_costs : cost_fact (setting_of paying) (known_as no_time own_size) (cost_node 2 NeverCost) ≡ Cost 2 (Constant 0)
 
--- the number of each bound's lemma: the time of rule 1 is stated by lemma 1, its sizes by 2 and 3, and those of rule 2 by
--- 4, which also states its time; the virtual entry has number 0
+-- the number of each bound's lemma: the time of rule 1 is stated by lemma 1, its sizes by 2 and 3, and those of rule 2
+-- by 4, which also states its time; the virtual entry has number 0
 abbrev pub numbers : ℕ → ℕ → ℕ
 numbers zero i = 0
 numbers (suc zero) i = suc i
 numbers (suc (suc t)) i = 4
 
--- a lemma cites the virtual entry first, where it needs a start value; then the time, and then the sizes, none twice
+-- a lemma cites the virtual entry first, if it needs a start value; then the lemma of the time, and then those of the
+-- sizes, none twice
 pub record LemmasAreWorkedOut : Type 0 where
   pub premises : cost_premises (setting_of paying) 2 (SideBoundCost by_B) ≡ key 2 0 ∷ key 1 2 ∷ key 2 2 ∷ []
   pub entering : cost_lemma (setting_of paying) numbers (cost_node 1 (SideBoundCost by_A))
@@ -109,7 +110,7 @@ pub record LemmasAreWorkedOut : Type 0 where
   pub not_the_time_alone : ¬ (cost_lemma (setting_of paying) numbers (cost_node 2 (SideBoundCost by_B))
       ≡ Charge (cost_node 2 (SideBoundCost by_B)) (AndProof (Cite 4) NoProof))
 
--- all of these
+-- all worked values of costs
 pub record CostsAreWorkedOut : Type 0 where
   pub sizes : SizesReadAreWorkedOut
   pub zero : ZeroTimesAreWorkedOut

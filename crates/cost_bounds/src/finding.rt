@@ -32,12 +32,12 @@ use std::alloc::Global;
 /// A bound on what all steps by a rule with a cost cost together, over known times and sizes, where each linear program
 /// may take this many pivots: the first of these answers that applies. `Found` with the bound 0, where the rows of the
 /// cost rule (those of the guard, and that the cost is at least 0) have no point, or else the rule's time is 0.
-/// `UnboundedSide`, where no affine function of the arguments bounds the cost of one step, with a ray and a point of the
-/// rows; or `OutOfLimits`, where a linear program for such a function, or for a point, exceeds a limit; the question of
-/// the limit is the cost of the rule. `Missing`, the first size that the upper bound of one step needs and that isn't
-/// known, by the rules that can come before, ascending, and then by places; `Untimed`, where the rule has no time;
-/// `Large`, where the composed bound is too large; and else `Found` with the time times the upper bound of one step. The
-/// node that is found cites the lemmas of its premises: that of the time, and then those of the sizes.
+/// `UnboundedSide`, where no affine function of the arguments bounds the cost of one step, with a ray and a point of
+/// the rows; or `OutOfLimits`, where a linear program for such a function, or for a point, exceeds a limit; the
+/// question of the limit is the cost of the rule. `Missing`, the first size that the upper bound of one step needs and
+/// that isn't known, by the rules that can come before, ascending, and then by places; `Untimed`, where the rule has no
+/// time; `Large`, where the composed bound is too large; and else `Found` with the time times the upper bound of one
+/// step. The node that is found cites the lemmas of its premises: that of the time, and then those of the sizes.
 ///
 /// # Errors
 ///

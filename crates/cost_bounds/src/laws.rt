@@ -3,8 +3,9 @@
 ghost use Rattle.cost_bounds.specs.Laws.{BoundedCostsAreAccepted, BoundedCostsHold, CostAnswersAreOne, CostReasonsAreTrue};
 ghost use Rattle.cost_bounds.specs.WorkedCosts.{CostsAreWorkedOut};
 
-/// Behind the lemmas of justified derivations, the lemmas of the costs that are bounded over them are accepted in any
-/// order, and each states the bound of its cost. It has no code, as all functions here: its contract is the law.
+/// After the lemmas of justified derivations, the lemmas of the costs that are bounded over these derivations are
+/// accepted in any order, and each states the bound of its cost. The function has no code, as all functions of this
+/// module: its contract is the law.
 pub fn bounded_costs_are_accepted()
     ensures { BoundedCostsAreAccepted }
 {}

@@ -3,7 +3,7 @@
 //!
 //! Builds on `cost_nodes` (the rows of a cost, and what a bound on it composes), `rank_search` and `local_size` (the
 //! searches), and `size_bounds` (the table). Main guarantee: the answer is the first that applies; a node that is found
-//! is accepted behind the lemmas of the rounds, and states a bound that holds on all runs; and a rule has one answer
+//! is accepted after the lemmas of the rounds, and states a bound that holds on all runs; and a rule has one answer
 //! within a number of pivots.
 #![tactic(auto)]
 

@@ -27,7 +27,7 @@ use std::alloc::Global;
 ///
 /// # Errors
 ///
-/// `Memory` where an allocation fails.
+/// `Memory` if an allocation fails.
 pub fn composed_cost<K: Known>(
     alloc: Global,
     cost: &PreparedCost,

@@ -37,7 +37,7 @@ fn is_written(rule: &Rule) -> bool
 ///
 /// # Errors
 ///
-/// `Memory` where an allocation fails.
+/// `Memory` if an allocation fails.
 pub fn cost_rows(alloc: Global, p: &Program, rule: u32) -> Result<RuleRows, Memory>
     requires valid { IsValid (program_of p.now) }
     requires costs { HasCost (program_of p.now) rule }

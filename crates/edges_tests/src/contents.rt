@@ -31,7 +31,7 @@ fn program_text(alloc: Global, rules: &str) -> Result<Vec<u8>, Memory> {
     Ok(text)
 }
 
-// The first byte of a word, so many times.
+// The first byte of a word, this many times.
 fn repeated(alloc: Global, text: &str) -> Result<Vec<u8>, Memory> {
     let (count, written) = first_and_rest(text);
     let count = number(count) as usize;
@@ -46,7 +46,7 @@ fn cut(text: &str) -> (&str, &str) {
     text.split_once('%').unwrap_or((text, ""))
 }
 
-// The text in which the inner part stands between so many openings and as many closings.
+// The text in which the inner part is between this many openings and as many closings.
 fn nested(alloc: Global, text: &str) -> Result<Vec<u8>, Memory> {
     let (count, parts) = first_and_rest(text);
     let (before, parts) = cut(parts);

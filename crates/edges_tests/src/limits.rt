@@ -7,7 +7,7 @@ use model::Memory;
 use outside_io::{Held, MemoryShelf};
 use std::alloc::Global;
 
-/// What the analysis gives of a program with so many rules and places: the expected report, a refusal, or another
+/// The result of the analysis of a program with this many rules and places: the expected report, a refusal, or another
 /// answer. The program is a `chain`, in which each rule leads from a symbol to the next, or a `star`, in which each
 /// rule leads from the start symbol to a symbol of its own.
 pub(crate) fn limit_report(alloc: Global, text: &str) -> Result<String, Memory> {
@@ -37,7 +37,7 @@ fn kind_of(end: &CallEnd, expected: &[u8]) -> &'static str {
     }
 }
 
-// The text of the program of this shape with so many rules, whose symbols have so many places.
+// The text of the program of this shape with this many rules, whose symbols have this many places.
 fn program(alloc: Global, shape: &str, rules: u64, places: u64) -> Result<String, Memory> {
     let mut text = String::from_str(alloc, "(STARTTERM (FUNCTIONSYMBOLS l0))(RULES")?;
     let arguments = arguments(alloc, places)?;
@@ -50,7 +50,7 @@ fn program(alloc: Global, shape: &str, rules: u64, places: u64) -> Result<String
     Ok(text)
 }
 
-// So many arguments in brackets: `(A0,A1,A2)`.
+// This many arguments in brackets: `(A0,A1,A2)`.
 fn arguments(alloc: Global, places: u64) -> Result<String, Memory> {
     let mut text = String::from_str(alloc, "(")?;
     for place in 0..places {
@@ -61,7 +61,8 @@ fn arguments(alloc: Global, places: u64) -> Result<String, Memory> {
     Ok(text)
 }
 
-// The report on so many rules, each of which occurs at most once and keeps its so many arguments.
+// The report on this many rules, each of which occurs at most once and keeps its arguments, of which there are this
+// many.
 fn report(alloc: Global, rules: u64, places: u64) -> Result<String, Memory> {
     let mut text = String::from_str(alloc, "bounded\n")?;
     for rule in 1..=rules {

@@ -1,4 +1,4 @@
-//! Scenarios that are run again and again: with each prefix of a file, and with each prefix of what is written.
+//! Scenarios that are run again and again: with each prefix of a file, and with each prefix of the written text.
 
 use crate::calls::{CallEnd, ends_text};
 use crate::scenarios::{run_all, scenario_of};
@@ -7,8 +7,8 @@ use model::Memory;
 use outside_io::{Held, Stop};
 use std::alloc::Global;
 
-// What numbered runs gave, in the order of their numbers. The text names each number whose run gave something else than
-// the run before it.
+// The results of numbered runs, in the order of their numbers. The text names each number whose run had another result
+// than the run before it.
 #[derive(Drop)]
 struct Changes {
     text: String,
@@ -24,7 +24,7 @@ impl Changes {
         }
     }
 
-    // Adds what the run with a number gave.
+    // Adds the result of the run with a number.
     fn add(&mut self, alloc: Global, number: usize, given: String) -> Result<(), Memory> {
         if given != self.last {
             let item = format!(in alloc; "from {number}: {given}")?;
@@ -75,7 +75,7 @@ fn first_status(alloc: Global, ends: &[CallEnd]) -> Result<String, Memory> {
 }
 
 /// For each number of bytes that is less than the length of the first call's text: the status of the first call if its
-/// put fails after so many bytes, whether they are a prefix of the text, and how the other calls end; and the length.
+/// put fails after this many bytes, whether they are a prefix of the text, and how the other calls end; and the length.
 pub(crate) fn short_puts(alloc: Global, scenario: &str) -> Result<String, Memory> {
     let whole = first_text(alloc, &run_all(alloc, scenario_of(alloc, scenario)?)?)?;
     let length = whole.len();
@@ -95,7 +95,7 @@ pub(crate) fn short_puts(alloc: Global, scenario: &str) -> Result<String, Memory
     format!(in alloc; "{text}, of {length} bytes")
 }
 
-// How the calls of a scenario end if the first put fails after so many bytes.
+// How the calls of a scenario end if the first put fails after this many bytes.
 fn run_with_stop(alloc: Global, scenario: &str, bytes: u64) -> Result<Vec<CallEnd>, Memory> {
     let mut scenario = scenario_of(alloc, scenario)?;
     scenario.stops.push(Stop { call: 1, bytes })?;

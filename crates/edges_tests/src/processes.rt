@@ -22,7 +22,7 @@ pub(crate) fn process_end(alloc: Global, call: &str, operands: &str) -> Result<S
     Ok(text)
 }
 
-// What the system gives.
+// The words, or the error, that the system gives.
 fn given_words(
     alloc: Global,
     call: &str,

@@ -7,8 +7,8 @@ use model::Memory;
 use outside_io::Held;
 use std::alloc::Global;
 
-/// How many lines the answer of `check` has for what `prove` writes of the file `p`, and how many times, sizes and
-/// costs of the report on `p` are among them. All three calls have to end with the status `Done`.
+/// How many lines the answer of `check` has for the proof file that `prove` writes for the file `p`, and how many
+/// times, sizes and costs of the report on `p` are among them. All three calls have to end with the status `Done`.
 pub(crate) fn prove_and_check(alloc: Global, text: &str) -> Result<String, Memory> {
     let (kind, rest) = first_and_rest(text);
     let mut files = Vec::new(alloc);

@@ -1,4 +1,4 @@
-//! What words request.
+//! The requests of words.
 
 use crate::words::words_of;
 use command_line::asks;

@@ -6,7 +6,7 @@ use model::Memory;
 use outside_io::{FetchError, MemoryShelf, Shelf, SteadyShelf};
 use std::alloc::{AllocError, Global};
 
-/// What a shelf gives for files, each of which is written as a name and a limit: `p:9`.
+/// The answers of a shelf for files, each of which is written as a name and a limit: `p:9`.
 pub(crate) fn fetch_all<S: Shelf>(
     alloc: Global,
     shelf: &mut S,
@@ -20,7 +20,7 @@ pub(crate) fn fetch_all<S: Shelf>(
     Ok(text)
 }
 
-// What a shelf gives for a file: its bytes in quotes, or why there are none.
+// The answer of a shelf for a file: its bytes in quotes, or why there are none.
 fn fetch_one<S: Shelf>(alloc: Global, shelf: &mut S, file: &str) -> Result<String, Memory> {
     let (name, limit) = file.split_once(':').unwrap_or((file, ""));
     let name = word_of(alloc, name)?;
@@ -40,7 +40,7 @@ pub(crate) fn quoted(alloc: Global, bytes: &[u8]) -> Result<String, Memory> {
     Ok(text)
 }
 
-/// What a shelf in memory gives for files, and how many fetches it counts before and after. After an `@` follow its
+/// The answers of a shelf in memory for files, and how many fetches it counts before and after. After an `@` follow its
 /// files and its faults, as in a scenario.
 pub(crate) fn memory_fetches(alloc: Global, text: &str) -> Result<String, Memory> {
     let (names, _) = first_part(text);
@@ -52,7 +52,7 @@ pub(crate) fn memory_fetches(alloc: Global, text: &str) -> Result<String, Memory
     format!(in alloc; "{before} fetches, {fetched}, {after} fetches")
 }
 
-/// What a shelf without faults gives for files. After an `@` follow its files, as in a scenario.
+/// The answers of a shelf without faults for files. After an `@` follow its files, as in a scenario.
 pub(crate) fn steady_fetches(alloc: Global, text: &str) -> Result<String, Memory> {
     let (names, _) = first_part(text);
     let Scenario { files, .. } = scenario_of(alloc, text)?;

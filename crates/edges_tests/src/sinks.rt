@@ -56,7 +56,7 @@ pub(crate) fn steady_puts(alloc: Global, pieces: &str) -> Result<String, Memory>
     put_all(alloc, &mut SteadySink, pieces)
 }
 
-// A writer that takes one byte in each call, and from the call after the last of `left` on none, or fails.
+// A writer that takes one byte in each of the first `left` calls; in later calls it takes none, or fails.
 #[derive(Drop)]
 struct ShortWriter {
     left: u64,

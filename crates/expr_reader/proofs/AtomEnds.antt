@@ -16,7 +16,7 @@ use Rattle.expr_text.specs.Fronts.{Operand, Wanted, BaseRead, CaretRead, Exponen
 use Rattle.expr_text.specs.Steps as inner
 use Rattle.expr_text.specs.Guards as guards
 use Rattle.expr_text.specs.Guards.{Truth, Capitals, Smalls, Always, Compared, with_atom, with_atoms, atom_term}
-use Rattle.expr_text.specs.GuardFronts as fronts
+use Rattle.expr_text.specs.GuardFronts as grammar_states
 use Rattle.expr_text.specs.GuardFronts.{Conjoined, NoAtoms, JointAfter, GuardFront, LeftSide, RightSide, truth_named}
 use Rattle.expr_text.specs.GuardFronts.{truth_in, truth_of, atoms_with, compared, finish, step, step_behind, within}
 use Rattle.expr_text.specs.FrontNames.{with_conjoined, operates, is_front}
@@ -28,12 +28,12 @@ use Rattle.expr_reader.specs.declared.expression.Expression.{Expression}
 use Rattle.expr_reader.specs.Views.{term_in}
 use Rattle.expr_text.specs.Differences.{differences, first_of_all}
 use Rattle.expr_reader.specs.Faults.{ends_before, compared_fault, atom_fault}
-use Rattle.expr_reader.specs.Standing.{Stands, Clears}
-use Rattle.expr_reader.specs.GuardStanding.{limited_atom, atoms_of, atoms_before, atoms_in, Relating, relating_of}
-use Rattle.expr_reader.specs.GuardStanding.{relating_in, is_operating, IsInRight, IsAtTruth, IsEnded, Reads}
-use Rattle.expr_reader.specs.GuardStanding.{reading_none, reading_left, reading_right, reading_truth, IsPartEnded}
-use Rattle.expr_reader.specs.GuardStanding.{part_ended_none, part_ended_left, part_ended_right, part_ended_end, joined_only}
-use Rattle.expr_reader.specs.GuardStanding.{EndsPart}
+use Rattle.expr_reader.specs.Standing.{RepresentsExpression, Clears}
+use Rattle.expr_reader.specs.GuardRepresentation.{limited_atom, atoms_of, atoms_before, atoms_in, Relating, relating_of}
+use Rattle.expr_reader.specs.GuardRepresentation.{relating_in, is_operating, IsInRight, IsAtTruth, IsEnded, Reads}
+use Rattle.expr_reader.specs.GuardRepresentation.{reading_none, reading_left, reading_right, reading_truth, IsPartEnded}
+use Rattle.expr_reader.specs.GuardRepresentation.{part_ended_none, part_ended_left, part_ended_right, part_ended_end, joined_only}
+use Rattle.expr_reader.specs.GuardRepresentation.{EndsPart}
 use Rattle.expr_reader.specs.GuardParts.{is_right, can_end, goes_on, ends_right}
 use Rattle.expr_reader.proofs.LimitedFaults.{limited_differences}
 use Rattle.expr_reader.proofs.Endings.{goes_on_is, can_end_is, finished_names, finish_ends}
@@ -52,12 +52,12 @@ named_always n a = capitals (is_same n (codes "TRUE")) (is_same n (codes "true")
     capitals false false e = absurd cc
 
 -- a state that is an atom is its word alone
-abbrev pub word_front : Name → Front
-word_front n = record { outer = []; level = record { sum = NoSum; product = NoProduct; minuses = 0 }; operand = BaseRead (Named n) }
+abbrev pub word_state : Name → Front
+word_state n = record { outer = []; level = record { sum = NoSum; product = NoProduct; minuses = 0 }; operand = BaseRead (Named n) }
 
 pub record IsWord (e : Front) (a : guards.Atom) : Type 0 where
   pub word : Name
-  pub same : e ≡ word_front word
+  pub same : e ≡ word_state word
   pub always : IsAlways a
 
 -- a state that is the atom that always holds is its word alone
@@ -88,7 +88,7 @@ ended_terms names NoAtoms a = refl
 ended_terms names (JointAfter atoms joint) a = map-append limited_atom (guards.atoms_terms names atoms) (atom_term names a ∷ [])
 
 -- after the word of the atom that always holds, only an operator or a relation continues the atom
-word_joins : (c : Conjoined) (n : Name) (p : Piece) → operates p ≡ false → step (LeftSide c (word_front n)) p ≡ joined_only (finish (LeftSide c (word_front n))) p
+word_joins : (c : Conjoined) (n : Name) (p : Piece) → operates p ≡ false → step (LeftSide c (word_state n)) p ≡ joined_only (finish (LeftSide c (word_state n))) p
 word_joins c n (Word m) h = refl
 word_joins c n (Digits ds) h = refl
 word_joins c n Open h = refl
@@ -126,11 +126,11 @@ rest_false true b c h e = h
 rest_false false b c h e = absurd cc
 
 -- the code's tests are those of the written state
-ends_is : (before : List Name) (f : Front) (names : List Name) (e : Expression) (next : Option Piece) → Stands before f names e → not (goes_on e next) ≡ ends_before f next
+ends_is : (before : List Name) (f : Front) (names : List Name) (e : Expression) (next : Option Piece) → RepresentsExpression before f names e → not (goes_on e next) ≡ ends_before f next
 ends_is before f names e None stands = refl
 ends_is before f names e (Some p) stands = ap not (goes_on_is before f names e p stands)
 
-tests_are : (before : List Name) (f : Front) (names : List Name) (e : Expression) (next : Option Piece) → Stands before f names e
+tests_are : (before : List Name) (f : Front) (names : List Name) (e : Expression) (next : Option Piece) → RepresentsExpression before f names e
     → (can_end e && not (goes_on e next)) ≡ (is_some (inner.finish f) && ends_before f next)
 tests_are before f names e next stands = ap (λ v. v && not (goes_on e next)) (can_end_is before f names e stands) ∙ ap (λ v. is_some (inner.finish f) && v) (ends_is before f names e next stands)
 
@@ -152,11 +152,11 @@ truth_ended next before g names r at =
     let is = truth_word at.read at.atom at.truth_is in
     let always = is.always.same in
     let joins : (p : Piece) → next ≡ Some p → step g p ≡ joined_only (finish g) p
-    = λ p same. subst (λ g. step g p ≡ joined_only (finish g) p) (sym (at.front_is ∙ ap (λ e. LeftSide at.conjoined e) is.same))
+    = λ p same. subst (λ g. step g p ≡ joined_only (finish g) p) (sym (at.state_is_represented ∙ ap (λ e. LeftSide at.conjoined e) is.same))
     (word_joins at.conjoined is.word p (sym (ap is_operating same) ∙ at.follows)) in
     record {
       atoms = atoms_with at.conjoined at.atom;
-      finish_is = ap finish at.front_is ∙ ap (λ o. fronts.ended at.conjoined o) at.truth_is;
+      finish_is = ap finish at.state_is_represented ∙ ap (λ o. grammar_states.ended at.conjoined o) at.truth_is;
       state_is = at.state_is;
       names_are = at.names_are ∙ sym (ended_names before at.conjoined at.atom ∙ ap (λ a. with_atom (with_conjoined before at.conjoined) a) always);
       atoms_are = at.atoms_are ∙ sym (ended_terms names at.conjoined at.atom ∙ ap (λ a. atoms_before names at.conjoined ++ limited_atom (atom_term names a) ∷ []) always);
@@ -180,11 +180,11 @@ stays next r h = record { part_ended = part_ended; fault_is = fault }
     part_ended before g names (reading_truth at) = part_ended_end (truth_ended next before g names r at)
 
     fault : (before : List Name) (g : GuardFront) (names : List Name) → Reads next before g names r → None ≡ atom_fault names g next
-    fault before g names (reading_none at) = sym (ap (λ g. atom_fault names g next) at.front_is)
-    fault before g names (reading_left at) = sym (ap (λ g. atom_fault names g next) at.front_is)
+    fault before g names (reading_none at) = sym (ap (λ g. atom_fault names g next) at.state_is_represented)
+    fault before g names (reading_left at) = sym (ap (λ g. atom_fault names g next) at.state_is_represented)
     fault before g names (reading_right at) =
-        sym (ap (λ g. atom_fault names g next) at.front_is ∙ no_fault names at.left at.sign (inner.finish at.read) (ends_before at.read next) (open_tests before g names at))
-    fault before g names (reading_truth at) = sym (ap (λ g. atom_fault names g next) at.front_is)
+        sym (ap (λ g. atom_fault names g next) at.state_is_represented ∙ no_fault names at.left at.sign (inner.finish at.read) (ends_before at.read next) (open_tests before g names at))
+    fault before g names (reading_truth at) = sym (ap (λ g. atom_fault names g next) at.state_is_represented)
 
 -- an atom ends
 pub record IsFinished (o : Option Sum) : Type 0 where
@@ -232,13 +232,13 @@ module _ (next : Option Piece) (before : List Name) (g : GuardFront) (names : Li
 
   joins_only : (p : Piece) → next ≡ Some p → step g p ≡ joined_only (finish g) p
   joins_only p same =
-      subst (λ g. step g p ≡ joined_only (finish g) p) (sym at.front_is)
+      subst (λ g. step g p ≡ joined_only (finish g) p) (sym at.state_is_represented)
       (right_joins at.conjoined at.left at.sign at.read p (before_step at.read next p (ending (inner.finish at.read) (ends_before at.read next) tests) same))
 
   right_ended : q.state ≡ places.AtomRead → atoms_in q ≡ atoms_in r ++ plain.Compare (term_of rel.left) (relation_of rel.rel) (term_in r.expression) ∷ [] → Clears r.expression q.expression → IsEnded next before g names q
   right_ended state atoms clears = record {
     atoms = atoms_with at.conjoined (Compared at.left at.sign done.sum);
-    finish_is = ap finish at.front_is ∙ ap (λ o. fronts.ended at.conjoined (compared at.left at.sign o)) done.same;
+    finish_is = ap finish at.state_is_represented ∙ ap (λ o. grammar_states.ended at.conjoined (compared at.left at.sign o)) done.same;
     state_is = state;
     names_are = names_same;
     atoms_are = atoms ∙ (ap (λ found. found ++ plain.Compare (term_of rel.left) (relation_of rel.rel) (term_in r.expression) ∷ []) at.atoms_are
@@ -252,7 +252,7 @@ module _ (next : Option Piece) (before : List Name) (g : GuardFront) (names : Li
       ap (λ (x : Relating). first_of_all (differences x.left x.relation (term_in r.expression))) left_same
       ∙ (ap (λ t. first_of_all (differences (limited (sum_term names at.left)) (guards.relation_of at.sign) t)) right_same
       ∙ (limited_differences (sum_term names at.left) (guards.relation_of at.sign) (sum_term names done.sum)
-      ∙ sym (ap (λ g. atom_fault names g next) at.front_is
+      ∙ sym (ap (λ g. atom_fault names g next) at.state_is_represented
       ∙ (ap (λ v. if v then compared_fault names at.left at.sign (inner.finish at.read) else None) (ending (inner.finish at.read) (ends_before at.read next) tests)
       ∙ ap (compared_fault names at.left at.sign) done.same))))
 

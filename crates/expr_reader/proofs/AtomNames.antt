@@ -9,7 +9,7 @@ use Rattle.expr_text.specs.FrontNames.{with_conjoined}
 use Rattle.expr_text.specs.TermFronts.{limited}
 use Rattle.expr_text.proofs.Stability.{sum_is_read}
 use Rattle.expr_text.proofs.NamesRead.{Extends, term_along, AtomReads, AtomsRead, atoms_are_read}
-use Rattle.expr_reader.specs.GuardStanding.{limited_atom, atoms_before}
+use Rattle.expr_reader.specs.GuardRepresentation.{limited_atom, atoms_before}
 
 -- the terms of atoms don't change with more names
 atom_stays : (names more : List Name) (a : Atom) → Extends names more → AtomReads names a → atom_term more a ≡ atom_term names a

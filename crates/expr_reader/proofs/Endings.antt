@@ -13,8 +13,8 @@ use Rattle.expr_text.specs.FrontNames.{with_front, is_front, goes_on_with}
 use Rattle.expr_text.specs.TermFronts as terms
 use Rattle.expr_text.specs.TermFronts.{limited, level_terms, operand_terms}
 use Rattle.expr_reader.specs.declared.expression.Expression.{Expression}
-use Rattle.expr_reader.specs.Views.{front_of, level_of, operand_of, term_in}
-use Rattle.expr_reader.specs.Standing.{Stands, Ends, Clears}
+use Rattle.expr_reader.specs.Views.{grammar_state_of, level_of, operand_of, term_in}
+use Rattle.expr_reader.specs.Standing.{RepresentsExpression, Ends, Clears}
 use Rattle.expr_reader.proofs.FrontNames.{sum_names}
 use Rattle.expr_reader.proofs.TermLaws.{sum_of, reverse_cons}
 
@@ -78,9 +78,9 @@ from_goes names outer level (CaretRead b) (Joining j) = refl
 from_goes names outer level (ExponentRead b ds) p = behind_goes names outer level (Raised b ds) p
 
 -- a piece continues the expression exactly if it continues the written state
-pub goes_on_is : (before : List Name) (f : Front) (names : List Name) (e : Expression) (p : Piece) → Stands before f names e
-    → terms.goes_on_from (front_of e).outer (front_of e).operand p ≡ goes_on_with f p
-goes_on_is before f names e p stands = ap (λ t. terms.goes_on_from t.outer t.operand p) stands.front_is ∙ from_goes names f.outer f.level f.operand p
+pub goes_on_is : (before : List Name) (f : Front) (names : List Name) (e : Expression) (p : Piece) → RepresentsExpression before f names e
+    → terms.goes_on_from (grammar_state_of e).outer (grammar_state_of e).operand p ≡ goes_on_with f p
+goes_on_is before f names e p stands = ap (λ t. terms.goes_on_from t.outer t.operand p) stands.state_is_represented ∙ from_goes names f.outer f.level f.operand p
 
 from_ends : (names : List Name) (outer : List Level) (level : Level) (operand : Operand)
     → (terms.is_empty (reverse (map (level_terms names) outer)) && terms.has_factor (operand_terms names operand)) ≡ is_some (finish_from outer level operand)
@@ -91,9 +91,9 @@ from_ends names [] level (ExponentRead b ds) = refl
 from_ends names (l ∷ outer) level operand = ap (λ v. v && terms.has_factor (operand_terms names operand)) (turned_stands names l outer)
 
 -- the expression can end where the written state can
-pub can_end_is : (before : List Name) (f : Front) (names : List Name) (e : Expression) → Stands before f names e
-    → (terms.is_empty (front_of e).outer && terms.has_factor (front_of e).operand) ≡ is_some (finish f)
-can_end_is before f names e stands = ap (λ t. terms.is_empty t.outer && terms.has_factor t.operand) stands.front_is ∙ from_ends names f.outer f.level f.operand
+pub can_end_is : (before : List Name) (f : Front) (names : List Name) (e : Expression) → RepresentsExpression before f names e
+    → (terms.is_empty (grammar_state_of e).outer && terms.has_factor (grammar_state_of e).operand) ≡ is_some (finish f)
+can_end_is before f names e stands = ap (λ t. terms.is_empty t.outer && terms.has_factor t.operand) stands.state_is_represented ∙ from_ends names f.outer f.level f.operand
 
 -- the term of an expression that ends
 abbrev TermAt : List Name → Term → Option Sum → Type 0
@@ -140,7 +140,7 @@ finished_names before f s ends = subst (λ o. NamesAt before (with_front before 
 pub finish_ends : (e : Expression) (t : Term) → t ≡ term_in e → Ends e t
 finish_ends e t made = record {
   each = λ before names f s stands ends.
-      made ∙ (ap (λ t. terms.sum_made t.level t.operand) stands.front_is ∙ subst (λ o. TermAt names (terms.sum_made (level_terms names f.level) (operand_terms names f.operand)) o) ends (from_made names f.outer f.level f.operand));
+      made ∙ (ap (λ t. terms.sum_made t.level t.operand) stands.state_is_represented ∙ subst (λ o. TermAt names (terms.sum_made (level_terms names f.level) (operand_terms names f.operand)) o) ends (from_made names f.outer f.level f.operand));
 }
 
 -- nothing has been read once it has ended
@@ -148,11 +148,11 @@ pub finish_clears : (e d : Expression) → level_of d.level ≡ terms.empty_leve
 finish_clears e d level operand outer tokens = record {
   each = λ before names f s stands ends.
       let none : f.outer ≡ [] = subst (λ o. OuterAt f.outer o) ends (from_outer f.outer f.level f.operand) in
-      let levels : map level_of d.outer.items ≡ [] = outer ∙ (ap (λ t. t.outer) stands.front_is ∙ ap (λ ls. reverse (map (level_terms names) ls)) none) in
-      record { front_is = front_parts levels; tokens_are = tokens };
+      let levels : map level_of d.outer.items ≡ [] = outer ∙ (ap (λ t. t.outer) stands.state_is_represented ∙ ap (λ ls. reverse (map (level_terms names) ls)) none) in
+      record { state_is_represented = state_parts levels; tokens_are = tokens };
 }
   where
-    front_parts : map level_of d.outer.items ≡ [] → front_of d ≡ record { outer = []; level = terms.empty_level; operand = terms.Wanted }
-    front_parts a =
+    state_parts : map level_of d.outer.items ≡ [] → grammar_state_of d ≡ record { outer = []; level = terms.empty_level; operand = terms.Wanted }
+    state_parts a =
         let mk : List terms.Level → terms.Level → terms.Operand → terms.Front = λ o l op. record { outer = o; level = l; operand = op } in
         ap (λ o. mk o (level_of d.level) (operand_of d.operand)) a ∙ (ap (λ l. mk [] l (operand_of d.operand)) level ∙ ap (λ op. mk [] terms.empty_level op) operand)

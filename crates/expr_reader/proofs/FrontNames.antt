@@ -47,7 +47,7 @@ outer_more : (names more : List Name) (outer : List Level) → OuterReads names 
 outer_more names more [] h = tt
 outer_more names more (l ∷ outer) h = (outer_more names more outer h.0, level_more names more l h.1)
 
--- names that are read go to the end
+-- New names are put at the end.
 summed_extends : (names : List Name) (s : Summed) → Extends names (with_summed names s)
 summed_extends names NoSum = extends_self names
 summed_extends names (PlusAfter s) = sum_extends names s
@@ -74,8 +74,8 @@ operand_extends names (CaretRead b) = sum_extends names (Alone (Single (Plain b)
 operand_extends names (ExponentRead b ds) = sum_extends names (Alone (Single (Plain b)))
 
 -- the variables after a state extend those before it
-pub front_extends : (names : List Name) (f : Front) → Extends names (with_front names f)
-front_extends names f =
+pub state_extends : (names : List Name) (f : Front) → Extends names (with_front names f)
+state_extends names f =
     extended names (with_level (with_outer names f.outer) f.level) (with_front names f)
     (extended names (with_outer names f.outer) (with_level (with_outer names f.outer) f.level) (outer_extends names f.outer) (level_extends (with_outer names f.outer) f.level))
     (operand_extends (with_level (with_outer names f.outer) f.level) f.operand)

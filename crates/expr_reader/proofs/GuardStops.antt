@@ -17,10 +17,10 @@ use Rattle.expr_text.specs.TermFronts as terms
 use Rattle.expr_text.specs.TermFronts.{limited}
 use Rattle.expr_text.proofs.Ending.{related_ends, related_step}
 use Rattle.expr_reader.specs.declared.guard.GuardReader.{GuardReader}
-use Rattle.expr_reader.specs.Views.{front_of, term_in}
-use Rattle.expr_reader.specs.Standing.{Stands, IsFresh, IsModest}
-use Rattle.expr_reader.specs.GuardStanding.{Relating, IsOpen, Reads, reading_right, IsPartEnded, part_ended_none}
-use Rattle.expr_reader.specs.GuardStanding.{part_ended_left, part_ended_right, part_ended_end, LeadsTo, Takes}
+use Rattle.expr_reader.specs.Views.{grammar_state_of, term_in}
+use Rattle.expr_reader.specs.Standing.{RepresentsExpression, IsFresh, IsModest}
+use Rattle.expr_reader.specs.GuardRepresentation.{Relating, IsOpen, Reads, reading_right, IsPartEnded, part_ended_none}
+use Rattle.expr_reader.specs.GuardRepresentation.{part_ended_left, part_ended_right, part_ended_end, LeadsTo, Takes}
 use Rattle.expr_reader.specs.GuardParts.{is_left, is_read, sign_read, Relates, can_end, IsRelated, IsUnrelated}
 use Rattle.expr_reader.proofs.Standing.{fresh_stands}
 use Rattle.expr_reader.proofs.Endings.{goes_on_is, can_end_is, finished_names, finish_ends}
@@ -73,26 +73,26 @@ true_false : (a b : Bool) → a && b ≡ false → a ≡ true → b ≡ false
 true_false true b h e = h
 true_false false b h e = absurd cc
 
-module _ (old : List Name) (r : GuardReader) (p : Piece) (unread : is_read r.state ≡ false) (stops : terms.goes_on_from (front_of r.expression).outer (front_of r.expression).operand p ≡ false) where
-  unstepped : (base : List Name) (e : Front) → Stands base e old r.expression → inner.step e p ≡ None
+module _ (old : List Name) (r : GuardReader) (p : Piece) (unread : is_read r.state ≡ false) (stops : terms.goes_on_from (grammar_state_of r.expression).outer (grammar_state_of r.expression).operand p ≡ false) where
+  unstepped : (base : List Name) (e : Front) → RepresentsExpression base e old r.expression → inner.step e p ≡ None
   unstepped base e stands = no_step (inner.step e p) (sym (goes_on_is base e old r.expression p stands) ∙ stops)
 
   right_none : (before : List Name) (g : GuardFront) (at : IsOpen (Some p) before g old r) → step g p ≡ None
   right_none before g at =
       let right = at.right in
       let none = unstepped (with_sum (with_conjoined before right.conjoined) right.left) right.read right.expression in
-      ap (λ g. step g p) right.front_is ∙ right_stuck right.conjoined right.left right.sign right.read p none (at.goes_on (ap (λ o. not (is_front o)) none))
+      ap (λ g. step g p) right.state_is_represented ∙ right_stuck right.conjoined right.left right.sign right.read p none (at.goes_on (ap (λ o. not (is_front o)) none))
 
   fresh_none : (before : List Name) (c : Conjoined) → old ≡ with_conjoined before c → IsFresh r.expression → inner.step beginning p ≡ None
-  fresh_none before c names fresh = unstepped (with_conjoined before c) beginning (subst (λ ns. Stands (with_conjoined before c) beginning ns r.expression) (sym names) (fresh_stands (with_conjoined before c) r.expression fresh))
+  fresh_none before c names fresh = unstepped (with_conjoined before c) beginning (subst (λ ns. RepresentsExpression (with_conjoined before c) beginning ns r.expression) (sym names) (fresh_stands (with_conjoined before c) r.expression fresh))
 
   -- a piece that is no relation and doesn't continue the expression isn't taken, and nothing changes
   pub takes_none : (behind : Option Piece) (new : List Name) (q : GuardReader) → sign_read p ≡ None → new ≡ old → q ≡ r → Takes old r p behind false new q
   takes_none behind new q other names same = record { each = λ before g part_ended modest. unchanged behind before (step g p) old new r q (none before g part_ended) names same }
     where
       none : (before : List Name) (g : GuardFront) → IsPartEnded (Some p) before g old r → step g p ≡ None
-      none before g (part_ended_none at) = ap (λ g. step g p) at.front_is ∙ left_stuck at.conjoined beginning p (fresh_none before at.conjoined at.names_are at.expression) other (λ h. refl)
-      none before g (part_ended_left at) = ap (λ g. step g p) at.front_is ∙ left_stuck at.conjoined at.read p (unstepped (with_conjoined before at.conjoined) at.read at.expression) other at.follows
+      none before g (part_ended_none at) = ap (λ g. step g p) at.state_is_represented ∙ left_stuck at.conjoined beginning p (fresh_none before at.conjoined at.names_are at.expression) other (λ h. refl)
+      none before g (part_ended_left at) = ap (λ g. step g p) at.state_is_represented ∙ left_stuck at.conjoined at.read p (unstepped (with_conjoined before at.conjoined) at.read at.expression) other at.follows
       none before g (part_ended_right at) = right_none before g at
       none before g (part_ended_end at) = absurd (read_unread r unread at.state_is)
 
@@ -113,27 +113,27 @@ takes_related old new r q sign behind names is = record { each = each }
           left = s.0;
           sign = sign;
           read = beginning;
-          front_is = refl;
+          state_is_represented = refl;
           state_is = is.state_is;
           atoms_are = ap (λ (v : _). map atom_of v.items) is.atoms_are ∙ at.atoms_are;
           related_is = is.related_is ∙ ap (λ t. let x : Relating = record { left = t; relation = guards.relation_of sign } in Some x) left;
-          expression = subst (λ ns. Stands (with_sum base s.0) beginning ns q.expression) (sym (at.expression.names_are ∙ finished_names base at.read s.0 s.1))
+          expression = subst (λ ns. RepresentsExpression (with_sum base s.0) beginning ns q.expression) (sym (at.expression.names_are ∙ finished_names base at.read s.0 s.1))
               (fresh_stands (with_sum base s.0) q.expression (is.cleared.each base old at.read s.0 at.expression s.1));
         }) in
         changed behind before (step g (Related sign)) (RightSide at.conjoined s.0 sign beginning) old new r q
-        (ap (λ g. step g (Related sign)) at.front_is ∙ related_step at.conjoined at.read s.0 sign s.1) (subst (λ ns. Reads behind before (RightSide at.conjoined s.0 sign beginning) ns q) (sym names) reads)
+        (ap (λ g. step g (Related sign)) at.state_is_represented ∙ related_step at.conjoined at.read s.0 sign s.1) (subst (λ ns. Reads behind before (RightSide at.conjoined s.0 sign beginning) ns q) (sym names) reads)
     each before g (part_ended_none at) modest = absurd (misplaced (ap is_left at.state_is))
     each before g (part_ended_right at) modest = absurd (misplaced (ap is_left at.right.state_is))
     each before g (part_ended_end at) modest = absurd (misplaced (ap is_left at.state_is))
 
 takes_unrelated : (old new : List Name) (r q : GuardReader) (sign : Sign) (behind : Option Piece) → is_read r.state ≡ false
-    → terms.goes_on_from (front_of r.expression).outer (front_of r.expression).operand (Related sign) ≡ false → new ≡ old → IsUnrelated r q → Takes old r (Related sign) behind false new q
+    → terms.goes_on_from (grammar_state_of r.expression).outer (grammar_state_of r.expression).operand (Related sign) ≡ false → new ≡ old → IsUnrelated r q → Takes old r (Related sign) behind false new q
 takes_unrelated old new r q sign behind unread stops names is = record { each = λ before g part_ended modest. unchanged behind before (step g (Related sign)) old new r q (none before g part_ended) names is.kept }
   where
     none : (before : List Name) (g : GuardFront) → IsPartEnded (Some (Related sign)) before g old r → step g (Related sign) ≡ None
-    none before g (part_ended_none at) = ap (λ g. step g (Related sign)) at.front_is
+    none before g (part_ended_none at) = ap (λ g. step g (Related sign)) at.state_is_represented
     none before g (part_ended_left at) =
-        ap (λ g. step g (Related sign)) at.front_is
+        ap (λ g. step g (Related sign)) at.state_is_represented
         ∙ unrelated_step at.conjoined at.read sign (no_sum (inner.finish at.read)
         (sym (can_end_is (with_conjoined before at.conjoined) at.read old r.expression at.expression) ∙ true_false (is_left r.state) (can_end r.expression) is.not_left (ap is_left at.state_is)))
     none before g (part_ended_right at) = right_none old r (Related sign) unread stops before g at
@@ -154,11 +154,11 @@ sign_is (Joining j) sign h = absurd cc
 
 -- a relation is taken after a left side that can end, and elsewhere nothing changes
 pub takes_relation : (old new : List Name) (r q : GuardReader) (p : Piece) (sign : Sign) (behind : Option Piece) (taken : Bool) → is_read r.state ≡ false
-    → terms.goes_on_from (front_of r.expression).outer (front_of r.expression).operand p ≡ false → Some sign ≡ sign_read p → new ≡ old → Relates r sign taken q → Takes old r p behind taken new q
+    → terms.goes_on_from (grammar_state_of r.expression).outer (grammar_state_of r.expression).operand p ≡ false → Some sign ≡ sign_read p → new ≡ old → Relates r sign taken q → Takes old r p behind taken new q
 takes_relation old new r q p sign behind taken unread stops read names relates =
     let same = sign_is p sign read in
-    subst (λ p. Takes old r p behind taken new q) (sym same) (by taken relates (sym (ap (λ p. terms.goes_on_from (front_of r.expression).outer (front_of r.expression).operand p) same) ∙ stops))
+    subst (λ p. Takes old r p behind taken new q) (sym same) (by taken relates (sym (ap (λ p. terms.goes_on_from (grammar_state_of r.expression).outer (grammar_state_of r.expression).operand p) same) ∙ stops))
   where
-    by : (taken : Bool) → Relates r sign taken q → terms.goes_on_from (front_of r.expression).outer (front_of r.expression).operand (Related sign) ≡ false → Takes old r (Related sign) behind taken new q
+    by : (taken : Bool) → Relates r sign taken q → terms.goes_on_from (grammar_state_of r.expression).outer (grammar_state_of r.expression).operand (Related sign) ≡ false → Takes old r (Related sign) behind taken new q
     by true is stops = takes_related old new r q sign behind names is
     by false is stops = takes_unrelated old new r q sign behind unread stops names is

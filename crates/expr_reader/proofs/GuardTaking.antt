@@ -20,19 +20,19 @@ use Rattle.expr_text.specs.TermFronts as terms
 use Rattle.expr_text.proofs.Stability.{extended, sum_extends}
 use Rattle.expr_reader.specs.declared.guard.GuardState.TheVariants as places
 use Rattle.expr_reader.specs.declared.guard.GuardReader.{GuardReader}
-use Rattle.expr_reader.specs.Views.{front_of}
-use Rattle.expr_reader.specs.Standing.{Stands, IsFresh, IsModest, Leads}
-use Rattle.expr_reader.specs.GuardStanding.{atoms_of, atoms_before, atoms_in, Relating, relating_in, is_operating}
-use Rattle.expr_reader.specs.GuardStanding.{IsInRight, Reads, reading_none, reading_left, reading_right, reading_truth}
-use Rattle.expr_reader.specs.GuardStanding.{IsPartEnded, part_ended_none, part_ended_left, part_ended_right, part_ended_end}
-use Rattle.expr_reader.specs.GuardStanding.{joined_only, LeadsTo, Takes}
+use Rattle.expr_reader.specs.Views.{grammar_state_of}
+use Rattle.expr_reader.specs.Standing.{RepresentsExpression, IsFresh, IsModest, Leads}
+use Rattle.expr_reader.specs.GuardRepresentation.{atoms_of, atoms_before, atoms_in, Relating, relating_in, is_operating}
+use Rattle.expr_reader.specs.GuardRepresentation.{IsInRight, Reads, reading_none, reading_left, reading_right, reading_truth}
+use Rattle.expr_reader.specs.GuardRepresentation.{IsPartEnded, part_ended_none, part_ended_left, part_ended_right, part_ended_end}
+use Rattle.expr_reader.specs.GuardRepresentation.{joined_only, LeadsTo, Takes}
 use Rattle.expr_reader.specs.GuardParts.{is_wanting, is_read, begun_at, is_joining, names_truth}
 use Rattle.expr_text.proofs.NamesRead.{Extends}
-use Rattle.expr_reader.proofs.FrontNames.{front_extends}
+use Rattle.expr_reader.proofs.FrontNames.{state_extends}
 use Rattle.expr_reader.proofs.AtomNames.{before_kept, sum_kept}
 use Rattle.expr_reader.proofs.Standing.{fresh_stands, token_added}
 use Rattle.expr_reader.proofs.Endings.{goes_on_is}
-use Rattle.expr_reader.proofs.AtomEnds.{word_front, truth_word}
+use Rattle.expr_reader.proofs.AtomEnds.{word_state, truth_word}
 use Rattle.std.proofs.lemmas.Bool.{not-true as not_true}
 
 -- the word of the atom that always holds is that atom
@@ -90,7 +90,7 @@ truth_leads : (behind : Option Piece) (before : List Name) (c : Conjoined) (old 
     → LeadsTo true behind before (step (LeftSide c beginning) p) old r new q
 truth_leads behind before c old new r q (Word n) truth follows names state atoms fresh =
     let named = named_truth n truth in
-    reading_truth (record { conjoined = c; read = word_front n; atom = named.0; front_is = refl; truth_is = named.1; state_is = state; names_are = names; atoms_are = atoms; expression = fresh; follows = follows })
+    reading_truth (record { conjoined = c; read = word_state n; atom = named.0; state_is_represented = refl; truth_is = named.1; state_is = state; names_are = names; atoms_are = atoms; expression = fresh; follows = follows })
 truth_leads behind before c old new r q (Digits ds) truth follows names state atoms fresh = absurd cc
 truth_leads behind before c old new r q Open truth follows names state atoms fresh = absurd cc
 truth_leads behind before c old new r q Close truth follows names state atoms fresh = absurd cc
@@ -114,7 +114,7 @@ takes_truth old new r q p behind test names state atoms expression = record { ea
 
     each : (before : List Name) (g : GuardFront) → IsPartEnded (Some p) before g old r → IsModest p → LeadsTo true behind before (step g p) old r new q
     each before g (part_ended_none at) modest =
-        subst (λ g. LeadsTo true behind before (step g p) old r new q) (sym at.front_is)
+        subst (λ g. LeadsTo true behind before (step g p) old r new q) (sym at.state_is_represented)
         (truth_leads behind before at.conjoined old new r q p tests.1 (not_true (is_operating behind) tests.2) (names ∙ at.names_are) state
         (atoms ∙ (ap (λ found. found ++ plain.Always ∷ []) at.atoms_are ∙ ap (λ ns. atoms_before ns at.conjoined ++ plain.Always ∷ []) (sym names))) (subst IsFresh (sym expression) at.expression))
     each before g (part_ended_left at) modest = absurd (misplaced (ap is_wanting at.state_is))
@@ -129,7 +129,7 @@ joint_leads behind before atoms old new r q names are fresh same (Joining j) tak
     let q_is = taken refl in
     reading_none (record {
       conjoined = JointAfter atoms j;
-      front_is = refl;
+      state_is_represented = refl;
       state_is = ap (λ (q : GuardReader). q.state) q_is;
       names_are = names;
       atoms_are = ap atoms_in q_is ∙ are;
@@ -209,7 +209,7 @@ module _ (old new : List Name) (r q : GuardReader) (p : Piece) (behind : Option 
   atoms_same : (before : List Name) (c : Conjoined) → Extends (with_conjoined before c) old → Extends (with_conjoined before c) new → atoms_in r ≡ atoms_before old c → atoms_in q ≡ atoms_before new c
   atoms_same before c a b are = ap (λ (v : _). map atom_of v.items) atoms ∙ (are ∙ before_kept before old new c a b)
 
-  more_left : (before : List Name) (c : Conjoined) (e f : Front) → Stands (with_conjoined before c) e old r.expression → inner.step e p ≡ Some f → IsModest p → q.state ≡ places.LeftSide → atoms_in r ≡ atoms_before old c
+  more_left : (before : List Name) (c : Conjoined) (e f : Front) → RepresentsExpression (with_conjoined before c) e old r.expression → inner.step e p ≡ Some f → IsModest p → q.state ≡ places.LeftSide → atoms_in r ≡ atoms_before old c
       → (is_operating behind ≡ false → truth_of f ≡ None) → Reads behind before (LeftSide c f) new q
   more_left before c e f stands to modest at are follows =
       let holds = leads.each (with_conjoined before c) e f stands to modest in
@@ -217,10 +217,10 @@ module _ (old new : List Name) (r q : GuardReader) (p : Piece) (behind : Option 
       reading_left (record {
         conjoined = c;
         read = f;
-        front_is = refl;
+        state_is_represented = refl;
         begun = omega (arith, counted);
         state_is = at;
-        atoms_are = atoms_same before c (subst (Extends (with_conjoined before c)) (sym stands.names_are) (front_extends (with_conjoined before c) e)) (subst (Extends (with_conjoined before c)) (sym holds.names_are) (front_extends (with_conjoined before c) f)) are;
+        atoms_are = atoms_same before c (subst (Extends (with_conjoined before c)) (sym stands.names_are) (state_extends (with_conjoined before c) e)) (subst (Extends (with_conjoined before c)) (sym holds.names_are) (state_extends (with_conjoined before c) f)) are;
         expression = holds;
         follows = follows;
       })
@@ -230,14 +230,14 @@ module _ (old new : List Name) (r q : GuardReader) (p : Piece) (behind : Option 
       let names = with_conjoined before at.conjoined in
       let sums = with_sum names at.left in
       let holds = leads.each sums at.read f at.expression to modest in
-      let was : Extends sums old = subst (Extends sums) (sym at.expression.names_are) (front_extends sums at.read) in
-      let is : Extends sums new = subst (Extends sums) (sym holds.names_are) (front_extends sums f) in
+      let was : Extends sums old = subst (Extends sums) (sym at.expression.names_are) (state_extends sums at.read) in
+      let is : Extends sums new = subst (Extends sums) (sym holds.names_are) (state_extends sums f) in
       reading_right (record {
         conjoined = at.conjoined;
         left = at.left;
         sign = at.sign;
         read = f;
-        front_is = refl;
+        state_is_represented = refl;
         state_is = state ∙ ap begun_at at.state_is;
         atoms_are = atoms_same before at.conjoined (extended names sums old (sum_extends names at.left) was) (extended names sums new (sum_extends names at.left) is) at.atoms_are;
         related_is = ap relating_in related_same ∙ (at.related_is ∙ ap (λ t. let x : Relating = record { left = t; relation = guards.relation_of at.sign } in Some x) (sum_kept names old new at.left was is));
@@ -245,29 +245,29 @@ module _ (old new : List Name) (r q : GuardReader) (p : Piece) (behind : Option 
       })
 
   -- a piece that continues the expression of a side is taken
-  pub takes_more : is_read r.state ≡ false → terms.goes_on_from (front_of r.expression).outer (front_of r.expression).operand p ≡ true → Takes old r p behind true new q
+  pub takes_more : is_read r.state ≡ false → terms.goes_on_from (grammar_state_of r.expression).outer (grammar_state_of r.expression).operand p ≡ true → Takes old r p behind true new q
   takes_more unread goes = record { each = each }
     where
-      wanted : (before : List Name) (c : Conjoined) → old ≡ with_conjoined before c → IsFresh r.expression → Stands (with_conjoined before c) beginning old r.expression
-      wanted before c names fresh = subst (λ ns. Stands (with_conjoined before c) beginning ns r.expression) (sym names) (fresh_stands (with_conjoined before c) r.expression fresh)
+      wanted : (before : List Name) (c : Conjoined) → old ≡ with_conjoined before c → IsFresh r.expression → RepresentsExpression (with_conjoined before c) beginning old r.expression
+      wanted before c names fresh = subst (λ ns. RepresentsExpression (with_conjoined before c) beginning ns r.expression) (sym names) (fresh_stands (with_conjoined before c) r.expression fresh)
 
-      stepped : (base : List Name) (e : Front) → Stands base e old r.expression → (f : Front) × (inner.step e p ≡ Some f)
+      stepped : (base : List Name) (e : Front) → RepresentsExpression base e old r.expression → (f : Front) × (inner.step e p ≡ Some f)
       stepped base e stands = a_step (inner.step e p) (sym (goes_on_is base e old r.expression p stands) ∙ goes)
 
       each : (before : List Name) (g : GuardFront) → IsPartEnded (Some p) before g old r → IsModest p → LeadsTo true behind before (step g p) old r new q
       each before g (part_ended_none at) modest =
           let stands = wanted before at.conjoined at.names_are at.expression in
           let to = stepped (with_conjoined before at.conjoined) beginning stands in
-          changed behind before (step g p) (LeftSide at.conjoined to.0) old new r q (ap (λ g. step g p) at.front_is ∙ taken_within at.conjoined beginning to.0 p to.1)
+          changed behind before (step g p) (LeftSide at.conjoined to.0) old new r q (ap (λ g. step g p) at.state_is_represented ∙ taken_within at.conjoined beginning to.0 p to.1)
           (more_left before at.conjoined beginning to.0 stands to.1 modest (state ∙ ap begun_at at.state_is) at.atoms_are
           (λ other. first_untrue p to.0 to.1 (middle_false (is_wanting r.state) (names_truth p) (not (is_operating behind)) test (ap is_wanting at.state_is) (ap not other))))
       each before g (part_ended_left at) modest =
           let to = stepped (with_conjoined before at.conjoined) at.read at.expression in
-          changed behind before (step g p) (LeftSide at.conjoined to.0) old new r q (ap (λ g. step g p) at.front_is ∙ taken_within at.conjoined at.read to.0 p to.1)
+          changed behind before (step g p) (LeftSide at.conjoined to.0) old new r q (ap (λ g. step g p) at.state_is_represented ∙ taken_within at.conjoined at.read to.0 p to.1)
           (more_left before at.conjoined at.read to.0 at.expression to.1 modest (state ∙ ap begun_at at.state_is) at.atoms_are (λ other. later_untrue at.read to.0 p at.begun to.1))
       each before g (part_ended_right at) modest =
           let right = at.right in
           let to = stepped (with_sum (with_conjoined before right.conjoined) right.left) right.read right.expression in
-          changed behind before (step g p) (RightSide right.conjoined right.left right.sign to.0) old new r q (ap (λ g. step g p) right.front_is ∙ taken_right right.conjoined right.left right.sign right.read to.0 p to.1)
+          changed behind before (step g p) (RightSide right.conjoined right.left right.sign to.0) old new r q (ap (λ g. step g p) right.state_is_represented ∙ taken_right right.conjoined right.left right.sign right.read to.0 p to.1)
           (more_right before g to.0 right to.1 modest)
       each before g (part_ended_end at) modest = absurd (read_unread r unread at.state_is)

@@ -9,7 +9,7 @@ use Rattle.expr_text.specs.Fronts.{Operand, Wanted, BaseRead, CaretRead, Exponen
 use Rattle.expr_text.specs.Fronts.{factored_behind, minuses_behind, level_behind, outer_behind, operand_behind}
 use Rattle.expr_text.specs.FrontNames.{token_count}
 use Rattle.expr_reader.specs.declared.expression.Expression.{Expression}
-use Rattle.expr_reader.specs.Standing.{Stands, IsFresh, HasRoom}
+use Rattle.expr_reader.specs.Standing.{RepresentsExpression, IsFresh, HasRoom}
 
 mutual
   -- the pieces of an expression after others are at least as many
@@ -50,16 +50,16 @@ minuses_counted f =
     omega (arith, a, b)
 
 -- an expression of fewer than 2^32 - 1 tokens has room, where there are fewer than 2^32 variables
-pub room : (before : List Name) (f : Front) (names : List Name) (e : Expression) → Stands before f names e → token_count f < 2 ^ 32 - 1 → length names < 2 ^ 32 → HasRoom names e
+pub room : (before : List Name) (f : Front) (names : List Name) (e : Expression) → RepresentsExpression before f names e → token_count f < 2 ^ 32 - 1 → length names < 2 ^ 32 → HasRoom names e
 room before f names e stands few variables =
     let counted = minuses_counted f in
-    let same : e.level.minuses ≡ f.level.minuses = ap (λ t. t.level.minuses) stands.front_is in
+    let same : e.level.minuses ≡ f.level.minuses = ap (λ t. t.level.minuses) stands.state_is_represented in
     let tokens = stands.tokens_are in
     record { minuses = omega (arith, counted, same, few); tokens = omega (arith, tokens, few); variables = variables }
 
 -- where nothing has been read there is room
 pub fresh_room : (names : List Name) (e : Expression) → IsFresh e → length names < 2 ^ 32 → HasRoom names e
 fresh_room names e fresh variables =
-    let same : e.level.minuses ≡ 0 = ap (λ t. t.level.minuses) fresh.front_is in
+    let same : e.level.minuses ≡ 0 = ap (λ t. t.level.minuses) fresh.state_is_represented in
     let tokens = fresh.tokens_are in
     record { minuses = omega (arith, same); tokens = omega (arith, tokens); variables = variables }

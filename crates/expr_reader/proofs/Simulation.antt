@@ -26,15 +26,15 @@ use Rattle.expr_reader.proofs.TermLaws.{product_of, sum_of, last_is, reverse_con
 -- a state represents a written state over variables
 pub record Holds (before : List Name) (g : Front) (names : List Name) (u : terms.Front) : Type 0 where
   pub names_are : names ≡ with_front before g
-  pub front_is : u ≡ front_terms names g
+  pub state_is_represented : u ≡ front_terms names g
 
 abbrev pub HoldsAt : List Name → Option Front → List Name → terms.Front → Type 0
 HoldsAt before None names u = ⊤
 HoldsAt before (Some g) names u = Holds before g names u
 
 -- a part is made of its parts
-front_made : (u : terms.Front) (o : List terms.Level) (l : terms.Level) (op : terms.Operand) → HasParts u o l op → u ≡ record { outer = o; level = l; operand = op }
-front_made u o l op is =
+state_made : (u : terms.Front) (o : List terms.Level) (l : terms.Level) (op : terms.Operand) → HasParts u o l op → u ≡ record { outer = o; level = l; operand = op }
+state_made u o l op is =
     let mk : List terms.Level → terms.Level → terms.Operand → terms.Front = λ o l op. record { outer = o; level = l; operand = op } in
     ap (λ o. mk o u.level u.operand) is.outer_is ∙ (ap (λ l. mk o l u.operand) is.level_is ∙ ap (λ op. mk o l op) is.operand_is)
 
@@ -77,7 +77,7 @@ module _ (before : List Name) (outer : List Level) (level : Level) where
       = ap (λ ns. level_terms ns level) e.1 ∙ level_stays names_before e.0 level level_read in
       record {
         names_are = refl;
-        front_is = front_made u _ _ _ (record {
+        state_is_represented = state_made u _ _ _ (record {
           outer_is = is.outer_is ∙ ap reverse (sym outers);
           level_is = is.level_is ∙ sym levels;
           operand_is = is.operand_is ∙ ap (λ i. terms.BaseRead (Variable i)) (sym (position_with n names_before));
@@ -90,7 +90,7 @@ module _ (before : List Name) (outer : List Level) (level : Level) where
   digits_hold ds u modest is =
       let at = is modest.0 in
       let least : min (number_of ds) (coefficient_limit + 1) ≡ number_of ds = smaller (number_of ds) modest.1 in
-      record { names_are = refl; front_is = front_made u _ _ _ (record { outer_is = at.outer_is; level_is = at.level_is; operand_is = at.operand_is ∙ ap (λ n. terms.BaseRead (Literal (pos n))) least }) }
+      record { names_are = refl; state_is_represented = state_made u _ _ _ (record { outer_is = at.outer_is; level_is = at.level_is; operand_is = at.operand_is ∙ ap (λ n. terms.BaseRead (Literal (pos n))) least }) }
     where
       smaller : (n : ℕ) → n ≤ coefficient_limit → min n (coefficient_limit + 1) ≡ n
       smaller n h = omega arith
@@ -101,10 +101,10 @@ module _ (before : List Name) (outer : List Level) (level : Level) where
   wanted_holds (Word n) u modest is = word_holds n u is
   wanted_holds (Digits ds) u modest is = digits_hold ds u modest is
   wanted_holds Open u modest is =
-      record { names_are = refl; front_is = front_made u _ _ _ (record { outer_is = is.outer_is ∙ sym (reverse_cons (level_terms names_before level) (map (level_terms names_before) outer)); level_is = is.level_is; operand_is = is.operand_is }) }
+      record { names_are = refl; state_is_represented = state_made u _ _ _ (record { outer_is = is.outer_is ∙ sym (reverse_cons (level_terms names_before level) (map (level_terms names_before) outer)); level_is = is.level_is; operand_is = is.operand_is }) }
   wanted_holds Minus u modest is =
       let more : ℕ → terms.Level = λ n. record { sum = summed_terms names_before level.sum; product = factored_terms names_before level.product; minuses = n } in
-      record { names_are = refl; front_is = front_made u _ _ _ (record { outer_is = is.outer_is; level_is = is.level_is ∙ ap more (add-one level.minuses); operand_is = is.operand_is }) }
+      record { names_are = refl; state_is_represented = state_made u _ _ _ (record { outer_is = is.outer_is; level_is = is.level_is ∙ ap more (add-one level.minuses); operand_is = is.operand_is }) }
   wanted_holds Close u modest is = tt
   wanted_holds Plus u modest is = tt
   wanted_holds Times u modest is = tt
@@ -117,8 +117,8 @@ module _ (before : List Name) (outer : List Level) (level : Level) where
     abbrev names_behind : List Name
     names_behind = with_factor names_before f
 
-    abbrev front_levels : List terms.Level
-    front_levels = reverse (map (level_terms names_behind) outer)
+    abbrev state_levels : List terms.Level
+    state_levels = reverse (map (level_terms names_behind) outer)
 
     abbrev operand_level : terms.Level
     operand_level = level_terms names_behind level
@@ -137,33 +137,33 @@ module _ (before : List Name) (outer : List Level) (level : Level) where
     summed_names : names_behind ≡ with_sum (with_outer before outer) (sum_made level f)
     summed_names = sym (sum_names (with_outer before outer) level f)
 
-    plus_holds : (o : terms.Operand) (u : terms.Front) → IsFactor o → HasParts u front_levels (behind_plus operand_level o) terms.Wanted
+    plus_holds : (o : terms.Operand) (u : terms.Front) → IsFactor o → HasParts u state_levels (behind_plus operand_level o) terms.Wanted
         → Holds before (wanted outer (PlusAfter (sum_made level f)) NoProduct) names_behind u
     plus_holds o u same is = record {
       names_are = summed_names;
-      front_is = front_made u _ _ _ (record {
+      state_is_represented = state_made u _ _ _ (record {
         outer_is = is.outer_is;
         level_is = is.level_is ∙ ap (λ t. let l : terms.Level = record { sum = terms.PlusAfter t; product = terms.NoProduct; minuses = 0 } in l) (sum_is o same);
         operand_is = is.operand_is;
       });
     }
 
-    minus_holds : (o : terms.Operand) (u : terms.Front) → IsFactor o → HasParts u front_levels (record { sum = terms.MinusAfter (terms.sum_made operand_level o); product = terms.NoProduct; minuses = 0 }) terms.Wanted
+    minus_holds : (o : terms.Operand) (u : terms.Front) → IsFactor o → HasParts u state_levels (record { sum = terms.MinusAfter (terms.sum_made operand_level o); product = terms.NoProduct; minuses = 0 }) terms.Wanted
         → Holds before (wanted outer (MinusAfter (sum_made level f)) NoProduct) names_behind u
     minus_holds o u same is = record {
       names_are = summed_names;
-      front_is = front_made u _ _ _ (record {
+      state_is_represented = state_made u _ _ _ (record {
         outer_is = is.outer_is;
         level_is = is.level_is ∙ ap (λ t. let l : terms.Level = record { sum = terms.MinusAfter t; product = terms.NoProduct; minuses = 0 } in l) (sum_is o same);
         operand_is = is.operand_is;
       });
     }
 
-    times_hold : (o : terms.Operand) (u : terms.Front) → IsFactor o → HasParts u front_levels (behind_times operand_level o) terms.Wanted
+    times_hold : (o : terms.Operand) (u : terms.Front) → IsFactor o → HasParts u state_levels (behind_times operand_level o) terms.Wanted
         → Holds before (wanted outer level.sum (TimesAfter (product_made level f))) names_behind u
     times_hold o u same is = record {
       names_are = sym (product_names (with_summed (with_outer before outer) level.sum) level.product level.minuses f);
-      front_is = front_made u _ _ _ (record {
+      state_is_represented = state_made u _ _ _ (record {
         outer_is = is.outer_is;
         level_is = is.level_is ∙ ap (λ t. let l : terms.Level = record { sum = operand_level.sum; product = terms.TimesAfter t; minuses = 0 } in l) (product_is o same);
         operand_is = is.operand_is;
@@ -185,7 +185,7 @@ close_holds before (l ∷ outer) level f o u same closes =
     let ends = last_is (reverse levels) u.outer (level_terms names l) u.level (sym turned ∙ is.outer_is) in
     record {
       names_are = summed_names before (l ∷ outer) level f;
-      front_is = front_made u _ _ _ (record { outer_is = sym ends.1; level_is = sym ends.0; operand_is = is.operand_is ∙ ap terms.BaseRead (sum_is before (l ∷ outer) level f o same) });
+      state_is_represented = state_made u _ _ _ (record { outer_is = sym ends.1; level_is = sym ends.0; operand_is = is.operand_is ∙ ap terms.BaseRead (sum_is before (l ∷ outer) level f o same) });
     }
   where
     nonempty : (levels : List terms.Level) (l : terms.Level) → terms.is_empty (levels ++ l ∷ []) ≡ false
@@ -200,7 +200,7 @@ operand_at before outer level operand = operand_terms (with_front before (record
 base_holds : (before : List Name) (outer : List Level) (level : Level) (b : Base) (p : Piece) (u : terms.Front)
     → StepsTo (with_front before (record { outer = outer; level = level; operand = BaseRead b })) (front_terms (with_front before (record { outer = outer; level = level; operand = BaseRead b })) (record { outer = outer; level = level; operand = BaseRead b })) p u
     → HoldsAt before (step_from outer level (BaseRead b) p) (with_piece (with_front before (record { outer = outer; level = level; operand = BaseRead b })) p) u
-base_holds before outer level b Caret u is = record { names_are = refl; front_is = front_made u _ _ _ is }
+base_holds before outer level b Caret u is = record { names_are = refl; state_is_represented = state_made u _ _ _ is }
 base_holds before outer level b Times u is = times_hold before outer level (Plain b) (operand_at before outer level (BaseRead b)) u refl is
 base_holds before outer level b Plus u is = plus_holds before outer level (Plain b) (operand_at before outer level (BaseRead b)) u refl is
 base_holds before outer level b Minus u is = minus_holds before outer level (Plain b) (operand_at before outer level (BaseRead b)) u refl is
@@ -230,7 +230,7 @@ exponent_holds before outer level b ds (Joining j) u is = tt
 caret_holds : (before : List Name) (outer : List Level) (level : Level) (b : Base) (p : Piece) (u : terms.Front) → IsModest p
     → StepsTo (with_front before (record { outer = outer; level = level; operand = CaretRead b })) (front_terms (with_front before (record { outer = outer; level = level; operand = CaretRead b })) (record { outer = outer; level = level; operand = CaretRead b })) p u
     → HoldsAt before (step_from outer level (CaretRead b) p) (with_piece (with_front before (record { outer = outer; level = level; operand = CaretRead b })) p) u
-caret_holds before outer level b (Digits ds) u modest is = record { names_are = refl; front_is = front_made u _ _ _ (is modest.0) }
+caret_holds before outer level b (Digits ds) u modest is = record { names_are = refl; state_is_represented = state_made u _ _ _ (is modest.0) }
 caret_holds before outer level b Caret u modest is = tt
 caret_holds before outer level b Times u modest is = tt
 caret_holds before outer level b Plus u modest is = tt
@@ -253,8 +253,8 @@ operand_holds before outer level (ExponentRead b ds) p u modest is = exponent_ho
 -- a piece leads from the terms of a written state to those of the state after it
 pub simulated : (before : List Name) (f g : Front) (p : Piece) (old new : List Name) (t u : terms.Front)
     → old ≡ with_front before f → t ≡ front_terms old f → step f p ≡ Some g → IsModest p → StepsTo old t p u → new ≡ with_piece old p → Holds before g new u
-simulated before f g p old new t u names front to modest moves more =
-    let at_names : t ≡ front_terms (with_front before f) f = front ∙ ap (λ ns. front_terms ns f) names in
+simulated before f g p old new t u names grammar_state to modest moves more =
+    let at_names : t ≡ front_terms (with_front before f) f = grammar_state ∙ ap (λ ns. front_terms ns f) names in
     let moves_at : StepsTo (with_front before f) (front_terms (with_front before f) f) p u = subst (λ t. StepsTo (with_front before f) t p u) at_names (subst (λ ns. StepsTo ns t p u) names moves) in
     let held : HoldsAt before (step f p) (with_piece (with_front before f) p) u = operand_holds before f.outer f.level f.operand p u modest moves_at in
     let led : Holds before g (with_piece (with_front before f) p) u = subst (λ o. HoldsAt before o (with_piece (with_front before f) p) u) to held in

@@ -1,7 +1,7 @@
 -- What was worked out by hand holds.
 use Rattle.std.specs.Prelude.{refl}
 use Rattle.expr_reader.specs.Worked.{Differences, AtomFaults, WorkedValues}
-use Rattle.expr_reader.specs.WorkedSigns.{NumbersAreTold, SignsAreTold}
+use Rattle.expr_reader.specs.WorkedSigns.{NumbersAreWorkedOut, SignsAreTold}
 
 relations : Differences
 relations = record { at_least = refl; more_than = refl; at_most = refl; less_than = refl; equal = refl }
@@ -18,7 +18,7 @@ faults = record {
   on_the_left = refl;
 }
 
-numbers : NumbersAreTold
+numbers : NumbersAreWorkedOut
 numbers = record {
   exponent = refl;
   ninth = refl;

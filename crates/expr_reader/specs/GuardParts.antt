@@ -10,9 +10,9 @@ use Rattle.expr_reader.specs.declared.guard.GuardState.{GuardState}
 use Rattle.expr_reader.specs.declared.guard.GuardState.TheVariants.{AtomWanted, LeftSide, RightSide, AtomRead}
 use Rattle.expr_reader.specs.declared.guard.GuardReader.{GuardReader}
 use Rattle.expr_reader.specs.declared.expression.Expression.{Expression}
-use Rattle.expr_reader.specs.Views.{front_of, sign_of, piece_of, term_in}
+use Rattle.expr_reader.specs.Views.{grammar_state_of, sign_of, piece_of, term_in}
 use Rattle.expr_reader.specs.Standing.{Clears}
-use Rattle.expr_reader.specs.GuardStanding.{relating_in}
+use Rattle.expr_reader.specs.GuardRepresentation.{relating_in}
 
 -- the piece that may be there
 abbrev pub piece_in : Option code.Piece → Option Piece
@@ -99,11 +99,11 @@ names_truth (Joining joint) = false
 
 -- whether an expression can end, and whether a piece continues it
 abbrev pub can_end : Expression → Bool
-can_end e = terms.is_empty (front_of e).outer && terms.has_factor (front_of e).operand
+can_end e = terms.is_empty (grammar_state_of e).outer && terms.has_factor (grammar_state_of e).operand
 
 abbrev pub goes_on : Expression → Option Piece → Bool
 goes_on e None = false
-goes_on e (Some p) = terms.goes_on_from (front_of e).outer (front_of e).operand p
+goes_on e (Some p) = terms.goes_on_from (grammar_state_of e).outer (grammar_state_of e).operand p
 
 -- the right side ends before the next piece
 abbrev pub ends_right : GuardReader → Option Piece → Bool

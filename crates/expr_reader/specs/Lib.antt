@@ -5,8 +5,8 @@ pub mod Operators
 pub mod FrontSteps
 pub mod Faults
 pub mod Standing
-pub mod GuardStanding
+pub mod GuardRepresentation
 pub mod GuardParts
--- laws, and values that were worked out by hand
+-- Laws and worked values.
 pub mod WorkedSigns
 pub mod Worked

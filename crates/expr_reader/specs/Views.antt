@@ -41,8 +41,8 @@ operand_of (CaretRead e) = terms.CaretRead (term_of e)
 operand_of (ExponentRead e n) = terms.ExponentRead (term_of e) n
 
 -- the part that has been read
-abbrev pub front_of : Expression → terms.Front
-front_of e = record { outer = map level_of e.outer.items; level = level_of e.level; operand = operand_of e.operand }
+abbrev pub grammar_state_of : Expression → terms.Front
+grammar_state_of e = record { outer = map level_of e.outer.items; level = level_of e.level; operand = operand_of e.operand }
 
 -- the term of an expression that ends here
 abbrev pub term_in : Expression → Term

@@ -9,7 +9,7 @@ use Rattle.expr_text.specs.Fronts.{Operand, BaseRead, CaretRead, ExponentRead, e
 use Rattle.expr_text.specs.GuardFronts.{GuardFront, LeftSide, RightSide, NoAtoms}
 use Rattle.expr_text.specs.Differences.{differences}
 use Rattle.expr_reader.specs.Faults.{atom_fault}
-use Rattle.expr_reader.specs.WorkedSigns.{NumbersAreTold, SignsAreTold}
+use Rattle.expr_reader.specs.WorkedSigns.{NumbersAreWorkedOut, SignsAreTold}
 
 -- the variable A, the number 1, and the left side 1
 abbrev pub a : Base
@@ -55,5 +55,5 @@ pub record AtomFaults : Type 0 where
 pub record WorkedValues : Type 0 where
   pub relations : Differences
   pub faults : AtomFaults
-  pub numbers : NumbersAreTold
+  pub numbers : NumbersAreWorkedOut
   pub signs : SignsAreTold

@@ -10,7 +10,7 @@ abbrev pub within : Level
 within = record { sum = PlusAfter (Variable 1); product = TimesAfter (Variable 0); minuses = 1 }
 
 -- numbers as exponents and as literals, up to the limits and beyond
-pub record NumbersAreTold : Type 0 where
+pub record NumbersAreWorkedOut : Type 0 where
   pub exponent : with_number (CaretRead (Variable 0)) 8 ≡ ExponentRead (Variable 0) 8
   pub ninth : with_number (CaretRead (Variable 0)) 9 ≡ ExponentRead (Variable 0) 9
   pub beyond : with_number (CaretRead (Variable 0)) 10 ≡ ExponentRead (Variable 0) 9

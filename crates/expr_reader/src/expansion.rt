@@ -25,7 +25,7 @@ pub enum Unexpanded {
 ///
 /// # Errors
 ///
-/// `Memory` where an allocation fails.
+/// `Memory` if an allocation fails.
 pub fn expansion_fault(alloc: Global, e: &Expr) -> Result<Option<Unexpanded>, Memory>
     ensures { IfOk result (λ fault. fault_of fault ≡ first_fault (term_of e.now)) }
 {
@@ -126,7 +126,7 @@ fn both(alloc: Global, left: Expr, right: Expr) -> Result<Subtracted, Memory>
 ///
 /// # Errors
 ///
-/// `Memory` where an allocation fails.
+/// `Memory` if an allocation fails.
 pub fn compared(alloc: Global, left: Expr, rel: Rel, right: Expr) -> Result<Subtracted, Memory>
     ensures minuend { IfOk result (λ found. term_of found.minuend ≡ term_of left) }
     ensures subtrahend { IfOk result (λ found. term_of found.subtrahend ≡ term_of right) }

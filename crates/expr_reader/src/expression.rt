@@ -11,7 +11,7 @@ ghost use Rattle.expr_text.specs.Terms.{with_name};
 ghost use Rattle.expr_reader.specs.Variables.{names_in};
 ghost use Rattle.expr_reader.specs.FrontSteps.{StepsTo, with_piece};
 ghost use Rattle.expr_reader.specs.Standing.{Leads, Ends, Clears, IsFresh, HasRoom};
-ghost use Rattle.expr_reader.specs.Views.{operand_of, front_of, piece_of, term_in};
+ghost use Rattle.expr_reader.specs.Views.{operand_of, grammar_state_of, piece_of, term_in};
 
 use crate::Memory;
 use crate::making::empty_level;
@@ -93,7 +93,7 @@ impl Expression {
 
     // Whether a factor has been read.
     fn has_factor(&self) -> bool
-        ensures { result ≡ terms.has_factor (front_of self.now).operand }
+        ensures { result ≡ terms.has_factor (grammar_state_of self.now).operand }
     {
         match &self.operand {
             Operand::Wanted => false,
@@ -106,7 +106,7 @@ impl Expression {
     /// Whether the expression can end here.
     pub fn can_end(&self) -> bool
         ensures { result
-            ≡ (terms.is_empty (front_of self.now).outer && terms.has_factor (front_of self.now).operand) }
+            ≡ (terms.is_empty (grammar_state_of self.now).outer && terms.has_factor (grammar_state_of self.now).operand) }
     {
         self.outer.is_empty() && self.has_factor()
     }
@@ -114,7 +114,7 @@ impl Expression {
     /// Whether a piece continues the expression.
     pub fn goes_on_with(&self, piece: Piece<'_>) -> bool
         ensures { result
-            ≡ terms.goes_on_from (front_of self.now).outer (front_of self.now).operand (piece_of piece.entry) }
+            ≡ terms.goes_on_from (grammar_state_of self.now).outer (grammar_state_of self.now).operand (piece_of piece.entry) }
     {
         match &self.operand {
             Operand::Wanted => piece.begins_expression(),
@@ -129,7 +129,7 @@ impl Expression {
 
     // Whether a piece continues the expression after a factor.
     fn goes_on_behind(&self, piece: Piece<'_>) -> bool
-        ensures { result ≡ terms.goes_on_behind (front_of self.now).outer (piece_of piece.entry) }
+        ensures { result ≡ terms.goes_on_behind (grammar_state_of self.now).outer (piece_of piece.entry) }
     {
         match piece {
             Piece::Plus | Piece::Minus | Piece::Times => true,
@@ -142,7 +142,7 @@ impl Expression {
     ///
     /// # Errors
     ///
-    /// `Memory` where an allocation fails.
+    /// `Memory` if an allocation fails.
     pub fn take<'a>(
         &mut self,
         alloc: Global,
@@ -167,8 +167,8 @@ impl Expression {
     ) -> Result<(), Memory>
         requires room { self.old.level.minuses < 2 ^ 32 - 1 }
         requires few { length (names_in variables.old) < 2 ^ 32 }
-        ensures moves { OnOk result (StepsTo (names_in variables.old) (front_of self.old) (piece_of piece.entry)
-            (front_of self.new)) }
+        ensures moves { OnOk result (StepsTo (names_in variables.old) (grammar_state_of self.old) (piece_of piece.entry)
+            (grammar_state_of self.new)) }
         ensures names { OnOk result (names_in variables.new
             ≡ with_piece (names_in variables.old) (piece_of piece.entry)) }
     {
@@ -232,7 +232,7 @@ impl Expression {
     ///
     /// # Errors
     ///
-    /// `Memory` where an allocation fails.
+    /// `Memory` if an allocation fails.
     pub fn finish(&mut self, alloc: Global) -> Result<Expr, Memory>
         ensures ends { IfOk result (λ made. Ends self.old (term_of made)) }
         ensures made { IfOk result (λ made. term_of made ≡ term_in self.old) }

@@ -13,7 +13,7 @@ ghost use Rattle.expr_reader.specs.Faults.{fault_of};
 ghost use Rattle.expr_reader.specs.Variables.{names_in};
 ghost use Rattle.expr_reader.specs.Views.{piece_of, sign_of, term_in};
 ghost use Rattle.expr_reader.specs.Standing.{Leads, Clears, IsFresh, HasRoom};
-ghost use Rattle.expr_reader.specs.GuardStanding.{atoms_in, relating_in, is_operating, IsWanting, EndsPart, Takes};
+ghost use Rattle.expr_reader.specs.GuardRepresentation.{atoms_in, relating_in, is_operating, IsWanting, EndsPart, Takes};
 ghost use Rattle.expr_reader.specs.GuardParts.{is_wanting, is_read, begun_at, sign_read, sign_in as sign_view};
 ghost use Rattle.expr_reader.specs.GuardParts.{piece_in, is_joining, names_truth, ends_right, Relates};
 
@@ -145,7 +145,7 @@ impl GuardReader {
     ///
     /// # Errors
     ///
-    /// `Memory` where an allocation fails.
+    /// `Memory` if an allocation fails.
     pub fn end_part(
         &mut self,
         alloc: Global,
@@ -211,7 +211,7 @@ impl GuardReader {
     ///
     /// # Errors
     ///
-    /// `Memory` where an allocation fails.
+    /// `Memory` if an allocation fails.
     pub fn take<'a>(
         &mut self,
         alloc: Global,

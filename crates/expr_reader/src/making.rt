@@ -25,7 +25,7 @@ pub fn empty_level() -> Level
 ///
 /// # Errors
 ///
-/// `Memory` where an allocation fails.
+/// `Memory` if an allocation fails.
 pub fn negated(alloc: Global, minuses: u32, e: Expr) -> Result<Expr, Memory>
     ensures { IfOk result (λ made. term_of made ≡ terms.negated minuses (term_of e)) }
 {
@@ -42,7 +42,7 @@ pub fn negated(alloc: Global, minuses: u32, e: Expr) -> Result<Expr, Memory>
 ///
 /// # Errors
 ///
-/// `Memory` where an allocation fails.
+/// `Memory` if an allocation fails.
 pub fn product_with(alloc: Global, product: Factored, factor: Expr) -> Result<Expr, Memory>
     ensures { IfOk result (λ made. term_of made ≡ terms.product_with (factored_of product) (term_of factor)) }
 {
@@ -56,7 +56,7 @@ pub fn product_with(alloc: Global, product: Factored, factor: Expr) -> Result<Ex
 ///
 /// # Errors
 ///
-/// `Memory` where an allocation fails.
+/// `Memory` if an allocation fails.
 pub fn sum_with(alloc: Global, sum: Summed, product: Expr) -> Result<Expr, Memory>
     ensures { IfOk result (λ made. term_of made ≡ terms.sum_with (summed_of sum) (term_of product)) }
 {
@@ -71,7 +71,7 @@ pub fn sum_with(alloc: Global, sum: Summed, product: Expr) -> Result<Expr, Memor
 ///
 /// # Errors
 ///
-/// `Memory` where an allocation fails.
+/// `Memory` if an allocation fails.
 pub fn factor_of(alloc: Global, operand: Operand) -> Result<Expr, Memory>
     ensures { IfOk result (λ made. term_of made ≡ terms.factor_in (operand_of operand)) }
 {

@@ -6,7 +6,7 @@ ghost use Rattle.model.specs.Terms.{Variable};
 ghost use Rattle.poly_terms.specs.Views.{term_of};
 ghost use Rattle.expr_text.specs.TermFronts as terms;
 ghost use Rattle.expr_reader.specs.FrontSteps.{Closes, behind_plus, behind_minus, behind_times};
-ghost use Rattle.expr_reader.specs.Views.{summed_of, level_of, operand_of, front_of, term_in};
+ghost use Rattle.expr_reader.specs.Views.{summed_of, level_of, operand_of, grammar_state_of, term_in};
 
 use crate::Memory;
 use crate::expression::{Expression, Factored, Operand, Summed};
@@ -31,7 +31,7 @@ impl Expression {
     ///
     /// # Errors
     ///
-    /// `Memory` where an allocation fails.
+    /// `Memory` if an allocation fails.
     pub fn take_minus(&mut self, alloc: Global) -> Result<(), Memory>
         requires { self.old.level.minuses < 2 ^ 32 - 1 }
         ensures tokens { OnOk result (self.new.tokens ≡ self.old.tokens) }
@@ -79,7 +79,7 @@ impl Expression {
     ///
     /// # Errors
     ///
-    /// `Memory` where an allocation fails.
+    /// `Memory` if an allocation fails.
     pub fn take_plus(&mut self, alloc: Global) -> Result<(), Memory>
         ensures tokens { OnOk result (self.new.tokens ≡ self.old.tokens) }
         ensures level { OnOk result (level_of self.new.level
@@ -96,7 +96,7 @@ impl Expression {
     ///
     /// # Errors
     ///
-    /// `Memory` where an allocation fails.
+    /// `Memory` if an allocation fails.
     pub fn take_times(&mut self, alloc: Global) -> Result<(), Memory>
         ensures tokens { OnOk result (self.new.tokens ≡ self.old.tokens) }
         ensures level { OnOk result (level_of self.new.level
@@ -142,7 +142,7 @@ impl Expression {
     ///
     /// # Errors
     ///
-    /// `Memory` where an allocation fails.
+    /// `Memory` if an allocation fails.
     pub fn open_bracket(&mut self) -> Result<(), Memory>
         ensures tokens { OnOk result (self.new.tokens ≡ self.old.tokens) }
         ensures outer { OnOk result (map level_of self.new.outer.items
@@ -159,11 +159,11 @@ impl Expression {
     ///
     /// # Errors
     ///
-    /// `Memory` where an allocation fails.
+    /// `Memory` if an allocation fails.
     pub fn close_bracket(&mut self, alloc: Global) -> Result<(), Memory>
-        ensures closes { IsFalse (terms.is_empty (front_of self.old).outer)
-            → OnOk result (Closes (front_of self.old) (front_of self.new)) }
-        ensures stays { IsTrue (terms.is_empty (front_of self.old).outer) → front_of self.new ≡ front_of self.old }
+        ensures closes { IsFalse (terms.is_empty (grammar_state_of self.old).outer)
+            → OnOk result (Closes (grammar_state_of self.old) (grammar_state_of self.new)) }
+        ensures stays { IsTrue (terms.is_empty (grammar_state_of self.old).outer) → grammar_state_of self.new ≡ grammar_state_of self.old }
         ensures tokens { OnOk result (self.new.tokens ≡ self.old.tokens) }
     {
         if self.outer.is_empty() {
@@ -221,7 +221,7 @@ impl Expression {
     ///
     /// # Errors
     ///
-    /// `Memory` where an allocation fails.
+    /// `Memory` if an allocation fails.
     pub(crate) fn sum_made(&mut self, alloc: Global) -> Result<Expr, Memory>
         ensures tokens { OnOk result (self.new.tokens ≡ self.old.tokens) }
         ensures made { IfOk result (λ made. term_of made ≡ term_in self.old) }

@@ -43,7 +43,7 @@ impl<'a> Variables<'a> {
     ///
     /// # Errors
     ///
-    /// `Memory` where an allocation fails.
+    /// `Memory` if an allocation fails.
     pub fn number(&mut self, name: &'a [u8]) -> Result<usize, Memory>
         ensures number { IfOk result (λ number. number ≡ position_of name.now (names_in self.old)) }
         ensures most { IfOk result (λ number. number ≤ length (names_in self.old)) }

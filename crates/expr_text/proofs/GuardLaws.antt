@@ -19,7 +19,7 @@ use Rattle.expr_text.specs.GuardFronts.{step}
 use Rattle.expr_text.proofs.StepLaws.{step_adds, finish_written, Adds, IsWritten}
 
 module _ {P : Type 0} (into : Piece → P) where
-  -- the pieces of the state after a piece are those before and this one
+  -- The tokens of the state after a token are those before it and this one.
   abbrev pub GuardAdds : List P → GuardFront → Piece → Option GuardFront → Type 0
   GuardAdds before g p None = ⊤
   GuardAdds before g p (Some h) = guard_behind into h before ≡ into p ∷ guard_behind into g before

@@ -10,5 +10,5 @@ pub mod Stability
 pub mod NamesRead
 pub mod LimitedFaults
 pub mod FrontSteps
--- the lemmas of the crates below, which callers name through this one
+-- The lemmas of the crates below, which callers name through this one.
 pub use Rattle.its_model.proofs.text_core

@@ -45,7 +45,7 @@ pub atoms_along : (names more : List Name) (atoms : Atoms) → Extends names mor
 atoms_along names more (First a) e h = atom_along names more a e h
 atoms_along names more (Joined atoms joint a) e h = (atoms_along names more atoms e h.0, atom_along names more a e h.1)
 
--- names that are read go to the end
+-- New names are put at the end.
 atom_extends : (names : List Name) (a : Atom) → Extends names (with_atom names a)
 atom_extends names (Always t) = extends_self names
 atom_extends names (Compared l sign r) =

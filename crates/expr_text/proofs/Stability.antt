@@ -46,7 +46,7 @@ among_with n names = go (is_among n names) refl
     go true e = e
     go false e = among_last n names
 
--- names that are read go to the end
+-- New names are put at the end.
 pub name_extends : (names : List Name) (n : Name) → (new : List Name) × (with_name names n ≡ names ++ new)
 name_extends names n = go (is_among n names)
   where

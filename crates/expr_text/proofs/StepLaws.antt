@@ -29,7 +29,7 @@ module _ {P : Type 0} (into : Piece → P) where
   sum_pieces (PlusAfter s) product n f before = product_pieces product n f (into Plus ∷ sum_behind into s before)
   sum_pieces (MinusAfter s) product n f before = product_pieces product n f (into Minus ∷ sum_behind into s before)
 
-  -- the pieces of the state after a piece are those before and this one
+  -- The tokens of the state after a token are those before it and this one.
   abbrev pub Adds : List P → Front → Piece → Option Front → Type 0
   Adds before f p None = ⊤
   Adds before f p (Some g) = front_behind into g before ≡ into p ∷ front_behind into f before
@@ -98,7 +98,7 @@ module _ {P : Type 0} (into : Piece → P) where
   step_from_adds outer level (CaretRead b) (Joining joint) before = tt
   step_from_adds outer level (ExponentRead b ds) p before = step_behind_adds outer level (Raised b ds) p before
 
-  -- the pieces of the state after a piece are those before and this one
+  -- The tokens of the state after a token are those before it and this one.
   pub step_adds : (f : Front) (p : Piece) (before : List P) → Adds before f p (step f p)
   step_adds f p before = step_from_adds f.outer f.level f.operand p before
 

@@ -10,9 +10,9 @@ pub mod FrontNames
 pub mod TermFronts
 pub mod Limited
 pub mod Differences
--- laws, and values that were worked out by hand
+-- Laws and worked values.
 pub mod Worked
--- the crates below, which callers name through this one
+-- The crates below, which callers name through this one.
 pub use Rattle.its_model.specs.model
 pub use Rattle.its_model.specs.poly_terms
 pub use Rattle.its_model.specs.text_core

@@ -104,7 +104,7 @@ pub record Guards : Type 0 where
   pub left_alone : guard_read_as (a ∷ Related LessThanSign ∷ []) ≡ None
   pub joined : guard_read_as (a ∷ Related LessThanSign ∷ b ∷ Joining Ampersands ∷ []) ≡ None
 
--- all of it
+-- All worked values of this file.
 pub record WorkedValues : Type 0 where
   pub expressions : Expressions
   pub guards : Guards

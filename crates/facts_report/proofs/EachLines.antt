@@ -13,7 +13,7 @@ each_joined f [] ks = refl
 each_joined f (j ∷ js) ks =
     ap (λ (t : List ℕ). f j ++ t) (each_joined f js ks) ∙ sym (append_assoc (f j) (lines_of_each f js) (lines_of_each f ks))
 
--- those of one number more
+-- the lines with those of one number more
 each_more : (f : ℕ → List ℕ) (n : ℕ) → lines_of_each f (range_with_len 0 (n + 1)) ≡ lines_of_each f (range_with_len 0 n) ++ f n
 each_more f n =
     ap (lines_of_each f) (numbers-more 0 n)

@@ -1,4 +1,4 @@
--- what is found with facts, and that it is one
+-- the analysis with facts, which is unique
 pub mod StrengthenedReports
 pub mod OneDerivation
 -- texts of facts, as they are written

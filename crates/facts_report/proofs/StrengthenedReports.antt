@@ -1,4 +1,4 @@
--- What is found of a program that is strengthened by facts that hold is true of the program itself.
+-- The results for a program strengthened by facts that hold are true of the program itself.
 use Rattle.std.proofs.Common.{◌≡◌, ℕ, Bool, List, [], ◌∷◌, length, map, is_some, refl, sym, ◌∙◌, ap, subst}
 use Rattle.std.proofs.lemmas.List.{length-map}
 use Rattle.model.specs.Facts.{Time, Size, Cost}
@@ -20,14 +20,14 @@ use Rattle.time_bounds.specs.Analysis.{IsAnalysis}
 use Rattle.time_bounds.specs.Whys.{ReasonsAreTrue}
 use Rattle.facts_report.specs.WithFacts.{IsFoundWithFacts}
 
--- it has as many start arguments
+-- the strengthened program has as many start arguments
 pub names_many : (q p : code.Program) (kept : List LocFact) → program_of q ≡ strengthened kept (program_of p)
     → length q.start_names.items ≡ length p.start_names.items
 names_many q p kept e =
     sym (length-map q.start_names.items name_of)
     ∙ (ap (λ (x : Program). length x.start_names) e ∙ length-map p.start_names.items name_of)
 
--- its rules have the same targets
+-- the rules of the strengthened program have the same targets
 targets_same : (p : Program) (kept : List LocFact) (rules : List Rule)
     → map (λ rule. arity_of p rule.target) (map (strengthened_rule kept) rules) ≡ map (λ rule. arity_of p rule.target) rules
 targets_same p kept [] = refl
@@ -39,7 +39,7 @@ costs_kept : (kept : List LocFact) (rules : List Rule)
 costs_kept kept [] = refl
 costs_kept kept (r ∷ rules) = ap (λ (bs : List Bool). is_some r.cost ∷ bs) (costs_kept kept rules)
 
--- a report on it is one on the program
+-- a report on the strengthened program is one on the program
 report_on : (p : Program) (kept : List LocFact) (r : Report) → IsReportOn (strengthened kept p) r → IsReportOn p r
 report_on p kept r h = record {
   times = h.times ∙ length-map p.rules (strengthened_rule kept);

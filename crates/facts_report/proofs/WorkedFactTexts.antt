@@ -1,4 +1,4 @@
--- Texts of facts are worked out.
+-- The worked texts of facts are right.
 use Rattle.std.proofs.Common.{refl}
 use Rattle.std.specs.Fmt.{digits}
 use Rattle.report_text.specs.Reports.{text_of_report}

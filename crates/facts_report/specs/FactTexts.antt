@@ -1,5 +1,5 @@
--- Facts as text: for each symbol and each two places with kept facts the line of the strongest one; and a report behind
--- them.
+-- Facts as text: for each symbol and each two places with kept facts the line of the strongest one; followed by a
+-- report.
 use Rattle.std.specs.Prelude.{ℕ, zero, suc, List, [], ◌∷◌, ◌++◌, Option, Some, None, ℤ, codes, decimal}
 use Rattle.std.specs.Fmt.{signed_decimal}
 use Rattle.std.specs.List.{range_with_len}
@@ -22,7 +22,7 @@ difference_text zero (suc j) = codes "-" ++ value_text (suc j)
 difference_text (suc i) zero = value_text (suc i)
 difference_text (suc i) (suc j) = value_text (suc i) ++ (codes " - " ++ value_text (suc j))
 
--- the line of a fact of a symbol with this name: before the difference, and behind it
+-- the line of a fact of a symbol with this name: the text before the difference, and the text after it
 abbrev pub fact_head : Name → List ℕ
 fact_head name = codes "fact " ++ (name ++ codes ": ")
 
@@ -59,6 +59,6 @@ symbol_lines kept s symbol = lines_of_facts symbol.name (facts_at s kept)
 abbrev pub location_lines : Program → List LocFact → List ℕ
 location_lines p kept = numbered_lines (symbol_lines kept) 0 p.symbols
 
--- the text of what is found of a program with facts: the lines of the facts, and then the report
+-- the text of an analysis with facts: the lines of the facts, and then the report
 unfoldable pub text_with_facts : Program → List LocFact → Report → List ℕ
 text_with_facts p kept r = location_lines p kept ++ text_of_report p r

@@ -1,4 +1,4 @@
--- What an analysis finds of a program with the facts at its locations.
+-- The result of analysing a program with the facts at its locations.
 use Rattle.std.specs.Prelude.{◌≡◌, ℕ, List}
 use Rattle.model.specs.Programs.{Program}
 use Rattle.outcome.specs.Reports.{Report}
@@ -11,7 +11,7 @@ use Rattle.time_bounds.specs.Analysis.{IsAnalysis}
 use Rattle.time_bounds.specs.Whys.{ReasonsAreTrue}
 
 -- the facts are those that are kept within this many pivots, and each holds on every run of the program, from any
--- integers and by any choice of rules; the report is that of the analysis of the program that they strengthen, with
+-- integers and by any choice of rules; the report is that of the analysis of the program strengthened by them, with
 -- this many pivots for each linear program; it has the entries of a report on the program, and every bound in it holds
 -- on every run of the program itself; and each reason in it why a bound is missing is true of the strengthened program
 pub record IsFoundWithFacts (p : Program) (pivots : ℕ) (facts : List LocFact) (report : Report) : Type 0 where
@@ -27,7 +27,7 @@ pub record AreOneDerivation (facts others : List LocFact) (r q : Report) : Type 
   pub facts_same : facts ≡ others
   pub report_same : r ≡ q
 
--- within a number of pivots a program has one list of kept facts at most, and one report with them
+-- within a number of pivots a program has at most one list of kept facts, and one report with them
 pub record ReportsWithFactsAreOne : Type 0 where
   pub each : (p : Program) (pivots : ℕ) (facts others : List LocFact) (r q : Report)
       → IsFoundWithFacts p pivots facts r → IsFoundWithFacts p pivots others q → AreOneDerivation facts others r q

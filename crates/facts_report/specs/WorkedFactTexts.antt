@@ -30,8 +30,8 @@ pub record DifferencesAreWorkedOut : Type 0 where
   pub line : location_line (codes "l1") 1 2 (pos 0) ≡ codes "fact l1: x1 - x2 >= 0\n"
   pub negative : location_line (codes "l1") 0 2 (negsuc 0) ≡ codes "fact l1: -x2 >= -1\n"
 
--- of the facts that a value is at least -1, 0 and 1 only the last one is printed, also where it comes first; lines go
--- by symbol, by plus and then by minus, whatever the order of the facts; and the report follows them
+-- of the facts that a value is at least -1, 0 and 1 only the last one is printed, even if it comes first; lines go by
+-- symbol, by plus and then by minus, whatever the order of the facts; and the report follows them
 pub record FactLinesAreWorkedOut : Type 0 where
   pub none : location_lines three_symbols [] ≡ []
   pub greatest : location_lines three_symbols (fact 1 2 0 (negsuc 0) ∷ fact 1 2 0 (pos 0) ∷ fact 1 2 0 (pos 1) ∷ [])
@@ -48,7 +48,7 @@ pub record FactLinesAreWorkedOut : Type 0 where
       (record { times = Timed (Constant 1) ∷ []; costs = Some (Costed (Constant 5)) ∷ []; total = Some (Constant 5); sizes = [] ∷ [] })
       ≡ codes "fact l1: x2 >= 1\nbounded\ntime 1: 1\ncost 1: 5\ntotal: 5\n"
 
--- all of it
+-- all worked values of facts and their lines
 pub record FactTextsAreWorkedOut : Type 0 where
   pub differences : DifferencesAreWorkedOut
   pub lines : FactLinesAreWorkedOut

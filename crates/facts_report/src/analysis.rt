@@ -20,11 +20,11 @@ use std::alloc::Global;
 pub struct WithFacts {
     /// The facts that are kept, in order.
     pub kept: Vec<LocFact>,
-    /// The outcome of the program that they strengthen.
+    /// The outcome of the analysis of the program strengthened by them.
     pub outcome: Outcome,
 }
 
-/// Finds the facts that are kept at a program's locations, and analyses the program that they strengthen, where each
+/// Finds the facts that are kept at a program's locations, and analyses the program strengthened by them, where each
 /// linear program may take this many pivots.
 ///
 /// # Errors

@@ -42,7 +42,7 @@ fn all_lines(alloc: Global, p: &Program, kept: &[LocFact]) -> Result<Vec<u8>, Me
     Ok(text)
 }
 
-// Appends those of symbols.
+// Appends the lines of the facts at symbols.
 fn push_lines(
     alloc: Global,
     text: &mut Vec<u8>,
@@ -58,7 +58,7 @@ fn push_lines(
     Ok(())
 }
 
-// Appends those of the symbol with this number.
+// Appends the lines of the facts at the symbol with this number.
 fn push_symbol(
     alloc: Global,
     text: &mut Vec<u8>,
@@ -90,7 +90,7 @@ fn push_facts(text: &mut Vec<u8>, name: &Name, facts: &[LocFact]) -> Result<(), 
     Ok(())
 }
 
-// Appends those with this plus.
+// Appends the lines of the facts with this plus.
 fn push_with_plus(
     text: &mut Vec<u8>,
     name: &Name,
@@ -106,7 +106,7 @@ fn push_with_plus(
     Ok(())
 }
 
-// Appends the line of two places by their greatest least, where there is one.
+// Appends the line of two places by their greatest least, if there is one.
 fn push_by(
     text: &mut Vec<u8>,
     name: &Name,
@@ -146,7 +146,7 @@ fn push_head(text: &mut Vec<u8>, name: &Name) -> Result<(), Memory>
     text.extend_from_slice(b": ")
 }
 
-// Appends the text behind the difference.
+// Appends the text after the difference.
 fn push_end(text: &mut Vec<u8>, least: i64) -> Result<(), Memory>
     ensures { OnOk result (text.new.items ≡ text.old.items ++ fact_end least) }
 {

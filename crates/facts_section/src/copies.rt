@@ -18,8 +18,8 @@ pub(crate) fn copy_of(p: &Program, symbol: u32) -> u32 {
     }
 }
 
-/// The strongest facts of a symbol, in order: of those on the same difference the one with the greatest bound. The start
-/// symbol has none.
+/// The strongest facts of a symbol, in order: of the facts on the same difference the one with the greatest bound. The
+/// start symbol has none.
 ///
 /// # Errors
 ///
@@ -44,7 +44,7 @@ pub(crate) fn strongest_at(
     Ok(strongest)
 }
 
-// Whether there is a greater bound on the same difference.
+// Whether another fact on the same difference has a greater bound.
 fn is_below_another(fact: &LocFact, facts: &[LocFact]) -> bool {
     for other in facts {
         if speaks_alike(fact, other) && other.least > fact.least {

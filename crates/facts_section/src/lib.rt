@@ -1,9 +1,9 @@
 //! The section of a program that location facts make: a copy of each symbol with the strongest of its facts, and the
 //! certificates of these facts as multipliers.
 //!
-//! Builds on `location_facts` and `refined_programs`. No clause says that the section is accepted: it counts where
+//! Builds on `location_facts` and `refined_programs`. No contract says that the section is accepted: it counts if
 //! `refinement_check::accept` accepts it, as it does unless a guard with facts is over the limits of a rule, or a fact
-//! speaks of a place whose new value has degree 2 or more.
+//! is on a place whose new value has degree 2 or more.
 #![tactic(auto)]
 
 mod copies;

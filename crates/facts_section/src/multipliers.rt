@@ -1,5 +1,5 @@
-//! The certificate of a fact behind a rule as multipliers of the rows of the rule, of the strongest facts at its source,
-//! and of the denied fact.
+//! The certificate of a fact after a rule, as multipliers of the rows of the rule, of the strongest facts at its
+//! source, and of the denied fact.
 
 use crate::copies::speaks_alike;
 use guard_prep::RuleRows;
@@ -9,7 +9,7 @@ use poly_terms::{Memory, Poly};
 use refined_programs::Multipliers;
 use std::alloc::Global;
 
-/// What a certificate speaks of: the rows of the rule, all facts at its source, and the strongest of these.
+/// The context of a certificate: the rows of the rule, all facts at its source, and the strongest of these.
 #[derive(Clone, Copy)]
 pub(crate) struct Given<'a> {
     pub rows: &'a RuleRows,
@@ -17,9 +17,9 @@ pub(crate) struct Given<'a> {
     pub strongest: &'a [LocFact],
 }
 
-/// The multipliers by which no values meet the rows where the fact fails behind the rule: those of the certificate for
-/// the rule's rows; for each strongest fact those of all facts on the same difference, added up; and for the denied fact,
-/// which has a row where its new value is affine, the denominator times what the row was divided by.
+/// The multipliers by which no values meet the rows such that the fact fails after the rule: those of the certificate
+/// for the rule's rows; for each strongest fact the sum of those of all facts on the same difference; and for the
+/// denied fact, which has a row if its new value is affine, the denominator times the divisor of that row.
 ///
 /// # Errors
 ///
@@ -48,7 +48,7 @@ pub(crate) fn turned(
     Ok(Multipliers { numbers })
 }
 
-// The number at a position, 0 past the end.
+// The number at a position, or 0 past the end.
 fn number_at(numbers: &[u64], position: usize) -> u64 {
     match numbers.get(position) {
         Some(number) => *number,
@@ -56,7 +56,8 @@ fn number_at(numbers: &[u64], position: usize) -> u64 {
     }
 }
 
-// The multipliers of facts on the same difference, added up; that of the first fact is at a position.
+// The sum of the multipliers of all facts on the same difference, where the multiplier of the first fact is at position
+// `first`.
 fn joined(by: &[u64], first: usize, facts: &[LocFact], strong: &LocFact) -> u64 {
     let mut sum: u64 = 0;
     for (i, fact) in facts.iter().enumerate() {
@@ -67,8 +68,8 @@ fn joined(by: &[u64], first: usize, facts: &[LocFact], strong: &LocFact) -> u64 
     sum
 }
 
-// The multiplier of the row of the denied fact; none where there is no such row: where the new value of the difference
-// that the fact is on isn't affine, or is a constant at which the fact fails.
+// The multiplier of the row of the denied fact; none if there is no such row: if the new value of the difference that
+// the fact is on isn't affine, or is a constant at which the fact fails.
 fn denied_multiplier(rows: &RuleRows, fact: &LocFact, den: u64) -> Option<u64> {
     let change = Change {
         plus: poly_at(rows, fact.plus),
@@ -84,7 +85,7 @@ fn denied_multiplier(rows: &RuleRows, fact: &LocFact, den: u64) -> Option<u64> {
     Some(den.saturating_mul(common.max(1)))
 }
 
-// The polynomial that is the new value of a place, from 1; none of place 0, whose value is 0.
+// The polynomial that is the new value of a place, from 1 on; none for place 0, which stands for the value 0.
 fn poly_at(rows: &RuleRows, place: u32) -> Option<&Poly> {
     if place == 0 {
         return None;
@@ -92,7 +93,7 @@ fn poly_at(rows: &RuleRows, place: u32) -> Option<&Poly> {
     rows.polys.get(place as usize - 1)
 }
 
-// The difference of two polynomials, where none stands for 0.
+// The difference of two polynomials; an absent one counts as 0.
 #[derive(Clone, Copy)]
 struct Change<'a> {
     plus: Option<&'a Poly>,
@@ -123,7 +124,7 @@ impl Change<'_> {
         true
     }
 
-    // The greatest common divisor of the coefficients of the variables below a number, 0 where all are 0.
+    // The greatest common divisor of the coefficients of the variables below a number, or 0 if all are 0.
     fn common_divisor(&self, unknowns: u32) -> u64 {
         let mut found = 0u128;
         for unknown in 0..unknowns {
@@ -133,7 +134,7 @@ impl Change<'_> {
     }
 }
 
-// The coefficient of the monomial of these variables, 0 where there is none.
+// The coefficient of the monomial of these variables, or 0 if there is none.
 fn coefficient_in(poly: Option<&Poly>, vars: &[u32]) -> i128 {
     let Some(poly) = poly else {
         return 0;

@@ -9,9 +9,9 @@ use poly_terms::Memory;
 use refined_programs::{Branch, Cases, Multipliers, Section};
 use std::alloc::Global;
 
-/// The section in which each symbol has one copy, with the strongest of its facts, and each rule leads to the copy of its
-/// target; the prepared rows are those of the rules, in order. The certificates of the facts are handed on. Whether the
-/// section is accepted has to be checked.
+/// The section in which each symbol has one copy, with the strongest of its facts, and each rule leads to the copy of
+/// its target; the prepared rows are those of the rules, in order. The certificates of the facts become its
+/// multipliers. Whether the section is accepted has to be checked.
 ///
 /// # Errors
 ///
@@ -105,7 +105,7 @@ fn proof_of<'a>(task: Task<'a>, position: usize, fact: &LocFact) -> Option<&'a F
     proofs.get(rules_before(task.program, position, fact.symbol))
 }
 
-// The position of a fact, past the end where it isn't listed.
+// The position of a fact, or one past the end if it isn't listed.
 fn number_of(kept: &[LocFact], fact: &LocFact) -> usize {
     for (i, other) in kept.iter().enumerate() {
         if other == fact {
@@ -115,7 +115,7 @@ fn number_of(kept: &[LocFact], fact: &LocFact) -> usize {
     kept.len()
 }
 
-// How many rules before a position lead to a symbol.
+// The number of rules before a position that lead to a symbol.
 fn rules_before(p: &Program, position: usize, symbol: u32) -> usize {
     let mut count: usize = 0;
     for (i, rule) in p.rules.iter().enumerate() {

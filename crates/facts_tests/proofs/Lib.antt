@@ -1,2 +1,2 @@
--- rules that are read of a program
+-- rules that were read of a program
 pub mod Rows

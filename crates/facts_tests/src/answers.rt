@@ -1,4 +1,4 @@
-//! The answer to a line: a call, and behind a blank facts with their proofs, a semicolon, and rules.
+//! The answer to a line: a call, and after a blank facts with their proofs, a semicolon, and rules.
 
 ghost use Rattle.std.specs.Prelude.{IfOk};
 ghost use Rattle.its_model.specs.Valid.{IsValid};
@@ -16,11 +16,11 @@ use refinement_check::{AcceptError, accept};
 use std::alloc::{AllocError, Global};
 
 /// Answers a line. `faults` is answered by the first fault of the facts: `nothing`, or the number of a fact and of a
-/// rule. `strengthened` is answered by the canonical text of the program that is strengthened by them, with `/` for a
-/// line feed, if they have no fault. The other calls have a number of pivots in place of facts, and are about the facts
-/// that are kept within it: `kept` is answered by these facts, as a line writes them, or `none`, and by their first
-/// fault; `found` by the text of the program that is strengthened by them; and `section` by whether the section that they
-/// make is accepted, and how many facts each of its copies has.
+/// rule. `strengthened` is answered by the canonical text of the program strengthened by them, with `/` for a line
+/// feed, if they have no fault. The other calls have a number of pivots in place of facts, and are about the facts that
+/// are kept within it: `kept` is answered by these facts, as a line writes them, or `none`, and by their first fault;
+/// `found` by the text of the program strengthened by them; and `section` by whether the section that they make is
+/// accepted, and how many facts each of its copies has.
 pub(crate) fn answer(alloc: Global, line: &str) -> Result<String, Memory> {
     let Some((call, rest)) = line.split_once(' ') else {
         return String::from_str(alloc, line);
@@ -56,7 +56,7 @@ fn fault_text(alloc: Global, p: &Program, facts: &LocFacts) -> Result<String, Me
     }
 }
 
-// The text of a program that is strengthened by facts with which nothing is wrong.
+// The text of a program strengthened by facts without a fault.
 fn strengthened_text(alloc: Global, p: &Program, facts: &LocFacts) -> Result<String, Memory>
     requires { IsValid (program_of p.now) }
 {
@@ -95,7 +95,7 @@ fn listed_text(alloc: Global, kept: &[LocFact]) -> Result<String, Memory> {
     Ok(text)
 }
 
-// The program that is strengthened by the facts that are kept within a number of pivots.
+// The program strengthened by the facts that are kept within a number of pivots.
 fn strengthened_by_kept(alloc: Global, p: &Program, pivots: u32) -> Result<Program, Memory>
     requires { IsValid (program_of p.now) }
     ensures { IfOk result (λ q. IsValid (program_of q)) }
@@ -104,7 +104,7 @@ fn strengthened_by_kept(alloc: Global, p: &Program, pivots: u32) -> Result<Progr
     strengthen(alloc, p, &found)
 }
 
-// Its text.
+// The text of the program strengthened by the facts that are kept within a number of pivots.
 fn found_text(alloc: Global, p: &Program, pivots: u32) -> Result<String, Memory>
     requires { IsValid (program_of p.now) }
 {
@@ -112,7 +112,7 @@ fn found_text(alloc: Global, p: &Program, pivots: u32) -> Result<String, Memory>
     one_line(alloc, &print(alloc, &strong)?)
 }
 
-// Whether the section that the facts kept within a number of pivots make is accepted, or what is wrong first.
+// Whether the section made of the facts that are kept within a number of pivots is accepted, or its first fault.
 fn section_text(alloc: Global, p: &Program, pivots: u32) -> Result<String, Memory>
     requires { IsValid (program_of p.now) }
 {

@@ -1,6 +1,6 @@
 //! Facts with their proofs as a line writes them: facts are divided by `|`, and a fact from its proofs, and these from
 //! one another, by commas. A fact is its symbol, plus, minus and least; a proof is its denominator and then its
-//! multipliers, or multipliers behind the word `empty`. A fact behind the word `alone` has no list of proofs.
+//! multipliers, or multipliers after the word `empty`. A fact after the word `alone` has no list of proofs.
 
 use location_facts::{FactProof, LocFact, LocFacts};
 use model::Memory;

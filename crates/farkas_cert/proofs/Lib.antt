@@ -4,5 +4,5 @@ pub mod Columns
 pub mod Sums
 pub mod RowLists
 mod WorkedSizes
--- the lemmas of the crates below, which callers name through this one
+-- The lemmas of the crates below, which callers name through this one.
 pub use Rattle.poly_terms.proofs.model

@@ -59,6 +59,6 @@ columns = record {
     two zero = omega arith
     two (suc u) = omega arith
 
--- all of it
+-- All worked values of this file.
 pub sizes-are-worked-out : SizesAreWorkedOut
 sizes-are-worked-out = record { limits = limits; columns = columns }

@@ -1,10 +1,10 @@
--- what the contracts of this crate, and of those above it, cite
+-- The specs that contracts of this crate and of other crates cite.
 pub mod Sizes
 pub mod Scales
--- laws, and values that were worked out by hand
+-- Laws and worked values.
 pub mod WorkedSizes
--- the machinery of the functions inside and of the proofs
+-- The definitions for the inner functions and the proofs.
 pub mod Columns
--- the crates below, which callers name through this one
+-- The crates below, which callers name through this one.
 pub use Rattle.poly_terms.specs.model
 pub use Rattle.linear_forms.specs as linear_forms

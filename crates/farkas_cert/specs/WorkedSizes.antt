@@ -25,7 +25,7 @@ pub record ColumnsAreWorkedOut : Type 0 where
   pub large_column : ¬ (AreSmall (line (pos (2 ^ 70)) (pos 0) ∷ line (negsuc (2 ^ 10)) (pos 0) ∷ []))
   pub large_constants : ¬ (AreSmall (line (pos 0) (pos (2 ^ 70)) ∷ line (pos 0) (negsuc (2 ^ 10)) ∷ []))
 
--- all of it
+-- All worked values of this file.
 pub record SizesAreWorkedOut : Type 0 where
   pub limits : LimitsAreWorkedOut
   pub columns : ColumnsAreWorkedOut

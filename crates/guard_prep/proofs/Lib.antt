@@ -8,7 +8,7 @@ pub mod SizeLaws
 mod CertificateSizes
 pub mod StepLaws
 mod WorkedPoints
--- the lemmas of the crates below, which callers name through this one
+-- The lemmas of the crates below, which callers name through this one.
 pub use Rattle.poly_terms.proofs.model
 pub use Rattle.int_laws.proofs as int_laws
 pub use Rattle.poly_terms.proofs as poly_terms

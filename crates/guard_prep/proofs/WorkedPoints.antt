@@ -134,6 +134,6 @@ forms = record {
   other_width = λ h. let long = h.width in omega (arith, long);
 }
 
--- all of it
+-- All worked values of this file.
 pub points-are-worked-out : PointsAreWorkedOut
 points-are-worked-out = record { rules = rules; linear_parts = linear_parts; steps = steps; costs = costs; forms = forms }

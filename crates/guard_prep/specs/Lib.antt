@@ -2,11 +2,11 @@
 pub mod Tightening
 pub mod Prepared
 pub mod Views
--- laws, and values that were worked out by hand
+-- Laws and worked values.
 pub mod Laws
 pub mod WorkedRows
 pub mod WorkedPoints
--- the crates below, which callers name through this one
+-- The crates below, which callers name through this one.
 pub use Rattle.poly_terms.specs.model
 pub use Rattle.poly_terms.specs.linear_forms
 pub use Rattle.poly_terms.specs as poly_terms

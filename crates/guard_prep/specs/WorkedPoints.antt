@@ -75,7 +75,7 @@ pub record SmallFormsAreWorkedOut : Type 0 where
   pub constant_too_large : ¬ (IsSmallForm 2 (two (pos 0) (pos 0) (negsuc 9223372036854775807)))
   pub other_width : ¬ (IsSmallForm 3 (two (pos 0) (pos 0) (pos 0)))
 
--- all of it
+-- All worked values of this file.
 pub record PointsAreWorkedOut : Type 0 where
   pub rules : RulesAreWorkedOut
   pub linear_parts : LinearPartsAreWorkedOut

@@ -98,7 +98,7 @@ pub record UpdatesHaveForms : Type 0 where
       ≡ four (pos 0) (pos 0) (pos 1) (pos 0) (pos 0) ∷ four (pos 0) (pos 0) (pos 0) (pos 1) (pos 0) ∷ []
   pub cancelled : nonlinear_of (with_free (Subtraction (Addition square (Variable 1)) square ∷ []) []) ≡ false ∷ []
 
--- all of it
+-- All worked values of this file.
 pub record RowsAreWorkedOut : Type 0 where
   pub divisors : DivisorsAreWorkedOut
   pub tightened_rows : RowsAreTightened

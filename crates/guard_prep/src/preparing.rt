@@ -32,7 +32,7 @@ use std::alloc::{AllocError, Global};
 ///
 /// # Errors
 ///
-/// `Memory` where an allocation fails.
+/// `Memory` if an allocation fails.
 pub fn rows(alloc: Global, r: &Rule) -> Result<RuleRows, Memory>
     requires { IsPreparable (rule_of r.now) }
     ensures { IfOk result (λ m. prepared_of m ≡ prepared (rule_of r.now)) }

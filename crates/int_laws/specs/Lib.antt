@@ -1,7 +1,7 @@
--- what the contracts of this crate, and of those above it, cite
+-- The specs that contracts of this crate and of other crates cite.
 pub mod Sums
 pub mod Polynomial
 pub mod NormalForm
 pub mod Divisors
--- laws, and values that were worked out by hand
+-- Laws and worked values.
 pub mod Laws

@@ -1,4 +1,5 @@
--- At the end all leaders are listed: one that isn't waits for another, and so on, and all of these differ.
+-- At the end all leaders are listed: a leader that isn't would wait for another, and so on, and all of these would
+-- differ.
 use Rattle.std.proofs.Common.{◌≡◌, ◌≢◌, ◌⊎◌, inl, inr, ℕ, zero, suc, ◌<◌, ◌≤◌, List, [], ◌∷◌, length, Bool, true, false}
 use Rattle.std.proofs.Common.{eqb, Contains, Vec, get_or, refl, sym, ◌∙◌, ap, subst, arith}
 use Rattle.std.specs.List.{All, IsDistinct, list_any}
@@ -13,7 +14,7 @@ use Rattle.its_graph.specs.Groups.{Joins}
 use Rattle.its_graph.specs.Orders.{IsLeader, AreLeadersInOrder, AreOrderable, IsMarked, Waits, IsSorting}
 use Rattle.its_graph.proofs.Elements.{Contains-cons_cases, Contains-first, Contains-later, none_in_empty, Decided, decided}
 
--- an element that a test finds is in the list
+-- An element that a test finds is in the list.
 found-element : (q : ℕ) (xs : List ℕ) → list_any (eqb q) xs ≡ true → Contains xs q
 found-element q [] h = absurd (different h)
   where
@@ -25,7 +26,7 @@ found-element q (x ∷ xs) h = go (decided q x) (λ rest. found-element q xs res
     go (inl (test, same)) onward = subst (λ (y : ℕ). Contains (x ∷ xs) y) (sym same) (Contains-first x xs)
     go (inr (test, other)) onward = Contains-later x xs q (onward (rw test at h))
 
--- a number that is none of a list keeps it distinct
+-- Distinct numbers stay distinct after a number that is none of them is put first.
 distinct-more : (e : ℕ) (xs : List ℕ) → ((x : ℕ) → Contains xs x → e ≢ x) → IsDistinct eqb xs → IsDistinct eqb (e ∷ xs)
 distinct-more e xs h d =
     IsDistinct-cons eqb e xs (recursion_from_All (λ (y : ℕ). eqb e y ≡ false) xs (All-from_get_or (λ (y : ℕ). eqb e y ≡ false) xs 0 (λ i low. differs (get_or xs i 0) (h (get_or xs i 0) (Contains-get_or xs i 0 low)) (decided e (get_or xs i 0))))) d
@@ -34,7 +35,7 @@ distinct-more e xs h d =
     differs y ne (inl (test, same)) = absurd (ne same)
     differs y ne (inr (test, other)) = test
 
--- numbers that differ at all positions are distinct
+-- Numbers that differ at all positions are distinct.
 pub distinct-list : (xs : List ℕ) → ((j k : ℕ) → j < k → k < length xs → get_or xs j 0 ≢ get_or xs k 0) → IsDistinct eqb xs
 unfolding IsDistinct
 distinct-list [] h = tt
@@ -44,7 +45,7 @@ distinct-list (x ∷ xs) h =
     differs : (y : ℕ) → Contains xs y → x ≢ y
     differs y (k, low, e) same = h 0 (suc k) (omega arith) (omega arith) (same ∙ sym (get_or_default xs k 0 y low ∙ e))
 
--- so there are at most n below n
+-- Of distinct numbers below n there are at most n.
 pub distinct-few : (xs : List ℕ) (n : ℕ) → ((j k : ℕ) → j < k → k < length xs → get_or xs j 0 ≢ get_or xs k 0) → All (λ x. x < n) xs → length xs ≤ n
 distinct-few xs n h within = length-le_from_distinct_below xs n (distinct-list xs h) (λ q found. below q (found-element q xs found))
   where
@@ -52,7 +53,7 @@ distinct-few xs n h within = length-le_from_distinct_below xs n (distinct-list x
     below q (k, low, e) = subst (λ (x : ℕ). x < n) e (within k q low)
 
 module _ (needs : List (Vec ℕ Global)) (leaders : List ℕ) (s : Sorting) (o : AreOrderable leaders needs) (f : IsSorting needs leaders [] s) (none_ready : s.ready.keys ≡ []) where
-  -- leaders that aren't listed, each waiting for the one before it in the list, so that the first is needed by all
+  -- Leaders that aren't listed, each waiting for the one before it in the list, so that the first is needed by all.
   record Chain (k : ℕ) : Type 0 where
     first : ℕ
     others : List ℕ
@@ -63,7 +64,7 @@ module _ (needs : List (Vec ℕ Global)) (leaders : List ℕ) (s : Sorting) (o :
     within : (x : ℕ) → Contains (first ∷ others) x → x < length leaders
     reached : (x : ℕ) → Contains (first ∷ others) x → Path (Joins needs) x first
 
-  -- an unlisted leader waits for another one
+  -- An unlisted leader waits for another one.
   waits_for : (c : ℕ) → IsLeader leaders c → ¬ (IsMarked s.is_listed.items c) → Waits s.waiting.items s.is_listed.items c
   waits_for c leads unmarked = go (f.placed c leads unmarked)
     where
@@ -72,7 +73,7 @@ module _ (needs : List (Vec ℕ Global)) (leaders : List ℕ) (s : Sorting) (o :
       go (inr (inl h)) = absurd (none_in_empty c h)
       go (inr (inr w)) = w
 
-  -- one more
+  -- A chain of waiting leaders can be made longer by one.
   chain-more : (k : ℕ) → Chain k → Chain (suc k)
   chain-more k c = record {
     first = w.need;
@@ -102,7 +103,7 @@ module _ (needs : List (Vec ℕ Global)) (leaders : List ℕ) (s : Sorting) (o :
       reached x (inl e) = Here e
       reached x (inr h) = Onward (c.reached x h) need
 
-  -- as long as one likes
+  -- From an unlisted leader, there is a chain of waiting leaders of any length.
   chain : (c : ℕ) → IsLeader leaders c → ¬ (IsMarked s.is_listed.items c) → (k : ℕ) → Chain k
   unfolding IsDistinct
   chain c leads unmarked zero = record {
@@ -125,14 +126,14 @@ module _ (needs : List (Vec ℕ Global)) (leaders : List ℕ) (s : Sorting) (o :
       here x (inr h) = absurd (none_in_empty x h)
   chain c leads unmarked (suc k) = chain-more k (chain c leads unmarked k)
 
-  -- which can't be
+  -- There is no unlisted leader.
   none-open : (c : ℕ) → IsLeader leaders c → ¬ (IsMarked s.is_listed.items c) → ⊥
   none-open c leads unmarked =
       let long : Chain (length leaders) = chain c leads unmarked (length leaders) in
       let few = length-le_from_distinct_below (long.first ∷ long.others) (length leaders) long.distinct (λ q h. long.within q (found-element q (long.first ∷ long.others) h)) in
       omega (arith, few, long.size)
 
-  -- so all leaders are listed
+  -- All leaders are listed.
   pub all_listed : AreLeadersInOrder (Joins needs) leaders s.order.items
   all_listed = record { each = f.each; all = λ c leads. all c leads (get_or s.is_listed.items c false) refl }
     where

@@ -1,4 +1,4 @@
--- What arrives at a symbol, and the ends of rules.
+-- The rules that lead to a symbol, and the ends of rules.
 use Rattle.std.proofs.Common.{◌≡◌, ℕ, zero, suc, ◌+◌, ◌-◌, ◌<◌, ◌≤◌, List, [], ◌∷◌, length, map, filter, Option, Some}
 use Rattle.std.proofs.Common.{Bool, true, false, ◌==◌, get_or, refl, sym, ◌∙◌, ap, subst, arith}
 use Rattle.std.specs.Prelude.{slice_get}
@@ -16,7 +16,7 @@ use Rattle.its_graph.specs.declared.graph.Graph.{Graph}
 use Rattle.its_graph.specs.Graphs.{IsGraphOf}
 use Rattle.its_graph.proofs.PairLists.{Pair}
 
--- the arrivals at a symbol are the rules that lead to it
+-- The arrivals at a symbol are the rules that lead to it.
 arrivals-filter : (f : ℕ → Option ℕ) (s i : ℕ) (rules : List Rule) → ((k : ℕ) (r : Rule) → slice_get rules k ≡ Some r → f (i + k) ≡ Some r.target)
     → values_of (arrivals_from i (map ends_of rules)) s ≡ filter (λ e. same_symbol (f e) (Some s)) (range_with_len i (length rules))
 arrivals-filter f s i [] h = refl
@@ -42,7 +42,7 @@ arrivals-filter f s i (r ∷ rules) h = go (r.target == s) refl (arrivals-filter
     go true e ih = rw (here, next) (rw e (ap (λ (xs : List ℕ). i ∷ xs) ih))
     go false e ih = rw (here, next) (rw e ih)
 
--- the arrivals at a rule's source are the rules that can come just before it
+-- The arrivals at a rule's source are the rules that can come just before it.
 pub arrivals-pre : (p : Program) (t s : ℕ) → source_of p t ≡ Some s → values_of (arrivals p.start (map ends_of p.rules)) s ≡ pre p t
 arrivals-pre p t s source =
     go (p.start == s) refl (arrivals-filter (target_of p) s 1 p.rules (λ k r e. ap (target_of p) (next k) ∙ ap target_in e))
@@ -56,7 +56,7 @@ arrivals-pre p t s source =
     go true e ih = rw e (ap (λ (xs : List ℕ). 0 ∷ xs) ih)
     go false e ih = rw e ih
 
--- the keys of arrivals are symbols
+-- The keys of arrivals are symbols.
 pub arrivals-within : (n start : ℕ) (links : List Pair) → start < n → All (λ (e : Pair). (e.0 < n) × (e.1 < n)) links → All (λ (e : Pair). e.0 < n) (arrivals start links)
 arrivals-within n start links low h = let first : Pair = (start, 0) in All-cons (λ (e : Pair). e.0 < n) first (arrivals_from 1 links) low (rest 1 links h)
   where
@@ -64,11 +64,11 @@ arrivals-within n start links low h = let first : Pair = (start, 0) in All-cons 
     rest i [] h = All-nil (λ (e : Pair). e.0 < n)
     rest i (l ∷ links) h = let first : Pair = (l.1, i) in All-cons (λ (e : Pair). e.0 < n) first (arrivals_from (suc i) links) (h 0 l (omega arith)).1 (rest (suc i) links (λ k d lower. h (suc k) d (omega arith)))
 
--- rules that are below a number as plain data are
+-- The symbols of rules as plain data are below a number if those of the code's rules are.
 pub below-symbols : (n : ℕ) (rules : List code.Rule) → All (λ (r : Rule). (r.source < n) × (r.target < n)) (map rule_of rules) → LeadBelow n rules
 below-symbols n rules h k d low = subst (λ (r : Rule). (r.source < n) × (r.target < n)) (get_or-map rule_of rules k d (rule_of d) low) (h k (rule_of d) (omega (arith, length-map rules rule_of)))
 
--- the rule with a number has the ends that its link has
+-- The rule with a number has the ends of its link.
 pub rule-at-link : (p : Program) (links : List Pair) (t : ℕ) (link : Pair) → links ≡ map ends_of p.rules → 0 < t → t ≤ length links → link ≡ get_or links (t - 1) link
     → (r : Rule) × (rule_at p t ≡ Some r) × (ends_of r ≡ link)
 rule-at-link p links zero link same pos low at = absurd (omega arith)
@@ -85,7 +85,7 @@ rule-at-link p links (suc k) link same pos low at = go p.rules refl
           sym (at ∙ (ap (λ (i : ℕ). get_or links i link) back ∙ (ap (λ (xs : List Pair). get_or xs k link) same ∙ get_or-map ends_of p.rules k q link in_rules))),
         )
 
--- the source of a rule is a symbol of the graph
+-- The source of a rule is a symbol of the graph.
 pub symbol-within : (g : Graph) (p : Program) → IsGraphOf g p → (t : ℕ) (link : Pair) → 0 < t → t ≤ length g.links.items → link ≡ get_or g.links.items (t - 1) link → link.0 < length g.arriving.items
 symbol-within g p h t link pos low at =
     let within : (link.0 < g.symbols) × (link.1 < g.symbols) = subst (λ (e : Pair). (e.0 < g.symbols) × (e.1 < g.symbols)) (sym at) (h.links_within (t - 1) link (omega arith)) in

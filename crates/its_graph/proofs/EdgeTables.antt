@@ -8,7 +8,7 @@ use Rattle.its_graph.specs.Classes.{AreTables, AreLeaders}
 use Rattle.its_graph.proofs.PairLists.{Pair, AreWithin, joins-pairs, swap-listed, swap-from, pair-within}
 use Rattle.its_graph.proofs.Routes.{path-map}
 
--- the tables of edges and of the edges turned round
+-- The tables made of the edges and of the reversed edges are those of the graph.
 pub tables-of : (n : ℕ) (edges : List Pair) (next previous : List (Vec ℕ Global)) → AreWithin n edges → length next ≡ n → length previous ≡ n
     → ((a : ℕ) → values_in next a ≡ values_of edges a) → ((a : ℕ) → values_in previous a ≡ values_of (map swap edges) a) → AreTables n next previous
 tables-of n edges next previous within next_size previous_size next_values previous_values = record {
@@ -25,7 +25,7 @@ tables-of n edges next previous within next_size previous_size next_values previ
     previous_is : (a b : ℕ) → Joins previous a b → IsPair edges b a
     previous_is a b h = swap-from edges b a ((joins-pairs previous (map swap edges) previous_values a b).0 h)
 
--- leaders by one form of the edges are leaders by another
+-- The leaders of a graph are the leaders of a graph with the same edges.
 pub leaders-by : (Edge Other : ℕ → ℕ → Type 0) → ((a b : ℕ) → Edge a b ↔ Other a b) → (n : ℕ) (leaders : List ℕ) → AreLeaders Edge n leaders → AreLeaders Other n leaders
 leaders-by Edge Other same n leaders l = record {
   size = l.size;

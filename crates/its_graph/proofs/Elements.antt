@@ -28,10 +28,10 @@ only_element b x h = go (Contains-cons_cases b [] x h)
     go (inl e) = e
     go (inr none) = absurd (none_in_empty x none)
 
--- two numbers are equal or not, as the test says
+-- Two numbers are equal or not, as the test says.
 abbrev pub Decided : ℕ → ℕ → Type 0
 Decided x b = ((x == b) ≡ true) × (x ≡ b) ⊎ ((x == b) ≡ false) × (x ≢ b)
 
--- one of both holds
+-- Two numbers are equal, or they aren't.
 pub decided : (x b : ℕ) → Decided x b
 decided x b = eqb_tells x b

@@ -12,7 +12,7 @@ use Rattle.its_graph.specs.Floods.{Painting, painted, EdgeTo, Fills}
 use Rattle.its_graph.proofs.Elements.{Contains-first, only_element, none_in_empty}
 use Rattle.its_graph.proofs.PaintedNodes.{Paints, color_of, paints_one}
 
--- the state of a flood that has visited the first i nodes found
+-- The state of a flood that has visited the first i nodes found.
 pub record IsFilling (Edge : ℕ → ℕ → Type 0) (before : List ℕ) (start old new : ℕ) (m : Painting) (i : ℕ) : Type 0 where
   pub size : length m.colors ≡ length before
   pub from : (x : ℕ) → Contains m.found x → Path (EdgeTo Edge before old) start x × (x < length before) × (get_or before x 0 ≡ old)
@@ -22,7 +22,7 @@ pub record IsFilling (Edge : ℕ → ℕ → Type 0) (before : List ℕ) (start 
   pub done : (k : ℕ) → k < i → (b : ℕ) → Edge (get_or m.found k 0) b → get_or before b 0 ≡ old → Contains m.found b
   pub passed : i ≤ length m.found
 
--- at first the start was found
+-- At first only the start was found.
 pub filling_begins : (Edge : ℕ → ℕ → Type 0) (before : List ℕ) (start old new : ℕ) (m : Painting) → new ≢ old → start < length before → get_or before start 0 ≡ old
     → m ≡ painted old new start (record { colors = before; found = [] }) → IsFilling Edge before start old new m 0
 filling_begins Edge before start old new m ne low color e =
@@ -45,7 +45,7 @@ filling_begins Edge before start old new m ne low color e =
     are x (inl h) = absurd (none_in_empty x h)
     are x (inr h) = h
 
--- one more node is visited
+-- Visiting one more node keeps the state of the flood.
 pub filling_goes_on : (lists : List (Vec ℕ Global)) (before : List ℕ) (start old new : ℕ) (m n : Painting) (i node : ℕ) → new ≢ old → i < length m.found → node ≡ get_or m.found i 0
     → IsFilling (Joins lists) before start old new m i → Paints old new (values_in lists node) m n → IsFilling (Joins lists) before start old new n (i + 1)
 filling_goes_on lists before start old new m n i node ne low at f p = record {
@@ -61,7 +61,7 @@ filling_goes_on lists before start old new m n i node ne low at f p = record {
     is_found : Contains m.found node
     is_found = subst (λ (y : ℕ). Contains m.found y) (sym at) (Contains-get_or m.found i 0 low)
 
-    -- a node that gets the colour now had the old one before
+    -- A node that has the old colour now had it before.
     was_old : (x : ℕ) → color_of m x ≡ old → (color_of m x ≡ get_or before x 0) ⊎ Contains m.found x → get_or before x 0 ≡ old
     was_old x e (inl same) = sym same ∙ e
     was_old x e (inr h) = absurd (ne (sym (f.are x h) ∙ e))
@@ -92,7 +92,7 @@ filling_goes_on lists before start old new m n i node ne low at f p = record {
         same : k ≡ i
         same = omega arith
 
--- a flood that has visited all nodes found has found all reached nodes
+-- A flood that has visited all nodes found has found all reached nodes.
 pub filling_ends : (Edge : ℕ → ℕ → Type 0) (before : List ℕ) (start old new : ℕ) (m : Painting) (i : ℕ) → length m.found ≤ i → IsFilling Edge before start old new m i → Fills Edge before m.colors start old new m.found
 filling_ends Edge before start old new m i all f = record {
   size = f.size;
@@ -109,14 +109,14 @@ filling_ends Edge before start old new m i all f = record {
         step : Contains m.found x → Contains m.found b
         step (k, low, e) = f.done k (omega arith) b (subst (λ (y : ℕ). Edge y b) (sym (get_or_default m.found k 0 x low ∙ e)) edge) color
 
--- the items of the list at a key
+-- The values at a key are the items of the list at it.
 pub values-at : (lists : List (Vec ℕ Global)) (a : ℕ) (v : Vec ℕ Global) → a < length lists → v ≡ get_or lists a v → values_in lists a ≡ v.items
 values-at lists a v low e = ap items_in (slice_get_read lists (length lists) a v refl low e)
 
--- the nodes found are nodes of the graph
+-- The nodes found are nodes of the graph.
 pub found-within : {Edge : ℕ → ℕ → Type 0} {before after : List ℕ} {start old new : ℕ} {found : List ℕ} → Fills Edge before after start old new found → All (λ b. b < length before) found
 found-within {before = before} {found = found} f = All-from_get_or (λ (b : ℕ). b < length before) found 0 (λ i low. (f.were (get_or found i 0) (Contains-get_or found i 0 low)).0)
 
--- an edge of a table leads to a node of the graph
+-- An edge of a table leads to a node of the graph.
 pub joins-within : (lists : List (Vec ℕ Global)) (n : ℕ) → ((a : ℕ) → All (λ b. b < n) (values_in lists a)) → (a b : ℕ) → Joins lists a b → b < n
 joins-within lists n h a b (k, low, e) = subst (λ (x : ℕ). x < n) e (All-get_or (λ (x : ℕ). x < n) (values_in lists a) k b low (h a))

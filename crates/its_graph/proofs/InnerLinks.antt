@@ -1,4 +1,4 @@
--- A program has a cycle exactly if a listed component holds both ends of a link.
+-- A program has a cycle exactly if a listed component has both ends of a link.
 use Rattle.std.proofs.Common.{◌≡◌, ℕ, ◌+◌, ◌<◌, List, ◌∷◌, ◌++◌, take, drop, Contains, sym, ◌∙◌, ap}
 use Rattle.std.proofs.lemmas.List.{take-append-drop, drop_more}
 use Rattle.std.specs.List.{All}
@@ -12,7 +12,7 @@ use Rattle.its_graph.proofs.Routes.{path-map, mutual-turned, mutual-join, one_ed
 use Rattle.its_graph.proofs.Numbering.{edge-pair}
 
 module _ (Edge : ℕ → ℕ → Type 0) (n : ℕ) (cs : List (List ℕ)) (l : IsListing Edge n cs) where
-  -- a listed component comes next after some components
+  -- A listed component comes next after some components.
   next-of : (c : List ℕ) → Contains cs c → (before : List (List ℕ)) × IsNext Edge n before c
   next-of c (k, low, e) =
       let rest : drop k cs ≡ c ∷ drop (k + 1) cs = drop_more cs k c low
@@ -64,6 +64,6 @@ module _ (p : Program) (n : ℕ) (cs : List (List ℕ)) (l : IsListing (IsPair (
             path-map (IsPair (links_of p)) (HasEdge p any_rule) (λ a b. (edge-pair p a b).1) i.to i.from m.back;
       }
 
--- a program has a cycle exactly if a component of its links has a link inside
+-- A program has a cycle exactly if a component of its links has a link inside.
 pub cycles_are_inner_links : CyclesAreInnerLinks
 cycles_are_inner_links = λ p n cs within l. (λ c. inner-link p n cs l within c, λ i. inner-cycle p n cs l i)

@@ -7,7 +7,7 @@ use Rattle.std.specs.BTreeSet.{insert_key}
 use Rattle.std.proofs.lemmas.Map.Lookups.{exact_unsigned}
 use Rattle.its_graph.proofs.Elements.{Contains-cons_cases, Contains-first, Contains-later, none_in_empty, only_element}
 
--- a key that was inserted is there beside those that were
+-- The keys after an insertion are those before and the new one.
 pub insert_key-elements : (k : ℕ) (ks : List ℕ) (q : ℕ) → Contains (insert_key nat_cmp ks k) q ↔ (Contains ks q ⊎ (q ≡ k))
 insert_key-elements k [] q = (λ h. inr (only_element k q h), λ h. back h)
   where

@@ -1,4 +1,4 @@
--- What leaders need in a graph: it is in order, and has no circle.
+-- The needs of leaders in a graph: they can be put in order, since no leader needs itself, directly or not.
 use Rattle.std.proofs.Common.{◌≡◌, ◌↔◌, ℕ, ◌<◌, List, length, Vec, get_or, sym, ◌∙◌, subst}
 use Rattle.std.specs.declared.alloc.Global.{Global}
 use Rattle.model.specs.Paths.{Path, Here, Onward}
@@ -13,11 +13,11 @@ use Rattle.its_graph.proofs.PairLists.{Pair, AreWithin, joins-pairs, need-from, 
 use Rattle.its_graph.proofs.Routes.{join, edge_then}
 
 module _ (Edge : ℕ → ℕ → Type 0) (leaders : List ℕ) (l : AreLeaders Edge (length leaders) leaders) where
-  -- the leader of a node is the leader of its component
+  -- The leader of a node is a leader.
   pub leads-itself : (a : ℕ) → a < length leaders → IsLeader leaders (get_or leaders a 0)
   leads-itself a low = (l.within a low, sym (l.same a (get_or leaders a 0) low (l.within a low) (l.own a low)))
 
-  -- a path leads from a needed leader to the one that needs it
+  -- A path leads from a needed leader to the one that needs it.
   pub need-path : (c d : ℕ) → Needs Edge leaders c d → Path Edge d c
   need-path c d n =
       let from = l.own n.from n.from_within in
@@ -25,12 +25,12 @@ module _ (Edge : ℕ → ℕ → Type 0) (leaders : List ℕ) (l : AreLeaders Ed
       join Edge d n.from c (subst (λ (x : ℕ). Path Edge x n.from) n.need from.back)
       (edge_then Edge n.from n.to c n.edge (subst (λ (x : ℕ). Path Edge n.to x) n.leader to.onward))
 
-  -- both are leaders
+  -- Both leaders of a need are leaders.
   pub need-leads : (c d : ℕ) → Needs Edge leaders c d → IsLeader leaders c × IsLeader leaders d
   need-leads c d n =
       (subst (λ (x : ℕ). IsLeader leaders x) n.leader (leads-itself n.to n.to_within), subst (λ (x : ℕ). IsLeader leaders x) n.need (leads-itself n.from n.from_within))
 
-  -- the table of the leaders' needs can be put in order
+  -- The leaders can be put in order by the table of their needs.
   pub orderable : (needs : List (Vec ℕ Global)) → length needs ≡ length leaders → ((c d : ℕ) → Joins needs c d ↔ Needs Edge leaders c d) → AreOrderable leaders needs
   orderable needs size same = record {
     size = size;
@@ -48,7 +48,7 @@ module _ (Edge : ℕ → ℕ → Type 0) (leaders : List ℕ) (l : AreLeaders Ed
           along x y (Here e) = Here (sym e)
           along x y (Onward {b = z} p h) = join Edge y z x (need-path z y ((same z y).0 h)) (along x z p)
 
-  -- an order by the table is one by the edges
+  -- An order by the table is one by the edges.
   pub order-by-edges : (Need : ℕ → ℕ → Type 0) → ((c d : ℕ) → Need c d ↔ Needs Edge leaders c d) → (order : List ℕ) → AreLeadersInOrder Need leaders order → AreLeadersInOrder (Needs Edge leaders) leaders order
   order-by-edges Need same order o = record {
     each = λ k low. let at = o.each k low in record {
@@ -60,7 +60,7 @@ module _ (Edge : ℕ → ℕ → Type 0) (leaders : List ℕ) (l : AreLeaders Ed
     all = o.all;
   }
 
--- the table of the listed needs has the needs of the leaders
+-- The table of the listed needs has the needs of the leaders.
 pub needs-table : (leaders : List ℕ) (edges : List Pair) (needs : List (Vec ℕ Global)) → AreWithin (length leaders) edges
     → ((a : ℕ) → values_in needs a ≡ values_of (needs_among leaders edges) a) → (c d : ℕ) → Joins needs c d ↔ Needs (IsPair edges) leaders c d
 needs-table leaders edges needs within same c d =
@@ -72,7 +72,7 @@ needs-table leaders edges needs within same c d =
         (subst (λ (x : ℕ). IsPair (needs_among leaders edges) (get_or leaders n.to 0) x) n.need
         (need-listed leaders edges n.from n.to n.edge (λ e. n.other (sym n.need ∙ (e ∙ n.leader)))))
 
--- who needs is within
+-- The leaders that have needs are below the number of nodes.
 pub needs-keys : (leaders : List ℕ) (edges : List Pair) → AreLeaders (IsPair edges) (length leaders) leaders → AreWithin (length leaders) edges → All (λ (e : Pair). e.0 < length leaders) (needs_among leaders edges)
 needs-keys leaders edges l within =
     let zeros : Pair = (0, 0) in

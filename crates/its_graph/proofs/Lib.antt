@@ -1,4 +1,4 @@
--- laws of reachability, of sets of rules and of strongly connected components, and worked values
+-- Laws of reachability, of sets of rules and of strongly connected components, and worked values.
 pub mod Elements
 pub mod PaintedNodes
 pub mod Filling

@@ -5,26 +5,26 @@ use Rattle.its_graph.specs.Components.{IsListed}
 use Rattle.its_graph.specs.WorkedComponents.{zero_alone}
 use Rattle.its_graph.proofs.Elements.{Contains-cons_cases, only_element}
 
--- a number below three is 0, 1 or 2
+-- The number is 0, 1 or 2.
 abbrev pub Below : ℕ → Type 0
 Below a = (a ≡ 0) ⊎ ((a ≡ 1) ⊎ (a ≡ 2))
 
--- each number below three is 0, 1 or 2
+-- Each number below three is 0, 1 or 2.
 pub below-three : (a : ℕ) → a < 3 → Below a
 below-three zero low = inl refl
 below-three (suc zero) low = inr (inl refl)
 below-three (suc (suc zero)) low = inr (inr refl)
 below-three (suc (suc (suc a))) low = absurd (omega (arith, low))
 
--- 0 is in its own component
+-- The node 0 is in its own component.
 pub in-first : IsListed zero_alone 0
 in-first = record { component = 0 ∷ []; listed = (0, omega arith, refl); member = (0, omega arith, refl) }
 
--- an element of a list of one, and of two
+-- An element of a list of one is that one.
 pub in-one : (x b : ℕ) → Contains (x ∷ []) b → b ≡ x
 in-one x b h = only_element x b h
 
--- an element of a list of two is the one or the other
+-- An element of a list of two is the one or the other.
 pub in-two : (x y b : ℕ) → Contains (x ∷ y ∷ []) b → (b ≡ x) ⊎ (b ≡ y)
 in-two x y b h = go (Contains-cons_cases x (y ∷ []) b h)
   where
@@ -32,7 +32,7 @@ in-two x y b h = go (Contains-cons_cases x (y ∷ []) b h)
     go (inl e) = inl e
     go (inr k) = inr (only_element y b k)
 
--- a node of one component of one node
+-- A node in a list with one component of one node is that node.
 pub alone : (x a : ℕ) → IsListed ((x ∷ []) ∷ []) a → a ≡ x
 alone x a l = in-one x a (subst (λ (c : List ℕ). Contains c a) (only l.component l.listed) l.member)
   where
@@ -40,15 +40,15 @@ alone x a l = in-one x a (subst (λ (c : List ℕ). Contains c a) (only l.compon
     only c (zero, low, e) = sym e
     only c (suc k, low, e) = absurd (omega (arith, low))
 
--- a list with a first element isn't empty
+-- A list with a first element isn't empty.
 pub in-cons : {A : Type 0} (x : A) (xs : List A) → [] ≡ x ∷ xs → ⊥
 in-cons x xs e = cc
 
--- lists of one and of two ascend
+-- A list of one number ascends.
 pub increasing-one : (x : ℕ) → IsStrictlyIncreasing (x ∷ [])
 increasing-one x k low = absurd (omega (arith, low))
 
--- a list of a number and a greater one ascends
+-- A list of a number and a greater one ascends.
 pub increasing-two : (x y : ℕ) → x < y → IsStrictlyIncreasing (x ∷ y ∷ [])
 increasing-two x y l zero low = l
 increasing-two x y l (suc k) low = absurd (omega (arith, low))

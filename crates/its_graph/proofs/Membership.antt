@@ -1,4 +1,4 @@
--- The nodes of each component from the positions of the leaders, and the listing that they make.
+-- The nodes of each component are found from the positions of the leaders, and the components are the listing.
 use Rattle.std.proofs.Common.{◌≡◌, ◌≢◌, ◌⊎◌, inl, inr, ℕ, zero, suc, ◌+◌, ◌-◌, ◌<◌, ◌≤◌, List, [], ◌∷◌, ◌++◌, length}
 use Rattle.std.proofs.Common.{take, map, Contains, Vec, get_or, refl, sym, ◌∙◌, ap, subst, arith, zero-add, add-zero}
 use Rattle.std.proofs.Common.{length-append}
@@ -24,14 +24,14 @@ use Rattle.its_graph.proofs.LeaderNeeds.{leads-itself}
 use Rattle.its_graph.proofs.Routes.{edge_then, path-within, mutual-turned, mutual-join}
 pub use Rattle.model.proofs.Cases.{IfOk-both as ok-both}
 
--- a number before larger ones that ascend
+-- A number before larger ones that ascend gives an ascending list.
 pub increasing-cons : (x : ℕ) (xs : List ℕ) → All (λ y. x < y) xs → IsStrictlyIncreasing xs → IsStrictlyIncreasing (x ∷ xs)
 increasing-cons x xs h up zero low = All-get_or (λ (y : ℕ). x < y) xs 0 0 (omega (arith, low)) h
 increasing-cons x xs h up (suc k) low =
     let next : suc k + 1 ≡ suc (k + 1) = omega arith in
     subst (λ (j : ℕ). get_or xs k 0 < get_or (x ∷ xs) j 0) (sym next) (up k (omega (arith, low)))
 
--- the nodes of a position ascend, from the first number on
+-- The nodes of a position ascend.
 numbered-ascending : (positions : List ℕ) (i : ℕ) (ls : List ℕ) (k : ℕ) → IsStrictlyIncreasing (values_of (numbered positions i ls) k) × All (λ y. i ≤ y) (values_of (numbered positions i ls) k)
 numbered-ascending positions i [] k = (λ j low. absurd (omega (arith, low)), All-nil (λ (y : ℕ). i ≤ y))
 numbered-ascending positions i (l ∷ ls) k = go (decided (get_or positions l 0) k) (numbered-ascending positions (suc i) ls k)
@@ -48,7 +48,7 @@ numbered-ascending positions i (l ∷ ls) k = go (decided (get_or positions l 0)
         )
     go (inr (test, other)) (up, above) = rw test (up, All-weaker (λ (y : ℕ). suc i ≤ y) (λ (y : ℕ). i ≤ y) (λ y h. omega (arith, h)) (values_of (numbered positions (suc i) ls) k) above)
 
--- a node has the position of its leader
+-- Each listed node has the position of its leader.
 numbered-from : (positions : List ℕ) (i : ℕ) (ls : List ℕ) (k b : ℕ) → Contains (numbered positions i ls) (k, b) → (i ≤ b) × (b < i + length ls) × (get_or positions (get_or ls (b - i) 0) 0 ≡ k)
 numbered-from positions i [] k b (j, low, e) = absurd (omega arith)
 numbered-from positions i (l ∷ ls) k b h = go (pair-cases (get_or positions l 0, i) (numbered positions (suc i) ls) (k, b) h) (λ later. numbered-from positions (suc i) ls k b later)
@@ -65,7 +65,7 @@ numbered-from positions i (l ∷ ls) k b h = go (pair-cases (get_or positions l 
         let next : b - i ≡ suc (b - suc i) = omega (arith, rest.0) in
         (omega (arith, rest.0), omega (arith, rest.1), ap (λ (x : ℕ). get_or positions (get_or (l ∷ ls) x 0) 0) next ∙ rest.2)
 
--- each leader is listed with its number
+-- Each node is listed with the position of its leader.
 numbered-listed : (positions : List ℕ) (i : ℕ) (ls : List ℕ) (j : ℕ) → j < length ls → Contains (numbered positions i ls) (get_or positions (get_or ls j 0) 0, i + j)
 numbered-listed positions i [] j low = absurd (omega arith)
 numbered-listed positions i (l ∷ ls) zero low = (zero, omega arith, same_pair (get_or positions l 0, i) (get_or positions l 0) (i + 0) refl (omega arith))
@@ -76,7 +76,7 @@ numbered-listed positions i (l ∷ ls) (suc j) low =
     moved : (i j : ℕ) → suc i + j ≡ i + suc j
     moved i j = omega arith
 
--- the values at a position are the members of its leader
+-- The values at a position are the members of its leader.
 pub members-at : (positions leaders order : List ℕ) → ((k : ℕ) → k < length order → get_or positions (get_or order k 0) 0 ≡ k)
     → ((a : ℕ) → a < length leaders → Contains order (get_or leaders a 0)) → (k : ℕ) → k < length order → AreMembers leaders (get_or order k 0) (values_of (numbered positions 0 leaders) k)
 members-at positions leaders order placed all k low = record {
@@ -84,7 +84,7 @@ members-at positions leaders order placed all k low = record {
   ascending = (numbered-ascending positions 0 leaders k).0;
 }
   where
-    -- the position of a leader is its index in the order
+    -- A leader whose position is k is the one at k in the order.
     stands : (a : ℕ) → Contains order (get_or leaders a 0) → get_or positions (get_or leaders a 0) 0 ≡ k → get_or leaders a 0 ≡ get_or order k 0
     stands a (j, within, e) at =
         let same : get_or order j 0 ≡ get_or leaders a 0 = get_or_default order j 0 (get_or leaders a 0) within ∙ e in
@@ -102,14 +102,14 @@ members-at positions leaders order placed all k low = record {
         subst (λ (x : ℕ). Contains (numbered positions 0 leaders) (x, b)) (ap (λ (x : ℕ). get_or positions x 0) at ∙ placed k low)
         (subst (λ (x : ℕ). Contains (numbered positions 0 leaders) (get_or positions (get_or leaders b 0) 0, x)) (zero-add b) (numbered-listed positions 0 leaders b within))
 
--- keys are within
+-- The positions of leaders are below n if those of all are.
 pub numbered-keys : (positions : List ℕ) (n : ℕ) (leaders : List ℕ) (i : ℕ) → All (λ (l : ℕ). get_or positions l 0 < n) leaders → All (λ (e : Pair). e.0 < n) (numbered positions i leaders)
 numbered-keys positions n [] i h = All-nil (λ (e : Pair). e.0 < n)
 numbered-keys positions n (l ∷ ls) i h =
     let P : ℕ → Type 0 = λ (x : ℕ). get_or positions x 0 < n in
     All-cons (λ (e : Pair). e.0 < n) (get_or positions l 0, i) (numbered positions (suc i) ls) (All-head P l ls h) (numbered-keys positions n ls (suc i) (All-tail P l ls h))
 
--- the positions of leaders are within
+-- The positions of leaders are below the number of leaders.
 pub leaders-placed : (positions leaders order : List ℕ) → ((k : ℕ) → k < length order → get_or positions (get_or order k 0) 0 ≡ k)
     → ((a : ℕ) → a < length leaders → Contains order (get_or leaders a 0)) → All (λ (l : ℕ). get_or positions l 0 < length order) leaders
 leaders-placed positions leaders order placed all = All-from_get_or (λ (l : ℕ). get_or positions l 0 < length order) leaders 0 (λ a low. within a (all a low))
@@ -119,12 +119,12 @@ leaders-placed positions leaders order placed all = All-from_get_or (λ (l : ℕ
         let at : get_or positions (get_or leaders a 0) 0 ≡ j = ap (λ (x : ℕ). get_or positions x 0) (sym (get_or_default order j 0 (get_or leaders a 0) inside ∙ e)) ∙ placed j inside in
         omega (arith, at)
 
--- leaders in order are those of one list with two that differ
+-- Two leaders at different positions of the order differ.
 pub order-distinct : (Need : ℕ → ℕ → Type 0) (leaders order : List ℕ) → EachIsNext Need leaders order → (j k : ℕ) → j < k → k < length order → get_or order j 0 ≢ get_or order k 0
 order-distinct Need leaders order each j k l low e =
     (each k low).unlisted (j, omega (arith, length-take k order), get_or-take k order j (get_or order k 0) l ∙ (get_or_default order j (get_or order k 0) 0 (omega arith) ∙ e))
 
--- the components are those of the leaders in order
+-- The components are those of the leaders in order.
 pub record AreByLeaders (leaders order : List ℕ) (found : List (Vec ℕ Global)) : Type 0 where
   pub size : length found ≡ length order
   pub members : (k : ℕ) → k < length order → AreMembers leaders (get_or order k 0) (values_in found k)
@@ -135,7 +135,7 @@ module _ (edges : List Pair) (n : ℕ) (leaders order : List ℕ) (l : AreLeader
   abbrev Edge : ℕ → ℕ → Type 0
   Edge = IsPair edges
 
-  -- a path that leads to a node within comes from one
+  -- A path that leads to a node of the graph comes from one.
   from_within : (a b : ℕ) → b < length leaders → Path Edge a b → a < length leaders
   from_within a b low (Here e) = subst (λ (x : ℕ). x < length leaders) (sym e) low
   from_within a b low (Onward {b = x} p h) = from_within a x (within x b h).0 p
@@ -143,7 +143,7 @@ module _ (edges : List Pair) (n : ℕ) (leaders order : List ℕ) (l : AreLeader
   to_within : (a b : ℕ) → a < length leaders → Path Edge a b → b < length leaders
   to_within a b low p = path-within Edge (length leaders) (λ x y h. (within x y h).1) a b low p
 
-  -- a node is in one of the first components where its leader is among the first leaders
+  -- A node is in one of the first components exactly if its leader is among the first leaders.
   listed-leader : (k a : ℕ) → k ≤ length order → IsListed (take k cs) a → (a < length leaders) × Contains (take k order) (get_or leaders a 0)
   listed-leader k a low h = go h.listed
     where
@@ -167,11 +167,11 @@ module _ (edges : List Pair) (n : ℕ) (leaders order : List ℕ) (l : AreLeader
         member = ((members j in_order).each a).1 (inside, is);
       }
 
-  -- mutual nodes have one leader, and nodes of one leader are mutual
+  -- Nodes are mutual exactly if they have the same leader.
   one-leader : (a b : ℕ) → a < length leaders → b < length leaders → get_or leaders a 0 ≡ get_or leaders b 0 → IsMutual Edge a b
   one-leader a b la lb e = mutual-join Edge a (get_or leaders a 0) b (l.own a la) (subst (λ (x : ℕ). IsMutual Edge x b) (sym e) (mutual-turned Edge b (get_or leaders b 0) (l.own b lb)))
 
-  -- the k-th component comes next after those before it
+  -- The k-th component comes next after those before it.
   next-component : (k : ℕ) → k < length order → IsNext Edge n (take k cs) (get_or cs k [])
   next-component k low = record {
     least = c;
@@ -193,14 +193,14 @@ module _ (edges : List Pair) (n : ℕ) (leaders order : List ℕ) (l : AreLeader
       unlisted : ¬ (IsListed (take k cs) (get_or order k 0))
       unlisted h = at.unlisted (subst (λ (x : ℕ). Contains (take k order) x) at.leads.1 (listed-leader k c (omega arith) h).1)
 
-      -- the needs of the first leaders are among them
+      -- The needs of the first leaders are among them.
       closed_before : (x d : ℕ) → Contains (take k order) x → Needs Edge leaders x d → Contains (take k order) d
       closed_before x d (j, inside, e) need =
           let before : j < k = omega (arith, length-take k order) in
           let is : get_or order j 0 ≡ x = get_or_default order j 0 x (omega arith) ∙ (sym (get_or-take k order j x before) ∙ e) in
           Contains-take_take order j k d (omega arith) ((o.each j (omega arith)).needs d (subst (λ (y : ℕ). Needs Edge leaders y d) (sym is) need))
 
-      -- along a path backwards the leaders are this one or among the first
+      -- Along a path backwards, the leaders are this one or among the first.
       along : (b x : ℕ) → Path Edge b x → x < length leaders → (get_or leaders x 0 ≡ get_or order k 0) ⊎ Contains (take k order) (get_or leaders x 0)
           → (get_or leaders b 0 ≡ get_or order k 0) ⊎ Contains (take k order) (get_or leaders b 0)
       along b x (Here e) inside h = subst (λ (y : ℕ). (get_or leaders y 0 ≡ get_or order k 0) ⊎ Contains (take k order) (get_or leaders y 0)) (sym e) h
@@ -240,7 +240,7 @@ module _ (edges : List Pair) (n : ℕ) (leaders order : List ℕ) (l : AreLeader
               go (inl h) = subst (λ (x : ℕ). Contains (take k order) x) need.need (listed-leader k need.from (omega arith) h).1
               go (inr m) = absurd (need.other (sym need.need ∙ sym (l.same a need.from in_a need.from_within m)))
 
-  -- the listing
+  -- The components in the order of their leaders are the listing.
   pub listing : IsListing Edge n cs
   listing = record { each = λ before after c e. each before after c e; all = λ a low. all a low }
     where
@@ -259,13 +259,13 @@ module _ (edges : List Pair) (n : ℕ) (leaders order : List ℕ) (l : AreLeader
           subst (λ (xs : List (List ℕ)). IsListed xs a) whole
           (leader-listed (length order) a (omega arith) inside (subst (λ (xs : List ℕ). Contains xs (get_or leaders a 0)) (sym (take_all (length order) order (omega arith))) (o.all (get_or leaders a 0) (leads-itself Edge leaders l a inside))))
 
--- the items of the lists at a position
+-- The items of the lists at a position are the values there.
 pub lists-at : (found : List (Vec ℕ Global)) (k : ℕ) → k < length found → get_or (map items_of found) k [] ≡ values_in found k
 lists-at [] k low = absurd (omega arith)
 lists-at (v ∷ found) zero low = refl
 lists-at (v ∷ found) (suc k) low = lists-at found k (omega arith)
 
--- the listing that was found
+-- The lists that were found are the listing.
 pub found-listing : (edges : List Pair) (n : ℕ) (leaders order : List ℕ) (found : List (Vec ℕ Global)) → AreWithin n edges → AreLeaders (IsPair edges) n leaders
     → AreLeadersInOrder (Needs (IsPair edges) leaders) leaders order → length found ≡ length order
     → ((k : ℕ) → k < length order → AreMembers leaders (get_or order k 0) (values_in found k)) → IsListing (IsPair edges) n (map items_of found)
@@ -275,19 +275,19 @@ found-listing edges n leaders order found within l o size members =
     (length-map found items_of ∙ size)
     (λ k low. subst (λ (xs : List ℕ). AreMembers leaders (get_or order k 0) xs) (sym (lists-at found k (omega (arith, size)))) (members k low))
 
--- the leaders of an order are within
+-- The leaders of an order are nodes.
 pub order-within : (Need : ℕ → ℕ → Type 0) (leaders order : List ℕ) → AreLeadersInOrder Need leaders order → All (λ (x : ℕ). x < length leaders) order
 order-within Need leaders order o = All-from_get_or (λ (x : ℕ). x < length leaders) order 0 (λ k low. (o.each k low).leads.0)
 
--- there are at most as many leaders as nodes
+-- There are at most as many leaders as nodes.
 pub order-few : (Need : ℕ → ℕ → Type 0) (leaders order : List ℕ) → AreLeadersInOrder Need leaders order → length order ≤ length leaders
 order-few Need leaders order o = distinct-few order (length leaders) (order-distinct Need leaders order o.each) (order-within Need leaders order o)
 
--- the leaders are within
+-- The leaders are nodes.
 pub leaders-within : (Edge : ℕ → ℕ → Type 0) (n : ℕ) (leaders : List ℕ) → AreLeaders Edge n leaders → All (λ (x : ℕ). x < length leaders) leaders
 leaders-within Edge n leaders l = All-from_get_or (λ (x : ℕ). x < length leaders) leaders 0 (λ a low. omega (arith, l.within a (omega (arith, l.size)), l.size))
 
--- each node's leader is in the order
+-- Each node's leader is in the order.
 pub order-all : (Edge : ℕ → ℕ → Type 0) (n : ℕ) (leaders order : List ℕ) (Need : ℕ → ℕ → Type 0) → AreLeaders Edge n leaders → AreLeadersInOrder Need leaders order
     → (a : ℕ) → a < length leaders → Contains order (get_or leaders a 0)
 order-all Edge n leaders order Need l o a low = o.all (get_or leaders a 0) (leads-itself Edge leaders (subst (λ (k : ℕ). AreLeaders Edge k leaders) (sym l.size) l) a low)

@@ -19,11 +19,11 @@ use Rattle.its_graph.proofs.SharedLeaders.{HasLeader, has-leader, leader-shared,
 module _ (p : Program) (is_untimed : ℕ → Bool) (n : ℕ) (leaders : List ℕ)
     (l : AreLeaders (HasEdge p is_untimed) n leaders)
     (edges : (a b : ℕ) → HasEdge p is_untimed a b → b < n) where
-  -- a node in one component with a node of the graph is one of the graph
+  -- A node in one component with a node of the graph is one of the graph.
   mutual-below : (a b : ℕ) → a < n → IsMutual (HasEdge p is_untimed) a b → b < n
   mutual-below a b low m = path-within (HasEdge p is_untimed) n edges a b low m.onward
 
-  -- the leader of an end is the least symbol of its component
+  -- The leader of an end is the least symbol of its component.
   leader-least : (a m : ℕ) → a < n → IsMutual (HasEdge p is_untimed) a m
       → ((b : ℕ) → IsMutual (HasEdge p is_untimed) m b → m ≤ b) → get_or leaders a 0 ≡ m
   leader-least a m low at least =
@@ -33,7 +33,7 @@ module _ (p : Program) (is_untimed : ℕ → Bool) (n : ℕ) (leaders : List ℕ
       let down : m ≤ get_or leaders m 0 = least (get_or leaders m 0) (l.own m m_low) in
       omega (arith, same, up, down)
 
-  -- a rule in a part stays in its component
+  -- A rule in a part stays in the part's component.
   named-stays : (t m : ℕ) → HasLeader p leaders n t m → StaysIn p is_untimed t m
   named-stays t m s = record {
     source = s.source;
@@ -51,7 +51,7 @@ module _ (p : Program) (is_untimed : ℕ → Bool) (n : ℕ) (leaders : List ℕ
       own : (a : ℕ) → a < n → get_or leaders a 0 ≡ m → IsMutual (HasEdge p is_untimed) a m
       own a low e = subst (λ (x : ℕ). IsMutual (HasEdge p is_untimed) a x) e (l.own a low)
 
-  -- a rule that stays in a component is in the part of that component
+  -- A rule that stays in a component is in the part of that component.
   stays-named : (links : List Pair) → links ≡ map ends_of p.rules → All (λ (e : Pair). (e.0 < n) × (e.1 < n)) links
       → (t m : ℕ) → StaysIn p is_untimed t m → get_or (None ∷ map (shared_leader leaders) links) t None ≡ Some m
   stays-named links same within t m s = go t s.leaves s.leads
@@ -83,7 +83,7 @@ module _ (p : Program) (is_untimed : ℕ → Bool) (n : ℕ) (leaders : List ℕ
           inner None k = absurd (none_some s.source (sym (ap source_in k) ∙ leaves))
           inner (Some r) k = at_rule i r k (sym (ap source_in k) ∙ leaves) (sym (ap target_in k) ∙ leads)
 
-  -- so the names are those of the components
+  -- The names of the parts are those of the components.
   pub parts-named : (links : List Pair) → links ≡ map ends_of p.rules → All (λ (e : Pair). (e.0 < n) × (e.1 < n)) links
       → ArePartsOf p is_untimed (None ∷ map (shared_leader leaders) links)
   parts-named links same within t m = (

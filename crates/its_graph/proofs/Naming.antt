@@ -11,12 +11,12 @@ use Rattle.its_graph.specs.Components.{IsMutual}
 use Rattle.its_graph.proofs.Elements.{Contains-cons_cases, none_in_empty, Decided, decided}
 use Rattle.its_graph.proofs.Routes.{path-within, mutual-turned, mutual-join}
 
--- naming keeps the number of names
+-- Naming keeps the number of names.
 pub named-size : (name : ℕ) (bs names : List ℕ) → length (named name bs names) ≡ length names
 named-size name [] names = refl
 named-size name (b ∷ bs) names = named-size name bs (set names b name) ∙ length-set names b name
 
--- a node that has the name keeps it
+-- A node that has the name keeps it.
 named-kept : (name : ℕ) (bs names : List ℕ) (x : ℕ) → All (λ b. b < length names) bs → get_or names x 0 ≡ name → get_or (named name bs names) x 0 ≡ name
 named-kept name [] names x h e = e
 named-kept name (b ∷ bs) names x h e =
@@ -27,7 +27,7 @@ named-kept name (b ∷ bs) names x h e =
     go (inl (test, same)) = ap (λ (y : ℕ). get_or (set names b name) y 0) same ∙ get_or-set_same names b name 0 (All-head (λ (y : ℕ). y < length names) b bs h)
     go (inr (test, other)) = get_or-set_other names b x name 0 other ∙ e
 
--- each node of the list has the name
+-- Each node of the list has the name.
 pub named-each : (name : ℕ) (bs names : List ℕ) (x : ℕ) → All (λ b. b < length names) bs → Contains bs x → get_or (named name bs names) x 0 ≡ name
 named-each name [] names x h k = absurd (none_in_empty x k)
 named-each name (b ∷ bs) names x h k = go (Contains-cons_cases b bs x k) (λ rest later. named-each name bs (set names b name) x rest later)
@@ -39,7 +39,7 @@ named-each name (b ∷ bs) names x h k = go (Contains-cons_cases b bs x k) (λ r
     go (inl same) onward = named-kept name bs (set names b name) x rest (ap (λ (y : ℕ). get_or (set names b name) y 0) same ∙ get_or-set_same names b name 0 (All-head (λ (y : ℕ). y < length names) b bs h))
     go (inr later) onward = onward rest later
 
--- all others keep theirs
+-- A node outside of the list keeps its name.
 pub named-others : (name : ℕ) (bs names : List ℕ) (x : ℕ) → (get_or (named name bs names) x 0 ≡ get_or names x 0) ⊎ Contains bs x
 named-others name [] names x = inl refl
 named-others name (b ∷ bs) names x = go (decided x b) (named-others name bs (set names b name) x)
@@ -49,7 +49,7 @@ named-others name (b ∷ bs) names x = go (decided x b) (named-others name bs (s
     go (inl (test, same)) (inl e) = inr (zero, omega arith, sym same)
     go (inr (test, other)) (inl e) = inl (e ∙ get_or-set_other names b x name 0 other)
 
--- the first nodes of the names of the first i nodes
+-- The first nodes of the names of the first i nodes.
 pub record AreFirstSoFar (names : List ℕ) (first : List (Option ℕ)) (leaders : List ℕ) (i : ℕ) : Type 0 where
   pub size : length leaders ≡ i
   pub table : length first ≡ length names
@@ -57,7 +57,7 @@ pub record AreFirstSoFar (names : List ℕ) (first : List (Option ℕ)) (leaders
   pub none : (r : ℕ) → get_or first r None ≡ None → (a : ℕ) → a < i → get_or names a 0 ≢ r
   pub leads : (a : ℕ) → a < i → (get_or leaders a 0 ≤ a) × (get_or names (get_or leaders a 0) 0 ≡ get_or names a 0) × ((b : ℕ) → b < get_or leaders a 0 → get_or names b 0 ≢ get_or names a 0)
 
--- at first there is none
+-- At first there is none.
 pub first-begins : (names : List ℕ) (first : List (Option ℕ)) → length first ≡ length names → ((r : ℕ) → get_or first r None ≡ None) → AreFirstSoFar names first [] 0
 first-begins names first size h = record {
   size = refl;
@@ -70,12 +70,12 @@ first-begins names first size h = record {
     none_some : (r l : ℕ) → get_or first r None ≡ None → get_or first r None ≡ Some l → ⊥
     none_some r l e f = cc
 
--- one node more
+-- With one more node, the table and the leaders stay right.
 pub first-goes_on : (names : List ℕ) (first after : List (Option ℕ)) (leaders : List ℕ) (i name leader : ℕ) → i < length names → name < length first → name ≡ get_or names i 0
     → AreFirstSoFar names first leaders i → ◌≡◌ {A = List (Option ℕ) × ℕ} (after, leader) (first_with name i first) → AreFirstSoFar names after (leaders ++ leader ∷ []) (i + 1)
 first-goes_on names first after leaders i name leader low in_table at f e = go (get_or first name None) refl
   where
-    -- the table after and the leader are these, where the leader is right
+    -- The table and the leader after a node are these, if the leader is right.
     with_leader : (next : List (Option ℕ)) (l : ℕ) → ◌≡◌ {A = List (Option ℕ) × ℕ} (after, leader) (next, l)
         → length next ≡ length names
         → ((r k : ℕ) → get_or next r None ≡ Some k → (k < i + 1) × (get_or names k 0 ≡ r) × ((a : ℕ) → a < k → get_or names a 0 ≢ r))
@@ -136,7 +136,7 @@ first-goes_on names first after leaders i name leader low in_table at f e = go (
         none r r_none a within (inr (test, other)) (inl before) clash = f.none r (sym (get_or-set_other first name r (Some i) None other) ∙ r_none) a before clash
         none r r_none a within (inr (test, other)) (inr here) clash = other (sym clash ∙ (ap (λ (k : ℕ). get_or names k 0) (omega arith) ∙ sym at))
 
--- with all nodes they are the first ones
+-- After all nodes, the leaders are the first nodes of the names.
 pub first-ends : (names : List ℕ) (first : List (Option ℕ)) (leaders : List ℕ) (i : ℕ) → i ≡ length names → AreFirstSoFar names first leaders i → AreFirst names leaders
 first-ends names first leaders i all f = record {
   size = f.size ∙ all;
@@ -149,7 +149,7 @@ first-ends names first leaders i all f = record {
     least a b low same (inl below) = absurd ((f.leads a (omega arith)).2 b below same)
     least a b low same (inr fine) = fine
 
--- the first node of each name is the least node of the component
+-- The first node of each name is the least node of the component.
 pub leaders-are : (Edge : ℕ → ℕ → Type 0) (n : ℕ) (names leaders : List ℕ) → AreClassNames Edge n names → AreFirst names leaders → AreLeaders Edge n leaders
 leaders-are Edge n names leaders m f = record {
   size = f.size ∙ m.size;
@@ -174,7 +174,7 @@ leaders-are Edge n names leaders m f = record {
         let two = f.least b (get_or leaders a 0) in_b (f.within a in_a) (f.alike a in_a ∙ sym e) in
         omega (arith, one, two)
 
--- where the components of all nodes are known, their names are those of all nodes
+-- If the components of all nodes are known, their names are those of all nodes.
 pub names-are : (Edge : ℕ → ℕ → Type 0) (n : ℕ) (colors names roots : List ℕ) → length names ≡ n → ((a : ℕ) → a < n → Contains roots a) → TakesAll Edge colors names roots → AreClassNames Edge n names
 names-are Edge n colors names roots size all t = record {
   size = size;
@@ -182,7 +182,7 @@ names-are Edge n colors names roots size all t = record {
   own = λ a low. t.classes.named a (t.known a (all a low));
 }
 
--- a name is one of the nodes
+-- A name is one of the nodes.
 pub names-within : (Edge : ℕ → ℕ → Type 0) (n : ℕ) (names : List ℕ) → ((a b : ℕ) → Edge a b → b < n) → AreClassNames Edge n names → All (λ name. name < length names) names
 names-within Edge n names within m =
     subst (λ (k : ℕ). All (λ name. name < k) names) (sym m.size)

@@ -1,4 +1,4 @@
--- Numbers of components, and how they decide about cycles.
+-- Numbers of components, and how they decide whether there is a cycle.
 use Rattle.std.proofs.Common.{◌≡◌, ◌↔◌, ◌⊎◌, inl, inr, ℕ, zero, suc, ◌+◌, ◌<◌, ◌≤◌, List, [], ◌∷◌, ◌++◌, length, map}
 use Rattle.std.proofs.Common.{take, drop, Contains, Vec, get_or, Some, None, refl, sym, ◌∙◌, ap, subst, arith}
 use Rattle.std.specs.Prelude.{slice_get}
@@ -23,7 +23,7 @@ use Rattle.its_graph.proofs.PairLists.{Pair, same_pair, pair-later, pair-within}
 use Rattle.its_graph.proofs.Routes.{path-map, path-within, mutual-turned, mutual-join, one_edge}
 use Rattle.its_graph.proofs.Membership.{lists-at as component-at}
 
--- the nodes of one component more get its number
+-- The nodes of one more component get its number.
 pub number-more : (components : List (Vec ℕ Global)) (numbers : List ℕ) (i : ℕ) → AreApart (length numbers) components
     → ((k b : ℕ) → k < i → Contains (values_in components k) b → get_or numbers b 0 ≡ k)
     → (k b : ℕ) → k < i + 1 → Contains (values_in components k) b → get_or (named i (values_in components i) numbers) b 0 ≡ k
@@ -42,18 +42,18 @@ number-more components numbers i a h k b low among = go (cases_lt k i)
         kept (inl e) = e ∙ h k b before among
         kept (inr inside) = absurd (omega (arith, a.apart k i b among inside))
 
--- the nodes of a component are within
+-- The nodes of a component are below n.
 pub component-within : (n : ℕ) (components : List (Vec ℕ Global)) (i : ℕ) → AreApart n components → All (λ b. b < n) (values_in components i)
 component-within n components i a = All-from_get_or (λ (x : ℕ). x < n) (values_in components i) 0 (λ j inside. a.within i (get_or (values_in components i) j 0) (Contains-get_or (values_in components i) j 0 inside))
 
--- past the end no component has a node
+-- Only a component of the list has a node.
 pub values-past : (lists : List (Vec ℕ Global)) (k b : ℕ) → Contains (values_in lists k) b → k < length lists
 values-past [] k b (j, low, e) = absurd (omega arith)
 values-past (v ∷ lists) zero b h = omega arith
 values-past (v ∷ lists) (suc k) b h = omega (arith, values-past lists k b h)
 
 module _ (Edge : ℕ → ℕ → Type 0) (n : ℕ) (lists : List (Vec ℕ Global)) (edges_within : (a b : ℕ) → Edge a b → b < n) (l : IsListing Edge n (map items_of lists)) where
-  -- each component comes next after those before it
+  -- Each component comes next after those before it.
   next-at : (k : ℕ) → k < length lists → IsNext Edge n (take k (map items_of lists)) (values_in lists k)
   next-at k low =
       let cs = map items_of lists in
@@ -61,17 +61,17 @@ module _ (Edge : ℕ → ℕ → Type 0) (n : ℕ) (lists : List (Vec ℕ Global
       let whole : cs ≡ take k cs ++ get_or cs k [] ∷ drop (k + 1) cs = sym (take-append-drop k cs) ∙ ap (λ (xs : List (List ℕ)). take k cs ++ xs) (drop_more cs k [] in_cs) in
       subst (λ (c : List ℕ). IsNext Edge n (take k cs) c) (component-at lists k low) (l.each (take k cs) (drop (k + 1) cs) (get_or cs k []) whole)
 
-  -- nodes of a component are mutual
+  -- Two nodes of a component are mutual.
   pub same-component : (k a b : ℕ) → Contains (values_in lists k) a → Contains (values_in lists k) b → IsMutual Edge a b
   same-component k a b ha hb =
       let next = next-at k (values-past lists k a ha) in
       mutual-join Edge a next.least b (mutual-turned Edge next.least a ((next.members a).0 ha)) ((next.members b).0 hb)
 
-  -- a node that is mutual with one of a component is in it
+  -- A node that is mutual with one of a component is in it.
   pub mutual-inside : (k a b : ℕ) → Contains (values_in lists k) a → IsMutual Edge a b → Contains (values_in lists k) b
   mutual-inside k a b ha m = let next = next-at k (values-past lists k a ha) in (next.members b).1 (mutual-join Edge next.least a b ((next.members a).0 ha) m)
 
-  -- a component comes before no other that has one of its nodes
+  -- Of two components in the list, the later one has no node of the earlier one.
   none-before : (j k b : ℕ) → j < k → Contains (values_in lists j) b → Contains (values_in lists k) b → ⊥
   none-before j k b low hj hk =
       let next = next-at k (values-past lists k b hk) in
@@ -84,7 +84,7 @@ module _ (Edge : ℕ → ℕ → Type 0) (n : ℕ) (lists : List (Vec ℕ Global
         member = in_j;
       })
 
-  -- no two components have a node in common
+  -- No two components have a node in common.
   pub apart : AreApart n lists
   apart = record { within = within; apart = one }
     where
@@ -99,7 +99,7 @@ module _ (Edge : ℕ → ℕ → Type 0) (n : ℕ) (lists : List (Vec ℕ Global
           go (inr low) (inl high) = absurd (none-before k j b high hk hj)
           go (inr low) (inr high) = omega arith
 
-  -- each node is in a component of some number
+  -- Each node is in a component of some number.
   pub numbered-node : (a : ℕ) → a < n → (k : ℕ) × Contains (values_in lists k) a
   numbered-node a low = go (l.all a low)
     where
@@ -111,7 +111,7 @@ module _ (Edge : ℕ → ℕ → Type 0) (n : ℕ) (lists : List (Vec ℕ Global
               let in_lists : k < length lists = omega (arith, length-map lists items_of) in
               (k, subst (λ (c : List ℕ). Contains c a) (sym (sym (component-at lists k in_lists) ∙ (get_or_default (map items_of lists) k [] h.component inside ∙ e))) h.member)
 
-  -- nodes have the same number exactly if they are mutual
+  -- Nodes have the same number exactly if they are mutual.
   pub same-number : (numbers : List ℕ) → AreNumbers lists numbers → (a b : ℕ) → a < n → b < n → (get_or numbers a 0 ≡ get_or numbers b 0) ↔ IsMutual Edge a b
   same-number numbers h a b la lb = (λ e. back e, λ m. same m)
     where
@@ -129,7 +129,7 @@ module _ (Edge : ℕ → ℕ → Type 0) (n : ℕ) (lists : List (Vec ℕ Global
       same : IsMutual Edge a b → get_or numbers a 0 ≡ get_or numbers b 0
       same m = h ka.0 a ka.1 ∙ sym (h ka.0 b (mutual-inside ka.0 a b ka.1 m))
 
--- an edge of a program is one of its links
+-- An edge of a program is one of its links.
 pub edge-pair : (p : plain.Program) (a b : ℕ) → HasEdge p any_rule a b ↔ IsPair (map ends_of p.rules) a b
 edge-pair p a b = (λ h. onward h.number h.rule h.numbered h.source h.target, λ h. back h)
   where
@@ -168,20 +168,20 @@ edge-pair p a b = (λ h. onward h.number h.rule h.numbered h.source h.target, λ
                     none_some y = cc
                 go (suc t) x = record { number = suc (suc t); rule = h.rule; numbered = x; allowed = refl; source = h.source; target = h.target }
 
--- the links of the code's rules are those of the rules as plain data
+-- The links of the code's rules are those of the rules as plain data.
 pub links-ends : (rules : List Rule) → map link_of rules ≡ map ends_of (map rule_of rules)
 links-ends [] = refl
 links-ends (r ∷ rules) = ap (λ (xs : List Pair). link_of r ∷ xs) (links-ends rules)
 
--- the edges of a program of the code are its links
+-- The edges of a program of the code are its links.
 pub edge-link : (p : Program) (a b : ℕ) → HasEdge (program_of p) any_rule a b ↔ IsPair (map link_of p.rules.items) a b
 edge-link p a b = subst (λ (es : List Pair). HasEdge (program_of p) any_rule a b ↔ IsPair es a b) (sym (links-ends p.rules.items)) (edge-pair (program_of p) a b)
 
--- the links of rules below a number are within
+-- The ends of links of rules whose symbols are below n are below n.
 pub links-within : (n : ℕ) (rules : List Rule) → LeadBelow n rules → All (λ (e : Pair). (e.0 < n) × (e.1 < n)) (map link_of rules)
 links-within n rules h = All-map (λ (e : Pair). (e.0 < n) × (e.1 < n)) link_of rules h
 
--- a program has a cycle exactly if some link leads to a node of the same component
+-- A program has a cycle exactly if some link leads to a node of the same component.
 pub cycle-inside : (p : Program) (n : ℕ) (lists : List (Vec ℕ Global)) (numbers : List ℕ) → LeadBelow n p.rules.items
     → IsListing (IsPair (map link_of p.rules.items)) n (map items_of lists) → AreNumbers lists numbers
     → HasInside numbers (map link_of p.rules.items) ↔ HasCycle (program_of p)

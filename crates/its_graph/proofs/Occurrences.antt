@@ -10,7 +10,7 @@ use Rattle.model.specs.Paths.{HasEdge, HasPath, any_rule, Here, Onward, HasCycle
 use Rattle.run_counting.specs.Paying.{allowance, IsPaidFor}
 use Rattle.run_counting.proofs.Counting.{paid}
 
--- a step follows an edge of the graph
+-- A step follows an edge of the graph.
 pub step_edge : (p : Program) (b : Config) (s : Step) (c : Config) → IsStep p b s c → HasEdge p any_rule b.at c.at
 step_edge p b s c h = record {
   number = s.rule;
@@ -21,22 +21,22 @@ step_edge p b s c h = record {
   target = sym h.leads.target;
 }
 
--- the levels for rule t: 0 where a path leads from the rule's target to the current symbol, and any number elsewhere
+-- The levels for rule t: 0 if a path leads from the rule's target to the current symbol, and any number if not.
 abbrev HasLevel : Program → ℕ → Config → ℕ → Type 0
 HasLevel p t c zero = (r : Rule) × (rule_at p t ≡ Some r) × HasPath p any_rule r.target c.at
 HasLevel p t c (suc l) = ⊤
 
--- each entry weighs 1
+-- Each entry weighs 1.
 abbrev one_each : ℕ → ℕ
 one_each e = 1
 
--- from level k a step leads to a level that is lower by 1 if it is by rule t
+-- From level k a step leads to a level that is lower by 1 if the step is by rule t.
 abbrev LeadsOn : Program → ℕ → Step → Config → ℕ → Type 0
 LeadsOn p t s c k = (l : ℕ) × HasLevel p t c l
     × (l + 1 * one_if_same s.rule t ≤ k + 1 * allowance one_each (0 ∷ []) s.rule)
 
--- without a cycle each step falls as required: rule t leads to level 0 and never occurs at that level; any other rule
--- keeps the level
+-- Without a cycle each step keeps or lowers the level as required: rule t leads to level 0 and never occurs at that
+-- level; any other rule keeps the level.
 falls : (p : Program) → ¬ (HasCycle p) → (t : ℕ) (b : Config) (s : Step) (c : Config) → IsStep p b s c → (k : ℕ)
     → HasLevel p t b k → LeadsOn p t s c k
 falls p acyclic t b s c step k level = go (eqb_tells s.rule t) k level
@@ -68,7 +68,7 @@ falls p acyclic t b s c step k level = go (eqb_tells s.rule t) k level
         (0, (r, numbered, onward), omega (arith, one_if_same-other s.rule t other))
     go (inr (test, other)) (suc k) level = (suc k, tt, omega (arith, one_if_same-other s.rule t other))
 
--- so these levels pay for rule t, where only the virtual entry brings in 1
+-- These levels pay for rule t; only the virtual entry adds 1.
 pays : (p : Program) → ¬ (HasCycle p) → (start : List ℤ) (t : ℕ) → t ≢ 0
     → IsPaidFor (λ steps c. IsRun p start steps c) (HasLevel p t) 1 t one_each (0 ∷ [])
 pays p acyclic start t rule = record {
@@ -77,7 +77,7 @@ pays p acyclic start t rule = record {
   step = λ s earlier c run. (run.0, run.1, falls p acyclic t run.0 s c run.2);
 }
 
--- without a cycle each rule, and the virtual entry, occurs at most once
+-- Without a cycle each rule, and the virtual entry, occurs at most once.
 pub at_most_once : (p : Program) → ¬ (HasCycle p) → (start : List ℤ) (steps : List Step) (c : Config) (t : ℕ)
     → IsRun p start steps c → count t steps ≤ 1
 at_most_once p acyclic start steps c zero run = omega (arith, entry_once p start steps c run)

@@ -5,11 +5,11 @@ use Rattle.std.proofs.lemmas.Bool.{cases_lt}
 use Rattle.std.proofs.lemmas.List.Elements.{Contains-append_left, Contains-push, Contains-push_cases}
 use Rattle.its_graph.proofs.Elements.{Decided, decided}
 
--- those among the first i nodes
+-- The leaders among the first i nodes.
 abbrev pub AreOwn : List ℕ → List ℕ → ℕ → Type 0
 AreOwn leaders own i = (c : ℕ) → Contains own c ↔ ((c < i) × (get_or leaders c 0 ≡ c))
 
--- one node more
+-- With one more node, the list of leaders stays right.
 pub own-more : (leaders own after : List ℕ) (i : ℕ) → AreOwn leaders own i → after ≡ (if get_or leaders i 0 == i then own ++ i ∷ [] else own) → AreOwn leaders after (i + 1)
 own-more leaders own after i f e c = go (decided (get_or leaders i 0) i)
   where

@@ -12,19 +12,19 @@ use Rattle.its_graph.specs.Floods.{Painting, painted, all_painted}
 use Rattle.its_graph.proofs.Elements.{Contains-cons_cases, Contains-first, Contains-later, only_element, none_in_empty}
 use Rattle.its_graph.proofs.Elements.{Decided, decided}
 
--- the colour of a node
+-- The colour of a node.
 abbrev pub color_of : Painting → ℕ → ℕ
 color_of m x = get_or m.colors x 0
 
--- how many nodes have a colour
+-- The number of nodes with a colour.
 abbrev pub left : ℕ → List ℕ → ℕ
 left old colors = count_by (λ c. c == old) colors
 
--- 1 for a node of the colour
+-- 1 for a node of the colour, else 0.
 abbrev one_of : ℕ → ℕ → ℕ
 one_of old c = cond (c == old) 1 0
 
--- a node that gets another colour is one less of the old one
+-- If a node of the old colour gets another one, one less has the old colour.
 fewer_left : (old new : ℕ) (colors : List ℕ) (b : ℕ) → b < length colors → get_or colors b 0 ≡ old → new ≢ old → left old (set colors b new) + 1 ≡ left old colors
 fewer_left old new colors b low h ne =
     let moved = sum_by-set (one_of old) colors b new 0 low in
@@ -40,7 +40,7 @@ fewer_left old new colors b low h ne =
     is_none (inl (test, same)) = absurd (ne same)
     is_none (inr (test, other)) = rw test refl
 
--- the effect of painting nodes
+-- The effect of painting nodes.
 pub record Paints (old new : ℕ) (bs : List ℕ) (m n : Painting) : Type 0 where
   pub size : length n.colors ≡ length m.colors
   pub front : (k : ℕ) → k < length m.found → get_or n.found k 0 ≡ get_or m.found k 0
@@ -53,11 +53,11 @@ pub record Paints (old new : ℕ) (bs : List ℕ) (m n : Painting) : Type 0 wher
   pub newly : (x : ℕ) → Contains n.found x → Contains m.found x ⊎ (color_of n x ≡ new)
   pub work : left old n.colors + length n.found ≡ left old m.colors + length m.found
 
--- painting nothing changes nothing
+-- Painting nothing changes nothing.
 paints_none : (old new : ℕ) (m : Painting) → Paints old new [] m m
 paints_none old new m = record { size = refl; front = λ k l. refl; longer = omega arith; kept = λ x h. h; others = λ x. inl refl; each = λ b h e. absurd (none_in_empty b h); only = λ x h. inl h; colored = λ x h. h; newly = λ x h. inl h; work = refl }
 
--- a node of another colour stays
+-- A node of another colour keeps it.
 painted-other : (old new b : ℕ) (m : Painting) → color_of m b ≢ old → painted old new b m ≡ m
 painted-other old new b m ne = go (decided (color_of m b) old)
   where
@@ -65,7 +65,7 @@ painted-other old new b m ne = go (decided (color_of m b) old)
     go (inl (test, same)) = absurd (ne same)
     go (inr (test, other)) = rw test refl
 
--- a node of the old colour is painted
+-- A node of the old colour is painted.
 painted-old : (old new b : ℕ) (m : Painting) → color_of m b ≡ old → painted old new b m ≡ record { colors = set m.colors b new; found = m.found ++ b ∷ [] }
 painted-old old new b m e = go (decided (color_of m b) old)
   where
@@ -73,7 +73,7 @@ painted-old old new b m e = go (decided (color_of m b) old)
     go (inl (test, same)) = rw test refl
     go (inr (test, other)) = absurd (other e)
 
--- painting a node of the old colour
+-- The effect of painting a node of the old colour.
 paints_old : (old new b : ℕ) (m : Painting) → new ≢ old → b < length m.colors → color_of m b ≡ old → Paints old new (b ∷ []) m (record { colors = set m.colors b new; found = m.found ++ b ∷ [] })
 paints_old old new b m ne low h = record {
   size = length-set m.colors b new;
@@ -107,7 +107,7 @@ paints_old old new b m ne low h = record {
     newly x (inl hx) = inl hx
     newly x (inr hx) = inr (ap (λ (y : ℕ). get_or (set m.colors b new) y 0) (only_element b x hx) ∙ get_or-set_same m.colors b new 0 low)
 
--- painting one node
+-- The effect of painting one node.
 pub paints_one : (old new b : ℕ) (m : Painting) → new ≢ old → b < length m.colors → Paints old new (b ∷ []) m (painted old new b m)
 paints_one old new b m ne low = go (decided (color_of m b) old)
   where
@@ -115,7 +115,7 @@ paints_one old new b m ne low = go (decided (color_of m b) old)
     go (inl (test, h)) = subst (λ (n : Painting). Paints old new (b ∷ []) m n) (sym (painted-old old new b m h)) (paints_old old new b m ne low h)
     go (inr (test, h)) = subst (λ (n : Painting). Paints old new (b ∷ []) m n) (sym (painted-other old new b m h)) (record { size = refl; front = λ k l. refl; longer = omega arith; kept = λ x hx. hx; others = λ x. inl refl; each = λ x hx e. absurd (h (ap (color_of m) (sym (only_element b x hx)) ∙ e)); only = λ x hx. inl hx; colored = λ x hx. hx; newly = λ x hx. inl hx; work = refl })
 
--- painting one node and then others
+-- Painting one node and then others paints all of them.
 paints_then : (old new b : ℕ) (bs : List ℕ) (m n o : Painting) → new ≢ old → Paints old new (b ∷ []) m n → Paints old new bs n o → Paints old new (b ∷ bs) m o
 paints_then old new b bs m n o ne p q = record {
   size = q.size ∙ p.size;
@@ -162,7 +162,7 @@ paints_then old new b bs m n o ne p q = record {
         first (inl hx) = inl hx
         first (inr e) = inr (q.colored x e)
 
--- painting all nodes of a list
+-- The effect of painting all nodes of a list.
 pub paints_all : (old new : ℕ) (bs : List ℕ) (m : Painting) → new ≢ old → All (λ b. b < length m.colors) bs → Paints old new bs m (all_painted old new bs m)
 paints_all old new [] m ne h = paints_none old new m
 paints_all old new (b ∷ bs) m ne h =

@@ -10,24 +10,24 @@ use Rattle.its_graph.specs.Orders.{needs_among, Needs}
 use Rattle.its_graph.specs.Numbers.{HasInside}
 use Rattle.its_graph.proofs.Elements.{Contains-cons_cases, Contains-first, Contains-later, Decided, decided}
 
--- a pair
+-- A pair of nodes.
 abbrev pub Pair : Type 0
 Pair = ℕ × ℕ
 
--- pairs with equal parts are equal
+-- Pairs with equal parts are equal.
 pub same_pair : (e : Pair) (a b : ℕ) → e.0 ≡ a → e.1 ≡ b → e ≡ (a, b)
 same_pair e a b p q = ap (λ (x : ℕ). let r : Pair = (x, e.1) in r) p ∙ ap (λ (x : ℕ). let r : Pair = (a, x) in r) q
 
--- a pair of a list is its first or one of the others
+-- A pair of a list is its first or one of the others.
 pub pair-cases : (e : Pair) (es : List Pair) (x : Pair) → Contains (e ∷ es) x → (e ≡ x) ⊎ Contains es x
 pair-cases e es x (zero, low, same) = inl same
 pair-cases e es x (suc k, low, same) = inr (k, omega arith, same)
 
--- one of the others is one of the list
+-- A pair of the others is one of the list.
 pub pair-later : (e : Pair) (es : List Pair) (x : Pair) → Contains es x → Contains (e ∷ es) x
 pair-later e es x (k, low, same) = (suc k, omega arith, same)
 
--- the second part of a pair is a value of the first
+-- The second part of a pair is a value of the first.
 pub value-listed : (pairs : List Pair) (a b : ℕ) → Contains pairs (a, b) → Contains (values_of pairs a) b
 value-listed [] a b (k, low, e) = absurd (omega arith)
 value-listed (e ∷ pairs) a b h = go (decided e.0 a) (pair-cases e pairs (a, b) h) (λ later. value-listed pairs a b later)
@@ -38,7 +38,7 @@ value-listed (e ∷ pairs) a b h = go (decided e.0 a) (pair-cases e pairs (a, b)
     go (inr (test, other)) (inl is) ih = absurd (other (ap (λ (p : Pair). p.0) is))
     go (inr (test, other)) (inr later) ih = rw test (ih later)
 
--- each value in the table comes from a pair
+-- Each value in the table comes from a pair.
 pub value-from : (pairs : List Pair) (a b : ℕ) → Contains (values_of pairs a) b → Contains pairs (a, b)
 value-from [] a b (k, low, e) = absurd (omega arith)
 value-from (e ∷ pairs) a b h = go (decided e.0 a) (λ later. value-from pairs a b later)
@@ -51,12 +51,12 @@ value-from (e ∷ pairs) a b h = go (decided e.0 a) (λ later. value-from pairs 
         first (inl is) = (zero, omega arith, same_pair e a b same (sym is))
         first (inr later) = pair-later e pairs (a, b) (ih later)
 
--- a table of the values of pairs has the edges of the pairs
+-- A table of the values of pairs has the edges of the pairs.
 pub joins-pairs : (lists : List (Vec ℕ Global)) (pairs : List Pair) → ((a : ℕ) → values_in lists a ≡ values_of pairs a) → (a b : ℕ) → Joins lists a b ↔ IsPair pairs a b
 joins-pairs lists pairs same a b =
     (λ h. value-from pairs a b (subst (λ (xs : List ℕ). Contains xs b) (same a) h), λ h. subst (λ (xs : List ℕ). Contains xs b) (sym (same a)) (value-listed pairs a b h))
 
--- pairs that are turned round
+-- A pair of the list gives the reversed pair in the mapped list.
 pub swap-listed : (pairs : List Pair) (a b : ℕ) → Contains pairs (a, b) → Contains (map swap pairs) (b, a)
 swap-listed [] a b (k, low, e) = absurd (omega arith)
 swap-listed (e ∷ pairs) a b h = go (pair-cases e pairs (a, b) h) (λ later. swap-listed pairs a b later)
@@ -65,7 +65,7 @@ swap-listed (e ∷ pairs) a b h = go (pair-cases e pairs (a, b) h) (λ later. sw
     go (inl is) ih = (zero, omega arith, ap swap is)
     go (inr later) ih = pair-later (swap e) (map swap pairs) (b, a) (ih later)
 
--- a reversed pair in the mapped list comes from a pair of the list
+-- A reversed pair in the mapped list comes from a pair of the list.
 pub swap-from : (pairs : List Pair) (a b : ℕ) → Contains (map swap pairs) (b, a) → Contains pairs (a, b)
 swap-from [] a b (k, low, e) = absurd (omega arith)
 swap-from (e ∷ pairs) a b h = go (pair-cases (swap e) (map swap pairs) (b, a) h) (λ later. swap-from pairs a b later)
@@ -74,15 +74,15 @@ swap-from (e ∷ pairs) a b h = go (pair-cases (swap e) (map swap pairs) (b, a) 
     go (inl is) ih = (zero, omega arith, ap swap is)
     go (inr later) ih = pair-later e pairs (a, b) (ih later)
 
--- edges within
+-- The ends of all edges are below n.
 abbrev pub AreWithin : ℕ → List Pair → Type 0
 AreWithin n edges = All (λ (e : Pair). (e.0 < n) × (e.1 < n)) edges
 
--- an edge of a list of edges within is within
+-- The ends of an edge of such a list are below n.
 pub pair-within : (n : ℕ) (edges : List Pair) (a b : ℕ) → AreWithin n edges → IsPair edges a b → (a < n) × (b < n)
 pair-within n edges a b h (k, low, e) = subst (λ (x : Pair). (x.0 < n) × (x.1 < n)) e (h k (a, b) low)
 
--- a need comes from an edge
+-- A need comes from an edge.
 pub need-from : (leaders : List ℕ) (edges : List Pair) (c d : ℕ) → AreWithin (length leaders) edges → Contains (needs_among leaders edges) (c, d) → Needs (IsPair edges) leaders c d
 need-from leaders [] c d within (k, low, e) = absurd (omega arith)
 need-from leaders (e ∷ edges) c d within h = go (decided (get_or leaders e.0 0) (get_or leaders e.1 0)) (λ later. need-from leaders edges c d (All-tail (λ (x : Pair). (x.0 < length leaders) × (x.1 < length leaders)) e edges within) later)
@@ -110,7 +110,7 @@ need-from leaders (e ∷ edges) c d within h = go (decided (get_or leaders e.0 0
           other = λ k. other (ap (λ (p : Pair). p.1) is ∙ (k ∙ sym (ap (λ (p : Pair). p.0) is)));
         }
 
--- the need of an edge is listed
+-- The need of an edge is listed.
 pub need-listed : (leaders : List ℕ) (edges : List Pair) (a b : ℕ) → IsPair edges a b → get_or leaders a 0 ≢ get_or leaders b 0 → Contains (needs_among leaders edges) (get_or leaders b 0, get_or leaders a 0)
 need-listed leaders [] a b (k, low, e) ne = absurd (omega arith)
 need-listed leaders (e ∷ edges) a b h ne = go (decided (get_or leaders e.0 0) (get_or leaders e.1 0)) (pair-cases e edges (a, b) h) (λ later. need-listed leaders edges a b later ne)
@@ -121,11 +121,11 @@ need-listed leaders (e ∷ edges) a b h ne = go (decided (get_or leaders e.0 0) 
     go (inr (test, other)) (inl is) ih = rw test (zero, omega arith, same_pair (get_or leaders e.1 0, get_or leaders e.0 0) (get_or leaders b 0) (get_or leaders a 0) (ap (λ (p : Pair). get_or leaders p.1 0) is) (ap (λ (p : Pair). get_or leaders p.0 0) is))
     go (inr (test, other)) (inr later) ih = rw test (pair-later (get_or leaders e.1 0, get_or leaders e.0 0) (needs_among leaders edges) (get_or leaders b 0, get_or leaders a 0) (ih later))
 
--- the pair that represents none
+-- The pair that represents none.
 abbrev pub no_pair : Pair
 no_pair = (0, 0)
 
--- without a link inside at any position there is none
+-- If no position has a link with two ends of one number, there is no such link.
 pub none-inside : (numbers : List ℕ) (links : List Pair) → ((k : ℕ) → k < length links → get_or numbers (get_or links k no_pair).0 0 ≢ get_or numbers (get_or links k no_pair).1 0) → ¬ (HasInside numbers links)
 none-inside numbers links h inside = go inside.link
   where

@@ -10,7 +10,7 @@ use Rattle.its_graph.specs.Floods.{EdgeTo, Fills}
 use Rattle.its_graph.proofs.Elements.{Decided, decided}
 use Rattle.its_graph.proofs.Routes.{path-map, turned}
 
--- the flags of known nodes
+-- The flag of a node is true exactly if the node is known.
 known-flag : (colors : List ℕ) (b : ℕ) → (get_or (map (λ color. color == 2) colors) b false ≡ true) ↔ (get_or colors b 0 ≡ 2)
 known-flag [] b = (λ h. absurd (different h), λ h. absurd (omega (arith, h)))
   where
@@ -26,7 +26,7 @@ known-flag (c ∷ colors) zero = go (decided c 2)
         different x = cc
 known-flag (c ∷ colors) (suc b) = known-flag colors b
 
--- a flood through all nodes finds exactly the reached nodes
+-- A flood through all nodes finds exactly the reached nodes.
 pub flood-reaches : (next : List (Vec ℕ Global)) (n start : ℕ) (after found : List ℕ) → Fills (Joins next) (replicate n 0) after start 0 2 found
     → (b : ℕ) → (get_or (map (λ color. color == 2) after) b false ≡ true) ↔ Path (Joins next) start b
 flood-reaches next n start after found f b = (
@@ -51,14 +51,14 @@ flood-reaches next n start after found f b = (
         go (inr h) = h
         go (inl same) = absurd (omega (arith, e, same, no_color b))
 
--- equal edges give equal paths
+-- Equal edges give equal paths.
 pub same-paths : (E F : ℕ → ℕ → Type 0) → ((a b : ℕ) → E a b ↔ F a b) → (a b : ℕ) → Path E a b ↔ Path F a b
 same-paths E F same a b = (λ p. path-map E F (λ x y. (same x y).0) a b p, λ p. path-map F E (λ x y. (same x y).1) a b p)
 
--- one equivalence after the other
+-- Two equivalences give one.
 pub both-ways : {A B C : Type 0} → A ↔ B → B ↔ C → A ↔ C
 both-ways f g = (λ a. g.0 (f.0 a), λ c. f.1 (g.1 c))
 
--- reversed edges give reversed paths
+-- Reversed edges give reversed paths.
 pub turned-paths : (E F : ℕ → ℕ → Type 0) → ((a b : ℕ) → E a b ↔ F b a) → (a b : ℕ) → Path E a b ↔ Path F b a
 turned-paths E F same a b = (λ p. turned E F (λ x y. (same x y).0) a b p, λ p. turned F E (λ x y. (same y x).1) b a p)

@@ -8,13 +8,13 @@ use Rattle.its_graph.proofs.Routes.{join, mutual-turned, mutual-join}
 use Rattle.its_graph.proofs.SharedLeaders.{number_in}
 
 module _ (p : Program) (is_untimed : ℕ → Bool) where
-  -- two symbols in one component with a third are in one component
+  -- Two symbols in one component with a third are in one component.
   one-component : (a b m : ℕ) → IsMutual (HasEdge p is_untimed) a m → IsMutual (HasEdge p is_untimed) b m
       → HasPath p is_untimed a b
   one-component a b m k l =
       (mutual-join (HasEdge p is_untimed) a m b k (mutual-turned (HasEdge p is_untimed) b m l)).onward
 
-  -- a rule in the set of an untimed rule is in the set of any other one of its component
+  -- A rule in the set of an untimed rule is in the set of any other one of its component.
   same-set : (t u m : ℕ) → is_untimed t ≡ true → StaysIn p is_untimed t m → StaysIn p is_untimed u m
       → (e : ℕ) → IsInSet p is_untimed t e → IsInSet p is_untimed u e
   same-set t u m open_t s r e (inl same) =
@@ -39,6 +39,6 @@ module _ (p : Program) (is_untimed : ℕ → Bool) where
             (one-component s.source r.source m s.source_there r.source_there);
       })
 
-  -- untimed rules of one part have the same set
+  -- Untimed rules of one part have the same set.
   pub same-sets : (parts : List (Option ℕ)) → ArePartsOf p is_untimed parts → HaveSameSets p is_untimed parts
   same-sets parts h t u m open_t open_u et eu = same-set t u m open_t ((h t m).0 et) ((h u m).0 eu)

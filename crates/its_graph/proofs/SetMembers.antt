@@ -1,4 +1,4 @@
--- The set of an untimed rule, counted rule by rule.
+-- The set of an untimed rule, listed rule by rule.
 use Rattle.std.proofs.Common.{◌≡◌, ◌↔◌, ◌⊎◌, inl, inr, ℕ, zero, suc, ◌+◌, ◌<◌, ◌≤◌, List, [], ◌∷◌, length, map}
 use Rattle.std.proofs.Common.{Contains, Option, Some, None, Bool, true, false, get_or, refl, sym, ◌∙◌, ap, subst, arith}
 use Rattle.std.specs.Prelude.{slice_get}
@@ -16,14 +16,14 @@ use Rattle.its_graph.proofs.Elements.{Contains-cons_cases, Contains-first, Conta
 use Rattle.its_graph.proofs.PairLists.{Pair}
 use Rattle.its_graph.proofs.Membership.{increasing-cons}
 
--- a set of rules that is counted
+-- A number is that of a member among the rules of these links.
 pub record MemberBy (untimed seen : List Bool) (rule t : ℕ) (links : List Pair) (e : ℕ) : Type 0 where
   pub position : ℕ
   pub within : position < length links
   pub number : e ≡ t + position
   pub member : is_member untimed seen rule e (get_or links position (0, 0)) ≡ true
 
--- each listed number is that of a member
+-- Each listed number is that of a member.
 pub members-from : (untimed seen : List Bool) (rule t : ℕ) (links : List Pair) (e : ℕ) → Contains (members_from untimed seen rule t links) e → MemberBy untimed seen rule t links e
 members-from untimed seen rule t [] e h = absurd (none_in_empty e h)
 members-from untimed seen rule t (l ∷ links) e h = go (is_member untimed seen rule t l) refl (λ later. more (members-from untimed seen rule (suc t) links e later))
@@ -39,7 +39,7 @@ members-from untimed seen rule t (l ∷ links) e h = go (is_member untimed seen 
         first (inr later) = ih later
         first (inl same) = record { position = 0; within = omega arith; number = omega (arith, same); member = subst (λ (x : ℕ). is_member untimed seen rule x l ≡ true) (sym same) is }
 
--- a member is counted
+-- Each member is listed.
 pub members-listed : (untimed seen : List Bool) (rule t : ℕ) (links : List Pair) (k : ℕ) → k < length links → is_member untimed seen rule (t + k) (get_or links k (0, 0)) ≡ true → Contains (members_from untimed seen rule t links) (t + k)
 members-listed untimed seen rule t [] k low is = absurd (omega arith)
 members-listed untimed seen rule t (l ∷ links) zero low is =
@@ -55,7 +55,7 @@ members-listed untimed seen rule t (l ∷ links) (suc k) low is =
     go true e h = rw e (Contains-later t (members_from untimed seen rule (suc t) links) (suc t + k) h)
     go false e h = rw e h
 
--- the list of members ascends
+-- The list of members ascends.
 pub members-ascending : (untimed seen : List Bool) (rule t : ℕ) (links : List Pair) → IsStrictlyIncreasing (members_from untimed seen rule t links) × All (λ y. t ≤ y) (members_from untimed seen rule t links)
 members-ascending untimed seen rule t [] = (λ j low. absurd (omega (arith, low)), All-nil (λ (y : ℕ). t ≤ y))
 members-ascending untimed seen rule t (l ∷ links) = go (is_member untimed seen rule t l) refl (members-ascending untimed seen rule (suc t) links)
@@ -68,7 +68,7 @@ members-ascending untimed seen rule t (l ∷ links) = go (is_member untimed seen
       All-cons (λ (y : ℕ). t ≤ y) t (members_from untimed seen rule (suc t) links) (omega arith) (All-weaker (λ (y : ℕ). suc t ≤ y) (λ (y : ℕ). t ≤ y) (λ y h. omega (arith, h)) (members_from untimed seen rule (suc t) links) above),
     )
 
--- a rule is in the set of another exactly if the test is true
+-- A rule is in the set of another exactly if the test is true.
 pub in-set : (p : Program) (untimed seen : List Bool) (rule source : ℕ) → get_or untimed 0 false ≡ false → source_of p rule ≡ Some source
     → ((b : ℕ) → (get_or seen b false ≡ true) ↔ Path (HasEdge p (flagged untimed)) b source) → get_or untimed rule false ≡ true → (own : Rule) → rule_at p rule ≡ Some own
     → (e : ℕ) → Contains (members_from untimed seen rule 1 (map ends_of p.rules)) e ↔ IsInSet p (flagged untimed) rule e
@@ -107,7 +107,7 @@ in-set p untimed seen rule source entry leaves reach is_untimed own numbered e =
             next : (k : ℕ) → 1 + k ≡ suc k
             next k = omega arith
 
-    -- a rule that passes the test is listed
+    -- A rule that passes the test is listed.
     listed : (t : ℕ) (r : Rule) → rule_at p t ≡ Some r → is_member untimed seen rule t (ends_of r) ≡ true → Contains (members_from untimed seen rule 1 (map ends_of p.rules)) t
     listed zero r h is = absurd (none_some h)
       where
@@ -129,7 +129,7 @@ in-set p untimed seen rule source entry leaves reach is_untimed own numbered e =
         itself (inr (t, other)) = absurd (other refl)
     into (inr m) = back e m.untimed m.leads
       where
-        -- the number of an untimed rule with a target is that of a rule
+        -- An untimed rule whose target leads to the source of the rule is listed.
         back : (t : ℕ) → get_or untimed t false ≡ true → target_of p t ≡ Some m.from → Contains (members_from untimed seen rule 1 (map ends_of p.rules)) t
         back zero u leads = absurd (different (sym entry ∙ u))
           where
@@ -163,7 +163,7 @@ in-set p untimed seen rule source entry leaves reach is_untimed own numbered e =
                 passes (inl (test, same)) = rw test refl
                 passes (inr (test, other)) = rw test (rw u seen_there)
 
--- a number whose flag is set is that of a rule
+-- A number whose flag is true is that of a rule.
 pub is_rule : (flags : List Bool) (n t : ℕ) → length flags ≡ n + 1 → get_or flags 0 false ≡ false → get_or flags t false ≡ true → (0 < t) × (t ≤ n)
 is_rule flags n zero size entry h = absurd (different (sym entry ∙ h))
   where

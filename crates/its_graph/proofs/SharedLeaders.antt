@@ -14,15 +14,15 @@ use Rattle.its_graph.proofs.Arrivals.{rule-at-link}
 use Rattle.its_graph.proofs.Elements.{Decided, decided}
 use Rattle.its_graph.proofs.PairLists.{Pair}
 
--- nothing is no value
+-- `None` is not `Some`.
 pub none_some : {A : Type 0} (a : A) → None ≡ Some a → ⊥
 none_some a e = cc
 
--- a number alone is one number
+-- `Some` is injective on numbers.
 pub number_in : (a b : ℕ) → Some a ≡ Some b → a ≡ b
 number_in a b e = cc
 
--- a leader that is shared is that of both ends
+-- A shared leader is that of both ends.
 ends-share : (leaders : List ℕ) (l : Pair) (m : ℕ) → shared_leader leaders l ≡ Some m
     → (get_or leaders l.0 0 ≡ m) × (get_or leaders l.1 0 ≡ m)
 ends-share leaders l m e = go (decided (get_or leaders l.0 0) (get_or leaders l.1 0))
@@ -32,7 +32,7 @@ ends-share leaders l m e = go (decided (get_or leaders l.0 0) (get_or leaders l.
         let first : get_or leaders l.0 0 ≡ m = number_in (get_or leaders l.0 0) m (rw test at e) in (first, sym same ∙ first)
     go (inr (test, other)) = absurd (none_some m (rw test at e))
 
--- the leader of both ends is shared
+-- The leader of both ends is shared.
 pub leader-shared : (leaders : List ℕ) (l : Pair) (m : ℕ) → get_or leaders l.0 0 ≡ m → get_or leaders l.1 0 ≡ m
     → shared_leader leaders l ≡ Some m
 leader-shared leaders l m e f = go (decided (get_or leaders l.0 0) (get_or leaders l.1 0))
@@ -41,7 +41,7 @@ leader-shared leaders l m e f = go (decided (get_or leaders l.0 0) (get_or leade
     go (inl (test, same)) = rw test (ap (λ (x : ℕ). Some x) e)
     go (inr (test, other)) = absurd (other (e ∙ sym f))
 
--- a rule with a part has its link there
+-- The link of rule t has the shared leader m.
 record HasLink (leaders : List ℕ) (links : List Pair) (t m : ℕ) : Type 0 where
   pub positive : 0 < t
   pub within : t ≤ length links
@@ -68,7 +68,7 @@ link-of-part leaders links (suc i) m e = go (cases_lt i (length links))
           to = ap (λ (k : ℕ). get_or leaders (get_or links k (0, 0)).1 0) back ∙ both.1;
         }
 
--- the names of parts are nodes
+-- The names of parts are nodes.
 pub parts-below : (Edge : ℕ → ℕ → Type 0) (n k : ℕ) (leaders : List ℕ) (links : List Pair) → AreLeaders Edge n leaders
     → All (λ (e : Pair). (e.0 < n) × (e.1 < n)) links → n ≤ k
     → ArePartsBelow k (None ∷ map (shared_leader leaders) links)
@@ -78,7 +78,7 @@ parts-below Edge n k leaders links l within few t m e =
     let low = (All-get_or (λ (x : Pair). (x.0 < n) × (x.1 < n)) links (t - 1) (0, 0) position within).0 in
     omega (arith, l.within (get_or links (t - 1) (0, 0)).0 low, h.from, few)
 
--- source and target of a rule have one leader
+-- Source and target of a rule have one leader.
 pub record HasLeader (p : Program) (leaders : List ℕ) (n t m : ℕ) : Type 0 where
   pub source : ℕ
   pub leaves : source_of p t ≡ Some source
@@ -89,7 +89,7 @@ pub record HasLeader (p : Program) (leaders : List ℕ) (n t m : ℕ) : Type 0 w
   pub target_within : target < n
   pub target_leader : get_or leaders target 0 ≡ m
 
--- a rule in a part has one leader
+-- A rule in a part has one leader.
 pub has-leader : (p : Program) (leaders : List ℕ) (n : ℕ) (links : List Pair) → links ≡ map ends_of p.rules
     → All (λ (e : Pair). (e.0 < n) × (e.1 < n)) links → (t m : ℕ)
     → get_or (None ∷ map (shared_leader leaders) links) t None ≡ Some m → HasLeader p leaders n t m

@@ -18,20 +18,20 @@ use Rattle.its_graph.specs.Orders.{IsLeader, IsNextLeader, EachIsNext, AreOrdera
 use Rattle.its_graph.specs.Orders.{IsSorting, IsPopped, WaitsOrReady, Settles}
 use Rattle.its_graph.proofs.Elements.{Contains-cons_cases, Contains-first, Contains-later, none_in_empty, Decided, decided}
 
--- an element of the first of a list is one of the list
+-- A member of the first elements of a list is a member of the list.
 Contains-take : (k : ℕ) (xs : List ℕ) (x : ℕ) → Contains (take k xs) x → Contains xs x
 Contains-take k xs x h = subst (λ (ys : List ℕ). Contains ys x) (take-append-drop k xs) (Contains-append_left (take k xs) (drop k xs) x h)
 
--- the first of the first are among the first
+-- A member of the first j elements is one of the first k, if k is at least j.
 pub Contains-take_take : (xs : List ℕ) (j k x : ℕ) → j ≤ k → Contains (take j xs) x → Contains (take k xs) x
 Contains-take_take xs j k x low h = Contains-take j (take k xs) x (subst (λ (ys : List ℕ). Contains ys x) (sym (take-take j k xs low)) h)
 
--- a list where each is next holds with each leader all that it needs
+-- A list in which each leader comes next has, with each leader, all that it needs.
 closed : (Need : ℕ → ℕ → Type 0) (leaders order : List ℕ) → EachIsNext Need leaders order → (c d : ℕ) → Contains order c → Need c d → Contains order d
 closed Need leaders order each c d (k, low, e) need =
     Contains-take k order d ((each k low).needs d (subst (λ (x : ℕ). Need x d) (sym (get_or_default order k 0 c low ∙ e)) need))
 
--- one leader more that is next
+-- A list in which each comes next stays so when the next leader is appended.
 each-push : (Need : ℕ → ℕ → Type 0) (leaders order : List ℕ) (c : ℕ) → EachIsNext Need leaders order → IsNextLeader Need leaders order c → EachIsNext Need leaders (order ++ c ∷ [])
 each-push Need leaders order c each next k low = go (cases_lt k (length order))
   where
@@ -44,7 +44,7 @@ each-push Need leaders order c each next k low = go (cases_lt k (length order))
         subst (λ (xs : List ℕ). IsNextLeader Need leaders xs (get_or (order ++ c ∷ []) k 0)) (sym (take-append-le k order (c ∷ []) (omega arith) ∙ take_all k order (omega arith)))
         (subst (λ (x : ℕ). IsNextLeader Need leaders order x) (sym (get_or_push order c 0 k (sym same))) next)
 
--- marks, where one is set
+-- A mark that is true after one was set was true before or is that one.
 marked-cases : (marks : List Bool) (l c : ℕ) → IsMarked (set marks l true) c → IsMarked marks c ⊎ (c ≡ l)
 marked-cases marks l c h = go (decided c l)
   where
@@ -62,11 +62,11 @@ marked-kept marks l c low h = go (decided c l)
 marked-here : (marks : List Bool) (l : ℕ) → l < length marks → IsMarked (set marks l true) l
 marked-here marks l low = get_or-set_same marks l true false low
 
--- one mark less is to be set
+-- 1 for a mark that isn't set, else 0.
 abbrev unmarked_one : Bool → ℕ
 unmarked_one v = cond (not v) 1 0
 
--- setting a mark that wasn't set leaves one less to be set
+-- Setting a mark that wasn't set leaves one less to be set.
 pub fewer-unmarked : (marks : List Bool) (l : ℕ) → l < length marks → ¬ (IsMarked marks l) → count_by not (set marks l true) + 1 ≡ count_by not marks
 fewer-unmarked marks l low h = go (get_or marks l false) refl
   where
@@ -77,7 +77,7 @@ fewer-unmarked marks l low h = go (get_or marks l false) refl
         let one : unmarked_one (get_or marks l false) ≡ 1 = rw e refl in
         omega (arith, moved, one)
 
--- a test of equal numbers, and of others
+-- A choice by a test of two numbers, if they are equal, and if they differ.
 if-same : {A : Type 0} (a b : ℕ) (x y : A) → a ≡ b → (if a == b then x else y) ≡ x
 if-same a b x y e = go (decided a b)
   where
@@ -93,11 +93,11 @@ if-other a b x y ne = go (decided a b)
     go (inr (test, other)) = rw test refl
 
 module _ (needs : List (Vec ℕ Global)) (leaders : List ℕ) where
-  -- the needs of a leader
+  -- The needs of a leader.
   abbrev Need : ℕ → ℕ → Type 0
   Need = Joins needs
 
-  -- a leader has settled
+  -- After a leader has settled, the state of sorting holds for the other ones.
   pub settled : (l : ℕ) (rest : List ℕ) (s t : Sorting) → IsSorting needs leaders (l ∷ rest) s → Settles needs l s t → IsSorting needs leaders rest t
   settled l rest s t f m = record {
     passed_size = ap length m.passed ∙ (length-set s.passed.items l m.position ∙ f.passed_size);
@@ -121,7 +121,7 @@ module _ (needs : List (Vec ℕ Global)) (leaders : List ℕ) where
       to_t : (c : ℕ) → IsMarked s.is_listed.items c → IsMarked t.is_listed.items c
       to_t c h = subst (λ (xs : List Bool). IsMarked xs c) (sym m.marks) h
 
-      -- the needs of the leader up to the position are listed
+      -- The needs of the leader up to the position are listed.
       behind : (k : ℕ) → k < m.position → IsMarked s.is_listed.items (get_or (values_in needs l) k 0)
       behind k low = go (cases_lt k (get_or s.passed.items l 0))
         where
@@ -142,14 +142,14 @@ module _ (needs : List (Vec ℕ Global)) (leaders : List ℕ) where
       passed c k low (inr (test, other)) =
           to_t (get_or (values_in needs c) k 0) (f.passed c k (subst (λ (x : ℕ). k < x) (get_or-set_other s.passed.items l c m.position 0 other) low))
 
-      -- the leader that settles
+      -- The leader that settles is a leader that isn't listed.
       this : IsLeader leaders l × (¬ (IsMarked s.is_listed.items l))
       this = f.open_ones l (Contains-first l rest)
 
       old_ready : (c : ℕ) → Contains s.ready.keys c → IsLeader leaders c × (¬ (IsMarked t.is_listed.items c)) × ((d : ℕ) → Need c d → IsMarked t.is_listed.items d)
       old_ready c h = let old = f.ready c h in (old.0, (λ k. old.1 (to_s c k)), λ d need. to_t d (old.2 d need))
 
-      -- all needs of the leader are listed where the position is the end
+      -- All needs of the leader are listed if the position is the end.
       all_behind : length (values_in needs l) ≤ m.position → (d : ℕ) → Need l d → IsMarked t.is_listed.items d
       all_behind end d (k, low, e) = to_t d (subst (λ (x : ℕ). IsMarked s.is_listed.items x) (get_or_default (values_in needs l) k 0 d low ∙ e) (behind k (omega arith)))
 
@@ -176,7 +176,7 @@ module _ (needs : List (Vec ℕ Global)) (leaders : List ℕ) where
               last (inl old) = f.waits d c old
               last (inr e) = subst (λ (x : ℕ). Need x d) e (subst (λ (x : ℕ). Need l x) same (Contains-get_or (values_in needs l) m.position 0 low))
 
-      -- who waited still does
+      -- A leader that waited still does.
       still : (c : ℕ) → WaitsOrReady (values_in needs l) m.position l s t → Waits s.waiting.items s.is_listed.items c → Waits t.waiting.items t.is_listed.items c
       still c (inr (end, same, keys)) w = record { need = w.need; among = subst (λ (xs : List (Vec ℕ Global)). Contains (values_in xs w.need) c) (sym same) w.among; unlisted = λ h. w.unlisted (to_s w.need h) }
       still c (inl (low, keys, values)) w = record { need = w.need; among = subst (λ (xs : List ℕ). Contains xs c) (sym (values w.need)) (go (decided (get_or (values_in needs l) m.position 0) w.need)); unlisted = λ h. w.unlisted (to_s w.need h) }
@@ -185,7 +185,7 @@ module _ (needs : List (Vec ℕ Global)) (leaders : List ℕ) where
           go (inl (test, same)) = rw test (Contains-append_left (values_in s.waiting.items w.need) (l ∷ []) c w.among)
           go (inr (test, other)) = rw test w.among
 
-      -- the leader itself waits or is ready
+      -- The leader itself waits or is ready.
       itself : WaitsOrReady (values_in needs l) m.position l s t → Contains t.ready.keys l ⊎ Waits t.waiting.items t.is_listed.items l
       itself (inr (end, same, keys)) = inl ((keys l).1 (inr refl))
       itself (inl (low, keys, values)) = inr (record {
@@ -194,7 +194,7 @@ module _ (needs : List (Vec ℕ Global)) (leaders : List ℕ) where
         unlisted = λ h. m.skips.stops low (to_s (get_or (values_in needs l) m.position 0) h);
       })
 
-      -- who was ready still is
+      -- A leader that was ready still is.
       still_ready : (c : ℕ) → WaitsOrReady (values_in needs l) m.position l s t → Contains s.ready.keys c → Contains t.ready.keys c
       still_ready c (inl (low, keys, values)) h = subst (λ (xs : List ℕ). Contains xs c) (sym keys) h
       still_ready c (inr (end, same, keys)) h = (keys c).1 (inl h)
@@ -209,7 +209,7 @@ module _ (needs : List (Vec ℕ Global)) (leaders : List ℕ) where
           go (inl e) (inl k) = inl (subst (λ (x : ℕ). Contains t.ready.keys x) (sym e) k)
           go (inl e) (inr w) = inr (inr (subst (λ (x : ℕ). Waits t.waiting.items t.is_listed.items x) (sym e) w))
 
-  -- the leader that was taken is the next one
+  -- The leader that was taken is the next one.
   popped-next : (l : ℕ) (s : Sorting) → IsPopped needs leaders l s → IsNextLeader Need leaders s.order.items l
   popped-next l s p = record {
     leads = own.0;
@@ -233,7 +233,7 @@ module _ (needs : List (Vec ℕ Global)) (leaders : List ℕ) where
       least q all (inr (inl none)) = absurd (none_in_empty q none)
       least q all (inr (inr w)) = absurd (w.unlisted ((f.marked w.need).1 (all w.need (f.waits w.need q w.among))))
 
-  -- a leader is listed, and those that waited for it have to settle
+  -- After a leader is listed, those that waited for it have to settle.
   pub listed : AreOrderable leaders needs → (l : ℕ) (s t : Sorting) (taken : List ℕ) → IsPopped needs leaders l s
       → t.passed.items ≡ s.passed.items → t.is_listed.items ≡ set s.is_listed.items l true → t.ready.keys ≡ s.ready.keys → t.order.items ≡ s.order.items ++ l ∷ []
       → length t.waiting.items ≡ length s.waiting.items → ((a : ℕ) → values_in t.waiting.items a ≡ (if l == a then [] else values_in s.waiting.items a)) → taken ≡ values_in s.waiting.items l
@@ -324,18 +324,18 @@ module _ (needs : List (Vec ℕ Global)) (leaders : List ℕ) where
       marked c (inl h) = to_t c ((f.marked c).1 h)
       marked c (inr e) = subst (λ (x : ℕ). IsMarked t.is_listed.items x) e (subst (λ (xs : List Bool). IsMarked xs l) (sym marks) (marked-here s.is_listed.items l within))
 
-  -- the leader that was taken isn't marked, and is within
+  -- The leader that was taken isn't marked, and is a node.
   pub popped-open : (l : ℕ) (s : Sorting) → IsPopped needs leaders l s → (l < length s.is_listed.items) × (¬ (IsMarked s.is_listed.items l)) × (l < length s.waiting.items)
   popped-open l s p =
       let f = p.sorting in
       let own = f.ready l (subst (λ (xs : List ℕ). Contains xs l) (sym p.taken) (Contains-first l s.ready.keys)) in
       (omega (arith, own.0.0, f.listed_size), own.1, omega (arith, own.0.0, f.waiting_size))
 
-  -- the needs of a leader are nodes
+  -- The needs of a leader are nodes.
   pub needs-within : AreOrderable leaders needs → (l : ℕ) → All (λ d. d < length needs) (values_in needs l)
   needs-within o l = All-from_get_or (λ (d : ℕ). d < length needs) (values_in needs l) 0 (λ i low. omega (arith, o.size, (o.leading l (get_or (values_in needs l) i 0) (Contains-get_or (values_in needs l) i 0 low)).1.0))
 
-  -- a mark of none that is set
+  -- No mark of a fresh list is set.
   not_marked : (n c : ℕ) → ¬ (IsMarked (replicate n false) c)
   not_marked n c h = go (cases_lt c n)
     where
@@ -349,7 +349,7 @@ module _ (needs : List (Vec ℕ Global)) (leaders : List ℕ) where
       go (inl low) = clash (get_or-replicate n c false false low)
       go (inr high) = clash (get_or_past (replicate n false) c false (omega (arith, length-replicate n false)))
 
-  -- at first all leaders have to settle
+  -- At first all leaders have to settle.
   pub begins : (own : List ℕ) (s : Sorting) → IsFresh (length leaders) s → ((c : ℕ) → Contains own c ↔ IsLeader leaders c) → IsSorting needs leaders own s
   begins own s f all = record {
     passed_size = ap length f.passed ∙ length-replicate (length leaders) 0;

@@ -6,7 +6,7 @@ use Rattle.its_model.specs.Valid.{IsValidRule}
 use Rattle.its_model.proofs.ListLaws.{all-to}
 use Rattle.its_graph.specs.Graphs.{ValidHaveSymbols}
 
--- the start symbol and those of the rules are symbols of a valid program
+-- The start symbol and those of the rules are symbols of a valid program.
 pub valid_have_symbols : ValidHaveSymbols
 valid_have_symbols = λ p h. record {
   start = h.start;

@@ -12,7 +12,7 @@ use Rattle.its_graph.proofs.Elements.{none_in_empty}
 use Rattle.its_graph.proofs.PaintedNodes.{Paints}
 use Rattle.its_graph.proofs.Routes.{edge_then, path-map, turned, mutual-turned, mutual-join}
 
--- the floods of one component: before and after both, and after the candidates that aren't in it are unknown again
+-- The floods of one component: before and after both, and after the candidates that aren't in it are unknown again.
 pub record AreFloods (n : ℕ) (next previous : List (Vec ℕ Global)) (before first second third names : List ℕ) (root : ℕ) (candidates class again : List ℕ) : Type 0 where
   pub tables : AreTables n next previous
   pub root_unknown : get_or before root 0 ≡ UNKNOWN
@@ -23,11 +23,11 @@ pub record AreFloods (n : ℕ) (next previous : List (Vec ℕ Global)) (before f
 
 module _ (n : ℕ) (next previous : List (Vec ℕ Global)) (before first second third names : List ℕ) (root : ℕ) (candidates class again : List ℕ)
     (f : AreFloods n next previous before first second third names root candidates class again) where
-  -- the edges
+  -- The edges of the graph.
   abbrev Edge : ℕ → ℕ → Type 0
   Edge = Joins next
 
-  -- three colours
+  -- The three colours differ.
   unknown-known : (x : ℕ) → x ≡ UNKNOWN → x ≡ KNOWN → ⊥
   unknown-known x e k = omega arith
 
@@ -37,7 +37,7 @@ module _ (n : ℕ) (next previous : List (Vec ℕ Global)) (before first second 
   known-candidate : (x : ℕ) → x ≡ KNOWN → x ≡ CANDIDATE → ⊥
   known-candidate x e k = omega arith
 
-  -- the component of the root is unknown before
+  -- The nodes of the root's component are unknown before.
   mutual-unknown : (b : ℕ) → IsMutual Edge root b → get_or before b 0 ≡ UNKNOWN
   mutual-unknown b m = go (f.classes.decided b)
     where
@@ -45,7 +45,7 @@ module _ (n : ℕ) (next previous : List (Vec ℕ Global)) (before first second 
       go (inl e) = e
       go (inr e) = absurd (unknown-known (get_or before root 0) f.root_unknown (f.classes.whole b root e (mutual-turned Edge root b m)).0)
 
-  -- a node that leads to the root and is reached from it is reached against the edges through unknown nodes
+  -- A node that leads to the root and is reached from it is reached against the edges through unknown nodes.
   back_path : (x : ℕ) → Path (Joins previous) root x → Path Edge root x → Path (EdgeTo (Joins previous) before UNKNOWN) root x
   back_path x (Here e) onward = Here e
   back_path x (Onward {b = y} p edge) onward =
@@ -53,27 +53,27 @@ module _ (n : ℕ) (next previous : List (Vec ℕ Global)) (before first second 
       let to_root : Path Edge y root = turned (Joins previous) Edge (λ a b. (f.tables.opposite b a).1) root y p in
       Onward (back_path y p (Onward onward step)) (edge, mutual-unknown x (record { onward = onward; back = edge_then Edge x y root step to_root }))
 
-  -- the component of the root is among the candidates
+  -- The component of the root is among the candidates.
   mutual-candidate : (b : ℕ) → IsMutual Edge root b → Contains candidates b
   mutual-candidate b m = (f.leading.reached b).1 (back_path b (turned Edge (Joins previous) (λ x y. (f.tables.opposite x y).0) b root m.back) m.onward)
 
-  -- a candidate leads to the root
+  -- A candidate leads to the root.
   candidate-leads : (b : ℕ) → Contains candidates b → Path Edge b root
   candidate-leads b h =
       turned (Joins previous) Edge (λ x y. (f.tables.opposite y x).1) root b
       (path-map (EdgeTo (Joins previous) before UNKNOWN) (Joins previous) (λ x y e. e.0) root b ((f.leading.reached b).0 h))
 
-  -- it is reached from the root through candidates
+  -- A node of the root's component is reached from the root through candidates.
   onward_path : (x : ℕ) → Path Edge root x → Path Edge x root → Path (EdgeTo Edge first CANDIDATE) root x
   onward_path x (Here e) back = Here e
   onward_path x (Onward {b = y} p edge) back =
       Onward (onward_path y p (edge_then Edge y x root edge back)) (edge, f.leading.are x (mutual-candidate x (record { onward = Onward p edge; back = back })))
 
-  -- the nodes found second are the component of the root
+  -- The root's component is among the nodes found second.
   pub mutual-class : (b : ℕ) → IsMutual Edge root b → Contains class b
   mutual-class b m = (f.among.reached b).1 (onward_path b m.onward m.back)
 
-  -- a node of the candidates' colour is a candidate
+  -- A node of the candidates' colour is a candidate.
   colored-candidate : (b : ℕ) → get_or first b 0 ≡ CANDIDATE → Contains candidates b
   colored-candidate b e = go (f.leading.others b) (f.classes.decided b)
     where
@@ -82,22 +82,22 @@ module _ (n : ℕ) (next previous : List (Vec ℕ Global)) (before first second 
       go (inl same) (inl k) = absurd (unknown-candidate (get_or first b 0) (same ∙ k) e)
       go (inl same) (inr k) = absurd (known-candidate (get_or first b 0) (same ∙ k) e)
 
-  -- a node of the component is a candidate
+  -- A node found second is a candidate.
   class-candidate : (b : ℕ) → Contains class b → Contains candidates b
   class-candidate b h = colored-candidate b (f.among.were b h).1
 
-  -- a node of the component is mutual with the root
+  -- A node found second is mutual with the root.
   pub class-mutual : (b : ℕ) → Contains class b → IsMutual Edge root b
   class-mutual b h = record {
     onward = path-map (EdgeTo Edge first CANDIDATE) Edge (λ x y e. e.0) root b ((f.among.reached b).0 h);
     back = candidate-leads b (class-candidate b h);
   }
 
-  -- it was unknown
+  -- A node found second was unknown.
   class-unknown : (b : ℕ) → Contains class b → get_or before b 0 ≡ UNKNOWN
   class-unknown b h = (f.leading.were b (class-candidate b h)).1
 
-  -- only candidates become unknown again
+  -- Only candidates become unknown again.
   again-candidate : (b : ℕ) → Contains again b → get_or second b 0 ≡ CANDIDATE
   again-candidate b h = go (f.rest.only b h)
     where
@@ -105,7 +105,7 @@ module _ (n : ℕ) (next previous : List (Vec ℕ Global)) (before first second 
       go (inl none) = absurd (none_in_empty b none)
       go (inr (k, low, e)) = e
 
-  -- nodes that become unknown again are unknown in the third list
+  -- Nodes that become unknown again are unknown in the third list.
   again-unknown : (b : ℕ) → Contains again b → get_or third b 0 ≡ UNKNOWN
   again-unknown b h = go (f.rest.newly b h)
     where
@@ -113,7 +113,7 @@ module _ (n : ℕ) (next previous : List (Vec ℕ Global)) (before first second 
       go (inl none) = absurd (none_in_empty b none)
       go (inr e) = e
 
-  -- the component is known at the end
+  -- The component is known at the end.
   class-known : (b : ℕ) → Contains class b → get_or third b 0 ≡ KNOWN
   class-known b h = go (f.rest.others b)
     where
@@ -121,7 +121,7 @@ module _ (n : ℕ) (next previous : List (Vec ℕ Global)) (before first second 
       go (inl same) = same ∙ f.among.are b h
       go (inr k) = absurd (known-candidate (get_or second b 0) (f.among.are b h) (again-candidate b k))
 
-  -- all other nodes are as they were
+  -- All other nodes are as they were.
   at_end : (b : ℕ) → Contains class b ⊎ (get_or third b 0 ≡ get_or before b 0)
   at_end b = go (f.among.others b) (f.leading.others b) (f.rest.others b)
     where
@@ -139,7 +139,7 @@ module _ (n : ℕ) (next previous : List (Vec ℕ Global)) (before first second 
           decided (inl k) = absurd (unknown-candidate (get_or before b 0) k candidate_before)
           decided (inr k) = absurd (known-candidate (get_or before b 0) k candidate_before)
 
-  -- names that are the root's for the component, and as before for all others
+  -- With the root's name for the component, and the names before for all others, the component has been taken.
   pub takes : (after : List ℕ) → ((b : ℕ) → Contains class b → get_or after b 0 ≡ root) → ((b : ℕ) → (get_or after b 0 ≡ get_or names b 0) ⊎ Contains class b) → Takes Edge before third after root
   takes after of_class of_others = record {
     classes = record { decided = λ a. decided a (at_end a) (f.classes.decided a); whole = λ a b k m. whole a b k m (at_end a); named = λ a k. own a k (at_end a) };
@@ -156,7 +156,7 @@ module _ (n : ℕ) (next previous : List (Vec ℕ Global)) (before first second 
       kept a k (inl h) = class-known a h
       kept a k (inr e) = e ∙ k
 
-      -- a node that was known keeps its name
+      -- A node that was known keeps its name.
       same_name : (a : ℕ) → get_or before a 0 ≡ KNOWN → (get_or after a 0 ≡ get_or names a 0) ⊎ Contains class a → get_or after a 0 ≡ get_or names a 0
       same_name a k (inl e) = e
       same_name a k (inr h) = absurd (unknown-known (get_or before a 0) (class-unknown a h) k)

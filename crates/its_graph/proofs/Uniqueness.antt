@@ -6,13 +6,13 @@ use Rattle.std.proofs.lemmas.List.{append-nil}
 use Rattle.its_graph.specs.Components.{IsMutual, IsListed, IsNext, IsListing}
 use Rattle.its_graph.proofs.Elements.{Contains-cons_cases, Contains-first, Contains-later, none_in_empty}
 
--- the numbers after the first ascend too
+-- The tail of an ascending list ascends.
 increasing-tail : (x : ℕ) (xs : List ℕ) → IsStrictlyIncreasing (x ∷ xs) → IsStrictlyIncreasing xs
 increasing-tail x xs up k low =
     let next : suc k + 1 ≡ suc (k + 1) = omega arith in
     subst (λ (j : ℕ). get_or xs k 0 < get_or (x ∷ xs) j 0) next (up (suc k) (omega (arith, low)))
 
--- the first is below all others
+-- The first number of an ascending list is below all others.
 increasing-first : (x : ℕ) (xs : List ℕ) → IsStrictlyIncreasing (x ∷ xs) → (y : ℕ) → Contains xs y → x < y
 increasing-first x [] up y h = absurd (none_in_empty y h)
 increasing-first x (z ∷ xs) up y h = go (Contains-cons_cases z xs y h) (λ later. increasing-first z xs (increasing-tail x (z ∷ xs) up) y later)
@@ -24,7 +24,7 @@ increasing-first x (z ∷ xs) up y h = go (Contains-cons_cases z xs y h) (λ lat
     go (inl e) ih = omega (arith, first, e)
     go (inr later) ih = omega (arith, first, ih later)
 
--- ascending lists with the same elements are equal
+-- Ascending lists with the same elements are equal.
 same-ascending : (xs ys : List ℕ) → IsStrictlyIncreasing xs → IsStrictlyIncreasing ys → ((b : ℕ) → Contains xs b → Contains ys b) → ((b : ℕ) → Contains ys b → Contains xs b) → xs ≡ ys
 same-ascending [] [] ux uy f g = refl
 same-ascending [] (y ∷ ys) ux uy f g = absurd (none_in_empty y (g y (Contains-first y ys)))
@@ -58,7 +58,7 @@ same-ascending (x ∷ xs) (y ∷ ys) ux uy f g =
         go (inr k) = k
 
 module _ (Edge : ℕ → ℕ → Type 0) (n : ℕ) where
-  -- the next component is unique
+  -- The next component is unique.
   one_next : (before : List (List ℕ)) (c d : List ℕ) → IsNext Edge n before c → IsNext Edge n before d → c ≡ d
   one_next before c d hc hd = same-ascending c d hc.ascending hd.ascending
       (λ b h. (hd.members b).1 (subst (λ (x : ℕ). IsMutual Edge x b) least ((hc.members b).0 h))) (λ b h. (hc.members b).1 (subst (λ (x : ℕ). IsMutual Edge x b) (sym least) ((hd.members b).0 h)))
@@ -66,7 +66,7 @@ module _ (Edge : ℕ → ℕ → Type 0) (n : ℕ) where
       least : hc.least ≡ hd.least
       least = omega (arith, hc.first hd.least hd.ready, hd.first hc.least hc.ready)
 
-  -- lists that continue the same components are equal
+  -- Lists that continue the same components are equal.
   same_rest : (cs ds : List (List ℕ)) → IsListing Edge n cs → IsListing Edge n ds → (before xs ys : List (List ℕ)) → cs ≡ before ++ xs → ds ≡ before ++ ys → xs ≡ ys
   same_rest cs ds lc ld before [] [] ec ed = refl
   same_rest cs ds lc ld before [] (d ∷ ys) ec ed =
@@ -81,6 +81,6 @@ module _ (Edge : ℕ → ℕ → Type 0) (n : ℕ) where
       let rest = same_rest cs ds lc ld (before ++ c ∷ []) xs ys (ec ∙ sym (append_assoc before (c ∷ []) xs)) (moved ∙ sym (append_assoc before (c ∷ []) ys)) in
       ap (λ (z : List ℕ). z ∷ xs) same ∙ ap (λ (zs : List (List ℕ)). d ∷ zs) rest
 
-  -- so there is at most one list
+  -- There is at most one list.
   pub one_listing : (cs ds : List (List ℕ)) → IsListing Edge n cs → IsListing Edge n ds → cs ≡ ds
   one_listing cs ds lc ld = same_rest cs ds lc ld [] cs ds refl refl

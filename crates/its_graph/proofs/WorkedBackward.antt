@@ -9,12 +9,12 @@ use Rattle.its_graph.proofs.Routes.{mutual-self, one_edge}
 use Rattle.its_graph.proofs.Elements.{none_in_empty}
 use Rattle.its_graph.proofs.ListedNodes.{in-one, in-cons, in-two, increasing-one, Below, below-three}
 
--- an edge of the graph
+-- An edge of the graph leads from 2 to 0.
 pub edge_of : (a b : ℕ) → Backward a b → (a ≡ 2) × (b ≡ 0)
 edge_of a b (zero, low, e) = let same : (2, 0) ≡ (a, b) = e in (sym (ap (λ (p : ℕ × ℕ). p.0) same), sym (ap (λ (p : ℕ × ℕ). p.1) same))
 edge_of a b (suc k, low, e) = absurd (omega (arith, low))
 
--- a path is none, or the edge
+-- A path is empty, or the edge.
 ends : (a b : ℕ) → Path Backward a b → (a ≡ b) ⊎ ((a ≡ 2) × (b ≡ 0))
 ends a b (Here e) = inl e
 ends a b (Onward {b = x} p edge) = inr (go (ends a x p))
@@ -23,7 +23,7 @@ ends a b (Onward {b = x} p edge) = inr (go (ends a x p))
     go (inl e) = let k = edge_of x b edge in (e ∙ k.0, k.1)
     go (inr (s, t)) = (s, (edge_of x b edge).1)
 
--- so each node is alone in its component
+-- Each node is alone in its component.
 pub apart : (a b : ℕ) → IsMutual Backward a b → b ≡ a
 apart a b m = go (ends a b m.onward) (ends b a m.back)
   where
@@ -32,19 +32,19 @@ apart a b m = go (ends a b m.onward) (ends b a m.back)
     go (inr (s, t)) (inl e) = e
     go (inr (s, t)) (inr (u, v)) = absurd (omega (arith, s, v))
 
--- a component of one node
+-- A component of one node has exactly the nodes that are mutual with it.
 one-member : (a b : ℕ) → Contains (a ∷ []) b ↔ IsMutual Backward a b
 one-member a b = (
   (λ h. subst (λ (x : ℕ). IsMutual Backward a x) (sym (in-one a b h)) (mutual-self Backward a)),
   (λ m. subst (Contains (a ∷ [])) (sym (apart a b m)) (0, omega arith, refl)),
 )
 
--- the components listed so far, one node each
+-- The components listed so far, one node each.
 abbrev pub singles : List ℕ → List (List ℕ)
 singles [] = []
 singles (x ∷ xs) = (x ∷ []) ∷ singles xs
 
--- a node that is listed among them is one of them
+-- A node that is listed among them is one of them.
 single : (xs : List ℕ) (a : ℕ) → IsListed (singles xs) a → Contains xs a
 single xs a l = go xs l.component l.listed l.member
   where
@@ -53,7 +53,7 @@ single xs a l = go xs l.component l.listed l.member
     go (y ∷ ys) c (zero, low, e) k = (0, omega arith, sym (in-one y a (subst (λ (d : List ℕ). Contains d a) (sym e) k)))
     go (y ∷ ys) c (suc i, low, e) k = let rest = go ys c (i, omega (arith, low), e) k in (suc rest.0, omega (arith, rest.1), rest.2)
 
--- a node other than 0 may come, where it isn't listed
+-- A node other than 0 may come next if it isn't listed.
 ready : (xs : List ℕ) (a : ℕ) → a < 3 → 1 ≤ a → (Contains xs a → ⊥) → MayComeNext Backward 3 (singles xs) a
 ready xs a low not_zero missing = record { node = low; unlisted = λ l. missing (single xs a l); sources = λ b p. inr (from b (ends b a p)) }
   where
@@ -61,7 +61,7 @@ ready xs a low not_zero missing = record { node = low; unlisted = λ l. missing 
     from b (inl e) = subst (λ (x : ℕ). IsMutual Backward a x) (sym e) (mutual-self Backward a)
     from b (inr (s, t)) = absurd (omega (arith, t, not_zero))
 
--- 0 may not come before 2
+-- The node 0 may not come before 2.
 pub zero_waits : (xs : List ℕ) → (Contains xs 2 → ⊥) → MayComeNext Backward 3 (singles xs) 0 → ⊥
 zero_waits xs missing h = go (h.sources 2 (one_edge Backward 2 0 (0, omega arith, refl)))
   where
@@ -69,7 +69,7 @@ zero_waits xs missing h = go (h.sources 2 (one_edge Backward 2 0 (0, omega arith
     go (inl l) = missing (single xs 2 l)
     go (inr m) = omega (arith, apart 0 2 m)
 
--- the numbers of a list of one or of two
+-- The list of 1 has no 2.
 not_one : Contains {X = ℕ} (1 ∷ []) 2 → ⊥
 not_one h = omega (arith, in-one 1 2 h)
 
@@ -79,7 +79,7 @@ without_edge = ready [] 1 (omega arith) (omega arith) (λ h. none_in_empty 1 h)
 pub source : MayComeNext Backward 3 [] 2
 source = ready [] 2 (omega arith) (omega arith) (λ h. none_in_empty 2 h)
 
--- 1 comes first
+-- The component of 1 comes first.
 pub first_next : IsNext Backward 3 [] (1 ∷ [])
 first_next = record { least = 1; ready = without_edge; first = least; members = one-member 1; ascending = increasing-one 1 }
   where
@@ -87,7 +87,7 @@ first_next = record { least = 1; ready = without_edge; first = least; members = 
     least zero r = absurd (zero_waits [] (λ h. none_in_empty 2 h) r)
     least (suc a) r = omega arith
 
--- then 2
+-- The component of 2 comes second.
 second_next : IsNext Backward 3 ((1 ∷ []) ∷ []) (2 ∷ [])
 second_next = record {
   least = 2;
@@ -102,7 +102,7 @@ second_next = record {
     least (suc zero) r = absurd (r.unlisted (record { component = 1 ∷ []; listed = (0, omega arith, refl); member = (0, omega arith, refl) }))
     least (suc (suc a)) r = omega arith
 
--- the last component is 0 alone
+-- The component of 0 comes last.
 third_next : IsNext Backward 3 ((1 ∷ []) ∷ (2 ∷ []) ∷ []) (0 ∷ [])
 third_next = record {
   least = 0;
@@ -121,7 +121,7 @@ third_next = record {
     from b (inr (s, t)) =
         inl (subst (IsListed ((1 ∷ []) ∷ (2 ∷ []) ∷ [])) (sym s) (record { component = 2 ∷ []; listed = (1, omega arith, refl); member = (0, omega arith, refl) }))
 
--- all of it, in order
+-- The listing is [1], [2], [0].
 pub backward_listing : IsListing Backward 3 ((1 ∷ []) ∷ (2 ∷ []) ∷ (0 ∷ []) ∷ [])
 backward_listing = record { each = each; all = λ a low. all a (below-three a low) }
   where

@@ -1,4 +1,4 @@
--- The worked values of components, and lists that are none.
+-- The worked values of components, and lists that aren't listings.
 use Rattle.std.proofs.Common.{◌≡◌, ◌⊎◌, inl, inr, ℕ, zero, suc, List, [], ◌∷◌, Contains, refl, sym, subst, arith}
 use Rattle.its_graph.specs.Components.{IsMutual, IsNext, IsListing}
 use Rattle.its_graph.specs.WorkedComponents.{Loop, Backward, zero_alone, MutualNodesAreWorkedOut}
@@ -16,7 +16,7 @@ use Rattle.its_graph.proofs.WorkedBackward as backward
 mutual_nodes : MutualNodesAreWorkedOut
 mutual_nodes = record { both = loop.both; one_way = loop.one_way; itself = mutual-self Loop 0; no_path = λ m. omega (arith, backward.apart 0 2 m) }
 
--- 3 is in none of two components
+-- The number 3 is in neither of two components.
 no_three : (c : List ℕ) → Contains ((0 ∷ []) ∷ (2 ∷ 1 ∷ []) ∷ []) c → Contains c 3 → ⊥
 no_three c (zero, low, e) h = omega (arith, in-one 0 3 (subst (λ (d : List ℕ). Contains d 3) (sym e) h))
 no_three c (suc zero, low, e) h = go (in-two 2 1 3 (subst (λ (d : List ℕ). Contains d 3) (sym e) h))
@@ -45,7 +45,7 @@ ready_nodes = record {
   target = λ h. backward.zero_waits [] (λ k. none_in_empty 2 k) h;
 }
 
--- a component that comes first has the least node that may
+-- The component that comes first has the least node that may come first.
 too_early : IsNext Loop 3 [] (1 ∷ 2 ∷ []) → ⊥
 too_early h = go (in-two 1 2 h.least ((h.members h.least).1 (mutual-self Loop h.least)))
   where
@@ -56,7 +56,7 @@ too_early h = go (in-two 1 2 h.least ((h.members h.least).1 (mutual-self Loop h.
     go (inl e) = omega (arith, low, e)
     go (inr e) = omega (arith, low, e)
 
--- 2 is in the component of 1
+-- The node 2 is in the component of 1.
 a_node_lacks : IsNext Loop 3 zero_alone (1 ∷ []) → ⊥
 a_node_lacks h = omega (arith, in-one 1 2 ((h.members 2).1 (subst (λ (x : ℕ). IsMutual Loop x 2) (sym one) loop.both)))
   where
@@ -74,7 +74,7 @@ next_components = record {
   not_least = λ h. let two = in-one 2 h.least ((h.members h.least).1 (mutual-self Backward h.least)) in omega (arith, two, h.first 1 backward.without_edge);
 }
 
--- no list but the right one is one
+-- No list but the right one is a listing.
 other_loop : (cs : List (List ℕ)) → ((0 ∷ []) ∷ (1 ∷ 2 ∷ []) ∷ [] ≡ cs → ⊥) → IsListing Loop 3 cs → ⊥
 other_loop cs other l = other (one_listing Loop 3 _ cs loop.loop_listing l)
 
@@ -92,7 +92,7 @@ listings = record {
   ends_first = other_backward ((2 ∷ []) ∷ (0 ∷ []) ∷ (1 ∷ []) ∷ []) (λ e. cc);
 }
 
--- no component of one node holds both ends of the edge from 2 to 0
+-- No component of one node has both ends of the edge from 2 to 0.
 not_inside : (x a b : ℕ) → Contains (x ∷ []) a → Contains (x ∷ []) b → Backward a b → ⊥
 not_inside x a b ha hb edge =
     let from = in-one x a ha in
@@ -102,7 +102,7 @@ not_inside x a b ha hb edge =
     let target : b ≡ 0 = ends.1 in
     omega (arith, from, to, source, target)
 
--- so none of the second graph does
+-- No component of the second graph has an inner edge.
 no_inner_link : HasInnerLink ((2, 0) ∷ []) ((1 ∷ []) ∷ (2 ∷ []) ∷ (0 ∷ []) ∷ []) → ⊥
 no_inner_link h = go h.component h.listed h.holds_from h.holds_to
   where
@@ -145,6 +145,6 @@ inner_links = record {
   unlisted = λ h. none_listed h.component h.listed;
 }
 
--- all of it
+-- The worked values of components hold.
 pub components-are-worked-out : ComponentsAreWorkedOut
 components-are-worked-out = record { mutual_nodes = mutual_nodes; listed_nodes = listed_nodes; ready_nodes = ready_nodes; next_components = next_components; listings = listings; inner_links = inner_links }

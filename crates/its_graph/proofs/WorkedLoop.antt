@@ -9,14 +9,14 @@ use Rattle.its_graph.proofs.Routes.{mutual-self, mutual-turned, one_edge}
 use Rattle.its_graph.proofs.ListedNodes.{in-first, in-one, in-cons, in-two, alone, increasing-one, increasing-two}
 use Rattle.its_graph.proofs.ListedNodes.{Below, below-three}
 
--- an edge of the graph
+-- An edge of the graph is one of the three.
 edge_of : (a b : ℕ) → Loop a b → ((a ≡ 0) × (b ≡ 1)) ⊎ (((a ≡ 1) × (b ≡ 2)) ⊎ ((a ≡ 2) × (b ≡ 1)))
 edge_of a b (zero, low, e) = let same : (0, 1) ≡ (a, b) = e in inl (sym (ap (λ (p : ℕ × ℕ). p.0) same), sym (ap (λ (p : ℕ × ℕ). p.1) same))
 edge_of a b (suc zero, low, e) = let same : (1, 2) ≡ (a, b) = e in inr (inl (sym (ap (λ (p : ℕ × ℕ). p.0) same), sym (ap (λ (p : ℕ × ℕ). p.1) same)))
 edge_of a b (suc (suc zero), low, e) = let same : (2, 1) ≡ (a, b) = e in inr (inr (sym (ap (λ (p : ℕ × ℕ). p.0) same), sym (ap (λ (p : ℕ × ℕ). p.1) same)))
 edge_of a b (suc (suc (suc k)), low, e) = absurd (omega (arith, low))
 
--- a path of one edge and more leads to 1 or 2
+-- A path that isn't empty leads to 1 or 2.
 pub ends : (a b : ℕ) → Path Loop a b → (a ≡ b) ⊎ ((1 ≤ b) × (b ≤ 2))
 ends a b (Here e) = inl e
 ends a b (Onward {b = x} p edge) = inr (go (edge_of x b edge))
@@ -26,7 +26,7 @@ ends a b (Onward {b = x} p edge) = inr (go (edge_of x b edge))
     go (inr (inl (s, t))) = (omega (arith, t), omega (arith, t))
     go (inr (inr (s, t))) = (omega (arith, t), omega (arith, t))
 
--- a path that isn't empty begins at a node up to 2
+-- A path that isn't empty begins at a node up to 2.
 begins : (a b : ℕ) → Path Loop a b → (a ≡ b) ⊎ (a ≤ 2)
 begins a b (Here e) = inl e
 begins a b (Onward {b = x} p edge) = inr (go (edge_of x b edge) (begins a x p))
@@ -37,7 +37,7 @@ begins a b (Onward {b = x} p edge) = inr (go (edge_of x b edge) (begins a x p))
     go (inr (inr (s, t))) (inl e) = omega (arith, s, e)
     go h (inr low) = low
 
--- the edges there and back
+-- The edges between 1 and 2, there and back, are paths.
 there : Path Loop 1 2
 there = one_edge Loop 1 2 (1, omega arith, refl)
 
@@ -47,7 +47,7 @@ back = one_edge Loop 2 1 (2, omega arith, refl)
 pub both : IsMutual Loop 1 2
 both = record { onward = there; back = back }
 
--- the component of 0 is 0 alone
+-- The component of 0 is 0 alone.
 only_zero : (b : ℕ) → IsMutual Loop 0 b → b ≡ 0
 only_zero b m = go (ends b 0 m.back)
   where
@@ -58,7 +58,7 @@ only_zero b m = go (ends b 0 m.back)
 pub one_way : IsMutual Loop 0 1 → ⊥
 one_way m = omega (arith, only_zero 1 m)
 
--- that of 1 is 1 and 2
+-- The component of 1 is 1 and 2.
 one_or_two : (b : ℕ) → IsMutual Loop 1 b → (b ≡ 1) ⊎ (b ≡ 2)
 one_or_two b m = go (ends 1 b m.onward)
   where
@@ -70,7 +70,7 @@ one_or_two b m = go (ends 1 b m.onward)
     go (inl e) = inl (sym e)
     go (inr (l, h)) = low_or_high l h (cases_lt b 2)
 
--- 0 may come first
+-- The node 0 may come first.
 pub first_ready : MayComeNext Loop 3 [] 0
 first_ready = record { node = omega arith; unlisted = λ l. absurd (omega (arith, l.listed.1)); sources = sources }
   where
@@ -81,7 +81,7 @@ first_ready = record { node = omega arith; unlisted = λ l. absurd (omega (arith
         go (inl e) = inr (subst (λ (x : ℕ). IsMutual Loop 0 x) (sym e) (mutual-self Loop 0))
         go (inr (low, high)) = absurd (omega (arith, low))
 
--- 1 may not, since 0 comes before it
+-- The node 1 may not come first, since 0 comes before it.
 pub not_first : MayComeNext Loop 3 [] 1 → ⊥
 not_first h = go (h.sources 0 (one_edge Loop 0 1 (0, omega arith, refl)))
   where
@@ -89,7 +89,7 @@ not_first h = go (h.sources 0 (one_edge Loop 0 1 (0, omega arith, refl)))
     go (inl l) = omega (arith, l.listed.1)
     go (inr m) = one_way (mutual-turned Loop 1 0 m)
 
--- after 0 both others may come
+-- The nodes with a path to 1 or 2 are 0, which is listed, and 1 and 2, so both may come after 0.
 sources-behind : (a : ℕ) → IsMutual Loop a 1 → IsMutual Loop a 2 → (b : ℕ) → Path Loop b a → a ≤ 2 → IsListed zero_alone b ⊎ IsMutual Loop a b
 sources-behind a one two b p low = go (begins b a p)
   where
@@ -116,7 +116,7 @@ greater_ready = record {
   sources = λ b p. sources-behind 2 (mutual-turned Loop 1 2 both) (mutual-self Loop 2) b p (omega arith);
 }
 
--- the first component
+-- The component of 0 comes first.
 pub first_next : IsNext Loop 3 [] (0 ∷ [])
 first_next = record { least = 0; ready = first_ready; first = λ a r. omega arith; members = λ b. (to b, from b); ascending = increasing-one 0 }
   where
@@ -126,7 +126,7 @@ first_next = record { least = 0; ready = first_ready; first = λ a r. omega arit
     from : (b : ℕ) → IsMutual Loop 0 b → Contains (0 ∷ []) b
     from b m = subst (Contains (0 ∷ [])) (sym (only_zero b m)) (0, omega arith, refl)
 
--- the second component
+-- The component of 1 and 2 comes second.
 pub then_next : IsNext Loop 3 zero_alone (1 ∷ 2 ∷ [])
 then_next = record { least = 1; ready = next_ready; first = least; members = λ b. (to b, from b); ascending = increasing-two 1 2 (omega arith) }
   where
@@ -148,7 +148,7 @@ then_next = record { least = 1; ready = next_ready; first = least; members = λ 
         go (inl e) = subst (Contains (1 ∷ 2 ∷ [])) (sym e) (0, omega arith, refl)
         go (inr e) = subst (Contains (1 ∷ 2 ∷ [])) (sym e) (1, omega arith, refl)
 
--- all of it, in order
+-- The listing is [0], [1, 2].
 pub loop_listing : IsListing Loop 3 ((0 ∷ []) ∷ (1 ∷ 2 ∷ []) ∷ [])
 loop_listing = record { each = each; all = λ a low. all a (below-three a low) }
   where

@@ -9,7 +9,7 @@ use Rattle.its_graph.specs.WorkedParts.{PartsAreWorkedOut, inner_part, first_thr
 use Rattle.its_graph.proofs.Routes.{join, one_edge}
 use Rattle.its_graph.proofs.SharedLeaders.{none_some, number_in}
 
--- the edges of the inner loop
+-- The edges of the inner loop.
 there : HasPath nested any_rule 1 2
 there =
     one_edge (HasEdge nested any_rule) 1 2
@@ -20,11 +20,11 @@ back =
     one_edge (HasEdge nested any_rule) 2 1
     (record { number = 4; rule = bare_rule 2 1; numbered = refl; allowed = refl; source = refl; target = refl })
 
--- one of its two symbols
+-- The symbol is one of the two of the inner loop.
 abbrev IsInner : ℕ → Type 0
 IsInner a = (a ≡ 1) ⊎ (a ≡ 2)
 
--- between its symbols there are paths
+-- Between the symbols of the inner loop there are paths.
 connected : (a b : ℕ) → IsInner a → IsInner b → HasPath nested any_rule a b
 connected a b (inl e) (inl f) = Here (e ∙ sym f)
 connected a b (inr e) (inr f) = Here (e ∙ sym f)
@@ -33,7 +33,7 @@ connected a b (inl e) (inr f) =
 connected a b (inr e) (inl f) =
     subst (λ (x : ℕ). HasPath nested any_rule x b) (sym e) (subst (λ (x : ℕ). HasPath nested any_rule 2 x) (sym f) back)
 
--- a rule leads from and to symbols of the inner loop
+-- The rule leads from and to symbols of the inner loop.
 record IsInnerRule (t : ℕ) : Type 0 where
   pub source : ℕ
   pub leaves : source_of nested t ≡ Some source
@@ -53,7 +53,7 @@ inner_rule (suc (suc (suc (suc zero)))) m e =
     record { source = 2; leaves = refl; from = inr refl; target = 1; leads = refl; to = inl refl }
 inner_rule (suc (suc (suc (suc (suc i))))) m e = absurd (none_some m e)
 
--- rules of the inner loop have the same set
+-- Rules of the inner loop have the same set.
 inner_set : (t u : ℕ) → IsInnerRule t → IsInnerRule u → (e : ℕ) → IsInSet nested any_rule t e → IsInSet nested any_rule u e
 inner_set t u h k e (inl same) =
     inr (record {
@@ -76,7 +76,7 @@ inner_set t u h k e (inr b) =
           (subst (λ (x : ℕ). HasPath nested any_rule b.from x) to b.path) (connected h.source k.source h.from k.from);
     })
 
--- no path leads back to the source of rule 1, so rule 4 isn't in its set
+-- No path leads back to the source of rule 1, so rule 4 isn't in its set.
 fourth_outside : IsInSet nested any_rule 1 4 → ⊥
 fourth_outside (inl e) = omega (arith, e)
 fourth_outside (inr b) =
@@ -85,7 +85,7 @@ fourth_outside (inr b) =
     paths_are_worked.no_way_back
     (subst (λ (x : ℕ). HasPath nested any_rule x 0) (sym from) (subst (λ (x : ℕ). HasPath nested any_rule b.from x) (sym to) b.path))
 
--- of rules 1, 2 and 3 the last alone has no time
+-- Of rules 1, 2 and 3 only the last has no time.
 only_third : (t m : ℕ) → last_two t ≡ true → get_or first_three t None ≡ Some m → t ≡ 3
 only_third zero m o e = absurd (none_some m e)
 only_third (suc zero) m o e = cc
@@ -94,7 +94,7 @@ only_third (suc (suc (suc zero))) m o e = refl
 only_third (suc (suc (suc (suc zero)))) m o e = absurd (none_some m e)
 only_third (suc (suc (suc (suc (suc i))))) m o e = absurd (none_some m e)
 
--- the values are as worked out
+-- The worked values of parts hold.
 pub parts-are-worked-out : PartsAreWorkedOut
 parts-are-worked-out = record {
   one_part = λ t u m open_t open_u et eu. inner_set t u (inner_rule t m et) (inner_rule u m eu);

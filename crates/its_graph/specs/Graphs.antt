@@ -11,17 +11,17 @@ use Rattle.its_graph.specs.Components.{IsMutual}
 use Rattle.its_graph.specs.Groups.{values_in, values_of}
 use Rattle.its_graph.specs.Links.{ends_of, arrivals}
 
--- the start symbol and those of the rules are symbols of the program
+-- The start symbol and those of the rules are symbols of the program.
 pub record HasSymbols (p : Program) : Type 0 where
   pub start : p.start < length p.symbols
   pub rules : All (λ (r : Rule). (r.source < length p.symbols) × (r.target < length p.symbols)) p.rules
 
--- a valid program has the symbols that it names
+-- A valid program has the symbols that its rules name.
 abbrev pub ValidHaveSymbols : Type 0
 ValidHaveSymbols = (p : Program) → IsValid p → HasSymbols p
 
--- the graph of a program: its start, a link for each rule, and for each symbol the virtual entry and the rules that
--- lead to it; if the program has all symbols that it names, the graph has as many
+-- The graph of a program: its start, a link for each rule, and for each symbol the virtual entry and the rules that
+-- lead to it; if the program has all symbols that its rules name, the graph has as many.
 pub record IsGraphOf (g : Graph) (p : Program) : Type 0 where
   pub start : g.start ≡ p.start
   pub links : g.links.items ≡ map ends_of p.rules
@@ -33,15 +33,15 @@ pub record IsGraphOf (g : Graph) (p : Program) : Type 0 where
   pub symbols : length p.symbols ≤ g.symbols
   pub exact : HasSymbols p → g.symbols ≡ length p.symbols
 
--- the rules that are none of a list
+-- The test of a rule that it isn't in a list.
 abbrev pub none_of : List ℕ → ℕ → Bool
 none_of cut t = not (list_any (eqb t) cut)
 
--- the rules whose flag is set
+-- The test of a rule by its flag.
 abbrev pub flagged : List Bool → ℕ → Bool
 flagged flags t = slice_index_or flags t false
 
--- rule t leads from the component of allowed rules with least symbol m to itself
+-- Rule t leads from the component of allowed rules with least symbol m to the same component.
 pub record StaysIn (p : Program) (is_allowed : ℕ → Bool) (t m : ℕ) : Type 0 where
   pub source : ℕ
   pub leaves : source_of p t ≡ Some source
@@ -51,15 +51,15 @@ pub record StaysIn (p : Program) (is_allowed : ℕ → Bool) (t m : ℕ) : Type 
   pub target_there : IsMutual (HasEdge p is_allowed) target m
   pub least : (b : ℕ) → IsMutual (HasEdge p is_allowed) m b → m ≤ b
 
--- each rule has the name of the component that it stays in, its least symbol, and has none where it stays in none
+-- Each rule has as name the least symbol of the component that it stays in, and has none if it stays in none.
 abbrev pub ArePartsOf : Program → (ℕ → Bool) → List (Option ℕ) → Type 0
 ArePartsOf p is_untimed parts = (t m : ℕ) → (slice_index_or parts t None ≡ Some m) ↔ StaysIn p is_untimed t m
 
--- the names of parts are below a number
+-- The names of parts are below a number.
 abbrev pub ArePartsBelow : ℕ → List (Option ℕ) → Type 0
 ArePartsBelow n parts = (t m : ℕ) → slice_index_or parts t None ≡ Some m → m < n
 
--- untimed rules of one part have the same set
+-- Untimed rules of one part have the same set.
 abbrev pub HaveSameSets : Program → (ℕ → Bool) → List (Option ℕ) → Type 0
 HaveSameSets p is_untimed parts = (t u m : ℕ) → is_untimed t ≡ true → is_untimed u ≡ true
     → slice_index_or parts t None ≡ Some m → slice_index_or parts u None ≡ Some m

@@ -4,10 +4,10 @@ pub mod Cycles
 pub mod Groups
 pub mod Components
 pub mod Graphs
--- laws, and values that were worked out by hand
+-- Laws and worked values.
 pub mod WorkedComponents
 pub mod WorkedParts
--- the machinery of the functions inside and of the proofs
+-- The definitions for the inner functions and the proofs.
 pub mod Floods
 pub mod Classes
 pub mod Naming

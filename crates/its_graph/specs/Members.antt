@@ -3,13 +3,13 @@ use Rattle.std.specs.Prelude.{◌≡◌, ◌↔◌, ℕ, suc, ◌<◌, List, [],
 use Rattle.std.specs.List.{Contains}
 use Rattle.std.specs.List.Sorted.{IsStrictlyIncreasing}
 
--- the position of each leader of a list, with a number that counts up
+-- Each leader of the list by its position, with numbers that count up.
 abbrev pub numbered : List ℕ → ℕ → List ℕ → List (ℕ × ℕ)
 numbered positions node [] = []
 numbered positions node (leader ∷ leaders) = (slice_index positions leader, node)
     ∷ numbered positions (suc node) leaders
 
--- the nodes that have the leader, ascending
+-- The nodes that have the leader, ascending.
 pub record AreMembers (leaders : List ℕ) (leader : ℕ) (members : List ℕ) : Type 0 where
   pub each : (b : ℕ) → Contains members b ↔ ((b < length leaders) × (slice_index leaders b ≡ leader))
   pub ascending : IsStrictlyIncreasing members

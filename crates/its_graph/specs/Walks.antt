@@ -3,7 +3,7 @@ use Rattle.std.specs.Prelude.{◌≡◌, ℕ, ◌<◌, length, All}
 use Rattle.its_graph.specs.declared.roots.Walk.{Walk}
 use Rattle.its_graph.specs.declared.roots.Visit.{Visit}
 
--- the walk goes over this many nodes
+-- The walk goes over this many nodes.
 pub record IsWalk (n : ℕ) (w : Walk) : Type 0 where
   pub path : All (λ (v : Visit). v.node < n) w.path.items
   pub seen : length w.seen.items ≡ n

@@ -38,7 +38,7 @@ fn names_of(alloc: Global, next: &[Vec<u32>], previous: &[Vec<u32>]) -> Result<V
     Ok(names)
 }
 
-// The components of all nodes of a list become known.
+// Finds the components of all nodes of a list.
 fn take_roots(
     alloc: Global,
     next: &[Vec<u32>],
@@ -59,7 +59,7 @@ fn take_roots(
     Ok(())
 }
 
-// The component of a node becomes known, if it isn't.
+// Finds the component of a node, if it isn't known yet.
 fn take_root(
     alloc: Global,
     next: &[Vec<u32>],
@@ -81,8 +81,8 @@ fn take_root(
     }
 }
 
-// Finds the component of an unknown node, and names it by the node: the nodes that lead to the node, among those to
-// which it leads. Known nodes are whole components, so no path from the node and back meets one.
+// Finds the component of an unknown node, and names it by the node: the nodes that have a path to it, among those to
+// which it has one. Known nodes are whole components, so no path from the node and back meets one.
 fn take_class(
     alloc: Global,
     next: &[Vec<u32>],
@@ -105,7 +105,7 @@ fn take_class(
     paint_all(colors, &mut unknown_again, &candidates, CANDIDATE, UNKNOWN)
 }
 
-/// The nodes of a list get a name.
+/// Gives the nodes of a list a name.
 pub(crate) fn name_all(names: &mut [u32], nodes: &[u32], name: u32)
     requires { All (λ b. b < length names.old) nodes.now }
     ensures { names.new ≡ named name nodes.now names.old }
@@ -115,7 +115,7 @@ pub(crate) fn name_all(names: &mut [u32], nodes: &[u32], name: u32)
     }
 }
 
-// The first node of each node's name.
+// For each node, the first node with the same name.
 fn first_of_each_name(alloc: Global, names: &[u32]) -> Result<Vec<u32>, Memory>
     requires few { length names.now ≤ 2 ^ 32 }
     requires within { All (λ name. name < length names.now) names.now }
@@ -127,7 +127,7 @@ fn first_of_each_name(alloc: Global, names: &[u32]) -> Result<Vec<u32>, Memory>
     Ok(leaders)
 }
 
-// The first node of the name of each node is added to a list, by a table that has none at first.
+// Appends for each node the first node with its name, by a table that is empty at first.
 fn add_first(names: &[u32], first: &mut [Option<u32>], leaders: &mut Vec<u32>) -> Result<(), Memory>
     requires few { length names.now ≤ 2 ^ 32 }
     requires within { All (λ name. name < length names.now) names.now }
@@ -141,7 +141,7 @@ fn add_first(names: &[u32], first: &mut [Option<u32>], leaders: &mut Vec<u32>) -
     Ok(())
 }
 
-// The first node of a name, which is this one where there was none before it.
+// The first node with a name; it is this one if the table has none yet.
 fn first_or(first: &mut [Option<u32>], name: usize, node: u32) -> u32
     requires { name < length first.old }
     ensures { (first.new, result) ≡ first_with name node first.old }

@@ -15,13 +15,13 @@ use its_model::Program;
 use model::Memory;
 use std::alloc::Global;
 
-/// Whether the graph of the program has a cycle: whether some component has an edge inside.
+/// Whether the graph of the program has a cycle, that is, whether some component has an inner edge.
 ///
 /// The answer is exact. The time is near-linear.
 ///
 /// # Errors
 ///
-/// `Memory` where an allocation fails.
+/// `Memory` if an allocation fails.
 pub fn has_cycle(alloc: Global, p: &Program) -> Result<bool, Memory>
     ensures { IfOk result (λ found. IsTrue found ↔ HasCycle (program_of p.now)) }
 {
@@ -44,7 +44,7 @@ fn numbers_of(alloc: Global, nodes: usize, components: &[Vec<u32>]) -> Result<Ve
     Ok(numbers)
 }
 
-// The nodes of each component get its number.
+// Gives the nodes of each component its number.
 fn number_all(numbers: &mut [u32], components: &[Vec<u32>])
     requires few { length components.now ≤ 2 ^ 32 }
     requires apart { AreApart (length numbers.old) components.now }

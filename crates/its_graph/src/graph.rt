@@ -37,7 +37,7 @@ impl Graph {
     ///
     /// # Errors
     ///
-    /// `Memory` where an allocation fails.
+    /// `Memory` if an allocation fails.
     pub fn new(alloc: Global, p: &Program) -> Result<Graph, Memory>
         requires { length p.now.rules.items < 2 ^ 32 }
         ensures { IfOk result (λ graph. IsGraphOf graph (program_of p.now)) }
@@ -56,7 +56,7 @@ impl Graph {
     }
 
     /// The rules that can come just before a rule, ascending: those that lead to its source, and the virtual entry, 0,
-    /// where that is the start symbol.
+    /// if that is the start symbol.
     pub fn pre(&self, rule: u32) -> &[u32]
         requires graph { (p : PlainProgram) × IsGraphOf self.now p }
         requires number { (0 < rule) × (rule ≤ length self.now.links.items) }
@@ -71,7 +71,7 @@ impl Graph {
     ///
     /// # Errors
     ///
-    /// `Memory` where an allocation fails.
+    /// `Memory` if an allocation fails.
     pub fn reached(&self, alloc: Global, cut: &[u32]) -> Result<Vec<bool>, Memory>
         requires { (p : PlainProgram) × IsGraphOf self.now p }
         ensures one_each { IfOk result (λ seen. length seen.items ≡ self.now.symbols) }
@@ -89,7 +89,7 @@ impl Graph {
     ///
     /// # Errors
     ///
-    /// `Memory` where an allocation fails.
+    /// `Memory` if an allocation fails.
     pub fn back_closure(
         &self,
         alloc: Global,
@@ -112,13 +112,13 @@ impl Graph {
     }
 
     /// For each rule, by its number, the strongly connected component of the graph of the rules without a time that has
-    /// both its source and its target, named by the component's least symbol; none where these are in different ones,
-    /// nor for the virtual entry, 0. The rules without a time of one component have the same set. The time is
-    /// near-linear in symbols and rules.
+    /// both its source and its target, named by the component's least symbol; none if these are in different
+    /// components, nor for the virtual entry, 0. The rules without a time of one component have the same set. The time
+    /// is near-linear in symbols and rules.
     ///
     /// # Errors
     ///
-    /// `Memory` where an allocation fails.
+    /// `Memory` if an allocation fails.
     pub fn parts(&self, alloc: Global, untimed: &[bool]) -> Result<Vec<Option<u32>>, Memory>
         requires graph { (p : PlainProgram) × IsGraphOf self.now p }
         requires flags { length untimed.now ≡ length self.now.links.items + 1 }
@@ -136,7 +136,7 @@ impl Graph {
     }
 }
 
-// The virtual entry and each rule, by the symbol that it leads to.
+// The virtual entry and the rules, listed by the symbol that each leads to.
 fn arrivals_of(alloc: Global, start: u32, links: &[(u32, u32)]) -> Result<Vec<(u32, u32)>, Memory>
     requires { length links.now < 2 ^ 32 }
     ensures { IfOk result (λ pairs. pairs.items ≡ arrivals start links.now) }
@@ -149,7 +149,7 @@ fn arrivals_of(alloc: Global, start: u32, links: &[(u32, u32)]) -> Result<Vec<(u
     Ok(pairs)
 }
 
-// Which nodes a path, possibly empty, leads to from a node.
+// A flag for each node: whether a path, possibly empty, leads to it from the node `start`.
 fn flooded(alloc: Global, next: &[Vec<u32>], start: u32) -> Result<Vec<bool>, Memory>
     requires within { start < length next.now }
     requires edges_within { (a : ℕ) → All (λ b. b < length next.now) (values_in next.now a) }
@@ -162,21 +162,21 @@ fn flooded(alloc: Global, next: &[Vec<u32>], start: u32) -> Result<Vec<bool>, Me
     are_known(alloc, &colors)
 }
 
-// No node has a colour yet.
+// A colour for each node, all unknown.
 fn no_colors(alloc: Global, count: usize) -> Result<Vec<u8>, Memory>
     ensures { IfOk result (λ colors. colors.items ≡ replicate count 0) }
 {
     vec![in alloc; UNKNOWN; count]
 }
 
-// Which nodes are known.
+// A flag for each node: whether it is known.
 fn are_known(alloc: Global, colors: &[u8]) -> Result<Vec<bool>, Memory>
     ensures { IfOk result (λ flags. flags.items ≡ map (λ color. color == 2) colors.now) }
 {
     colors.iter().map(|color| *color == KNOWN).collect(alloc)
 }
 
-// The numbers of the rules in the set of a rule, where `seen` marks the symbols from which its source is reached.
+// The numbers of the rules in the set of a rule; `seen` marks the symbols from which its source is reached.
 fn members(
     alloc: Global,
     links: &[(u32, u32)],
@@ -198,7 +198,7 @@ fn members(
     Ok(found)
 }
 
-// Whether a rule is in the set of a rule, by its number and its target.
+// Whether a rule, given by its number and target, is in the set of a rule.
 fn is_in_set(untimed: &[bool], seen: &[bool], rule: u32, number: u32, target: u32) -> bool
     requires flag { number < length untimed.now }
     requires within { target < length seen.now }
@@ -208,7 +208,7 @@ fn is_in_set(untimed: &[bool], seen: &[bool], rule: u32, number: u32, target: u3
     number == rule || (untimed[number as usize] && seen[target as usize])
 }
 
-// A number is added, if it is a member.
+// Appends a number if it is a member.
 fn push_member(found: &mut Vec<u32>, number: u32, is_member: bool) -> Result<(), Memory>
     ensures { OnOk result (found.new.items ≡ found.old.items ++ (if is_member then number ∷ [] else [])) }
 {
@@ -218,7 +218,8 @@ fn push_member(found: &mut Vec<u32>, number: u32, is_member: bool) -> Result<(),
     Ok(())
 }
 
-// For each link the leader of both its ends, if they have the same, after none for the virtual entry.
+// For each link, the leader of both its ends, or none if they have different ones; the virtual entry, which comes
+// first, has none.
 fn shared_leaders(
     alloc: Global,
     links: &[(u32, u32)],
@@ -235,7 +236,7 @@ fn shared_leaders(
     Ok(parts)
 }
 
-// The leader of both ends of a link, if they have the same.
+// The leader of both ends of a link, or none if they have different ones.
 fn leader_of_both(leaders: &[u32], link: (u32, u32)) -> Option<u32>
     requires from { link.0 < length leaders.now }
     requires to { link.1 < length leaders.now }

@@ -13,12 +13,12 @@ pub fn without_cycle_each_rule_at_most_once()
     ensures { WithoutCycleEachRuleAtMostOnce }
 {}
 
-/// The graph of a program has a cycle exactly if some listed component holds both ends of a link.
+/// The graph of a program has a cycle exactly if some listed component has both ends of a link.
 pub fn cycles_are_inner_links()
     ensures { CyclesAreInnerLinks }
 {}
 
-/// A valid program has the symbols that it names, so that its graph has as many symbols as the program.
+/// A valid program has the symbols that its rules name, so its graph has as many symbols as the program.
 pub fn valid_programs_have_symbols()
     ensures { ValidHaveSymbols }
 {}
@@ -28,12 +28,12 @@ pub fn listings_are_unique()
     ensures { ListingsAreUnique }
 {}
 
-/// Worked values, on both sides, of which nodes are in one component, which may come next and which lists are right.
+/// Worked values, on both sides, of nodes in one component, of the components that may come next, and of right lists.
 pub fn components_are_as_worked_out()
     ensures { ComponentsAreWorkedOut }
 {}
 
-/// Worked values, on both sides, of which rules may be in one part, since they have the same set.
+/// Worked values, on both sides, of rules that may be in one part, since they have the same set.
 pub fn parts_are_as_worked_out()
     ensures { PartsAreWorkedOut }
 {}

@@ -47,7 +47,7 @@ pub(crate) fn link_limit(links: &[(u32, u32)]) -> usize
     limit
 }
 
-/// The links of the rules that are allowed, by a flag for each rule number; number 0 is the virtual entry.
+/// The links of the allowed rules, by a flag for each rule number; number 0 is the virtual entry.
 pub(crate) fn allowed_links(
     alloc: Global,
     links: &[(u32, u32)],
@@ -63,7 +63,7 @@ pub(crate) fn allowed_links(
     Ok(kept)
 }
 
-// A link is added, if it is allowed.
+// Appends a link if it is allowed.
 fn push_allowed(
     kept: &mut Vec<(u32, u32)>,
     link: (u32, u32),
@@ -77,7 +77,7 @@ fn push_allowed(
     Ok(())
 }
 
-/// A flag for each rule number up to the number of rules: false for those that are cut.
+/// A flag for each rule number up to the number of rules: false for the rules that are cut.
 pub(crate) fn uncut(alloc: Global, rules: usize, cut: &[u32]) -> Result<Vec<bool>, Memory>
     requires { rules < 2 ^ 32 }
     ensures { IfOk result (λ allowed. allowed.items ≡ all_cut cut.now (replicate (suc rules) true)) }
@@ -87,14 +87,14 @@ pub(crate) fn uncut(alloc: Global, rules: usize, cut: &[u32]) -> Result<Vec<bool
     Ok(allowed)
 }
 
-// A flag for each number below `count`, all of them set.
+// A flag for each number below `count`, all of them true.
 fn all_allowed(alloc: Global, count: usize) -> Result<Vec<bool>, Memory>
     ensures { IfOk result (λ allowed. allowed.items ≡ replicate count true) }
 {
     vec![in alloc; true; count]
 }
 
-// The flags of the numbers of a list are taken away; a number past them has none.
+// Makes the flags of the numbers of a list false; a number past the flags has none.
 fn cut_all(allowed: &mut [bool], cut: &[u32])
     ensures { allowed.new ≡ all_cut cut.now allowed.old }
 {

@@ -13,13 +13,13 @@ use crate::pairs::{grouped, swapped};
 use model::Memory;
 use std::alloc::Global;
 
-/// The strongly connected components of the graph with this many nodes and these edges. Each comes after all from which
-/// a path leads to it; among those that may come next the one with the least node comes first. The nodes of a component
-/// ascend. The time is near-linear, and there is no recursion along a path.
+/// The strongly connected components of the graph with this many nodes and these edges. Each comes after all components
+/// that have a path to it; among those that may come next, the one with the least node comes first. The nodes of a
+/// component ascend. The time is near-linear, and there is no recursion along a path.
 ///
 /// # Errors
 ///
-/// `Memory` where an allocation fails.
+/// `Memory` if an allocation fails.
 pub fn components(alloc: Global, nodes: u32, edges: &[(u32, u32)]) -> Result<Vec<Vec<u32>>, Memory>
     requires { All (λ e. (e.0 < nodes) × (e.1 < nodes)) edges.now }
     ensures { IfOk result (λ found. IsListing (IsPair edges.now) nodes (map items_of found.items)) }
@@ -80,7 +80,7 @@ fn members_of(alloc: Global, leaders: &[u32], order: &[u32]) -> Result<Vec<Vec<u
     )
 }
 
-// The position of each leader in their order.
+// Writes the position of each leader in the order.
 fn note_positions(positions: &mut [u32], order: &[u32])
     requires few { length order.now ≤ 2 ^ 32 }
     requires within { All (λ l. l < length positions.old) order.now }

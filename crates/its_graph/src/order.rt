@@ -16,7 +16,7 @@ use model::Memory;
 use std::alloc::Global;
 use std::collections::BTreeSet;
 
-/// The leaders of the components in the order of these.
+/// The leaders of the components in the order of the components.
 pub(crate) fn order_of(
     alloc: Global,
     edges: &[(u32, u32)],
@@ -31,7 +31,7 @@ pub(crate) fn order_of(
     sorted(alloc, &needs, leaders, &own_leaders(alloc, leaders)?)
 }
 
-// The pairs of a leader and another one from whose component an edge leads to its own.
+// The pairs of a leader and another one from whose component an edge leads to the first one's component.
 fn needs_of(alloc: Global, edges: &[(u32, u32)], leaders: &[u32]) -> Result<Vec<(u32, u32)>, Memory>
     requires edges_within { All (λ e. (e.0 < length leaders.now) × (e.1 < length leaders.now)) edges.now }
     ensures { IfOk result (λ needs. needs.items ≡ needs_among leaders.now edges.now) }
@@ -47,7 +47,7 @@ fn needs_of(alloc: Global, edges: &[(u32, u32)], leaders: &[u32]) -> Result<Vec<
     Ok(needs)
 }
 
-// The leaders among the nodes.
+// The nodes that are their own leaders.
 fn own_leaders(alloc: Global, leaders: &[u32]) -> Result<Vec<u32>, Memory>
     requires few { length leaders.now ≤ 2 ^ 32 }
     ensures { IfOk result (λ own. (c : ℕ) → Contains own.items c ↔ IsLeader leaders.now c) }
@@ -59,7 +59,7 @@ fn own_leaders(alloc: Global, leaders: &[u32]) -> Result<Vec<u32>, Memory>
     Ok(own)
 }
 
-// A node that is its own leader is added.
+// Appends a node if it is its own leader.
 fn push_if_same(own: &mut Vec<u32>, node: u32, leader: u32) -> Result<(), Memory>
     ensures { OnOk result (own.new.items ≡ (if leader == node then own.old.items ++ node ∷ [] else own.old.items)) }
 {
@@ -69,7 +69,7 @@ fn push_if_same(own: &mut Vec<u32>, node: u32, leader: u32) -> Result<(), Memory
     Ok(())
 }
 
-// The leaders in their order, where `needs` has the needs of each.
+// The leaders in their order; `needs` has the needs of each.
 fn sorted(
     alloc: Global,
     needs: &[Vec<u32>],
@@ -100,7 +100,7 @@ struct Sorting {
 }
 
 impl Sorting {
-    // Nothing is known yet.
+    // The state in which nothing is known yet.
     fn new(alloc: Global, count: usize) -> Result<Sorting, Memory>
         ensures { IfOk result (IsFresh count) }
     {
@@ -113,7 +113,7 @@ impl Sorting {
         })
     }
 
-    // A leader is listed, and those that waited for it settle.
+    // Lists a leader, and settles those that waited for it.
     fn list(
         &mut self,
         alloc: Global,
@@ -133,7 +133,7 @@ impl Sorting {
         self.settle_all(needs, leaders, &waiting)
     }
 
-    // Each leader of a list becomes ready, or waits for another.
+    // Settles each leader of a list: it becomes ready, or waits for another.
     fn settle_all(
         &mut self,
         needs: &[Vec<u32>],
@@ -151,7 +151,7 @@ impl Sorting {
         Ok(())
     }
 
-    // A leader becomes ready where all that it needs is listed; else it waits for one of its needs.
+    // Settles a leader: it becomes ready if all that it needs is listed; else it waits for one of its needs.
     fn settle(&mut self, needs: &[Vec<u32>], leader: u32) -> Result<(), Memory>
         requires within { leader < length needs.now }
         requires needs_within { All (λ d. d < length needs.now) (values_in needs.now leader) }
@@ -168,7 +168,7 @@ impl Sorting {
     }
 }
 
-// The first position, from one on, of a need that isn't listed; where there is none, the end.
+// The first position, from `from` on, of a need that isn't listed; the end if there is none.
 fn skip_listed(needs: &[u32], is_listed: &[bool], from: usize) -> usize
     requires { All (λ d. d < length is_listed.now) needs.now }
     ensures { Skips needs.now is_listed.now from result }

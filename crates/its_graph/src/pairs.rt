@@ -36,7 +36,7 @@ pub(crate) fn empty_lists(alloc: Global, count: usize) -> Result<Vec<Vec<u32>>, 
     Ok(lists)
 }
 
-/// Each pair reversed.
+/// The pairs, each with its parts exchanged.
 pub(crate) fn swapped(alloc: Global, pairs: &[(u32, u32)]) -> Result<Vec<(u32, u32)>, Memory>
     ensures { IfOk result (λ turned. turned.items ≡ map swap pairs.now) }
 {

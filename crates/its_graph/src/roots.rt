@@ -23,7 +23,7 @@ pub(crate) fn roots_of(alloc: Global, next: &[Vec<u32>]) -> Result<Vec<u32>, Mem
     Ok(roots)
 }
 
-// The nodes against the order in which a walk in depth leaves them.
+// The nodes in the reverse order in which a depth-first walk leaves them.
 fn left_last(alloc: Global, next: &[Vec<u32>]) -> Result<Vec<u32>, Memory>
     requires few { length next.now ≤ 2 ^ 32 }
     requires edges_within { (a : ℕ) → All (λ b. b < length next.now) (values_in next.now a) }
@@ -52,7 +52,8 @@ struct Visit {
     done: usize,
 }
 
-// A walk in depth: the path to where it is, which nodes were seen, those that were left, and where to begin next.
+// A depth-first walk: the path to the current node, which nodes were seen, the nodes that were left, and where to begin
+// next.
 #[derive(Debug, Drop)]
 struct Walk {
     path: Vec<Visit>,
@@ -62,7 +63,7 @@ struct Walk {
 }
 
 impl Walk {
-    // A step onward, and whether there was one.
+    // Takes a step of the walk, and returns whether there was one.
     fn step(&mut self, next: &[Vec<u32>]) -> Result<bool, Memory>
         requires few { length next.now ≤ 2 ^ 32 }
         requires edges_within { (a : ℕ) → All (λ b. b < length next.now) (values_in next.now a) }
@@ -78,7 +79,7 @@ impl Walk {
         }
     }
 
-    // The walk continues with the next successor of a node, or leaves the node.
+    // Goes to the next successor of a node, or leaves the node.
     fn go_on(&mut self, next: &[Vec<u32>], visit: Visit) -> Result<(), Memory>
         requires edges_within { (a : ℕ) → All (λ b. b < length next.now) (values_in next.now a) }
         requires walk { IsWalk (length next.now) self.old }
@@ -101,7 +102,7 @@ impl Walk {
         }
     }
 
-    // The walk begins at the next node, if there is one.
+    // Begins at the next node, and returns whether there is one.
     fn begin(&mut self, nodes: usize) -> Result<bool, Memory>
         requires few { nodes ≤ 2 ^ 32 }
         requires walk { IsWalk nodes self.old }
@@ -116,7 +117,7 @@ impl Walk {
         Ok(true)
     }
 
-    // The walk goes to a node that wasn't seen.
+    // Enters a node that wasn't seen.
     fn enter(&mut self, node: u32) -> Result<(), Memory>
         requires within { node < length self.old.seen.items }
         requires walk { IsWalk (length self.old.seen.items) self.old }

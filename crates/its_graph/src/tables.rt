@@ -53,14 +53,14 @@ pub(crate) fn zeros(alloc: Global, count: usize) -> Result<Vec<usize>, Memory>
     vec![in alloc; 0usize; count]
 }
 
-/// A mark for each number below `count`, none of them set.
+/// A mark for each number below `count`, all false.
 pub(crate) fn no_marks(alloc: Global, count: usize) -> Result<Vec<bool>, Memory>
     ensures { IfOk result (λ marks. marks.items ≡ replicate count false) }
 {
     vec![in alloc; false; count]
 }
 
-/// A set without a number.
+/// An empty set of numbers.
 pub(crate) fn empty_set(alloc: Global) -> BTreeSet<u32>
     ensures { result.keys ≡ [] }
 {

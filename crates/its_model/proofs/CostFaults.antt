@@ -13,7 +13,7 @@ use Rattle.its_model.specs.Steps.{guard_fault, updates_fault, body_fault, found_
 use Rattle.its_model.specs.Costs.{written_fault, found_cost_fault, cost_fault, CostFits, HasFittingCost}
 use Rattle.its_model.specs.Costs.{CostsHaveNoFault}
 
--- a cost without a fault fits
+-- A cost without a fault fits.
 written-fits : (env : List ℤ) (c : Option Term) → written_fault c env ≡ None → CostFits env c
 written-fits env None h = tt
 written-fits env (Some c) h = go (values_fit c env) refl h
@@ -22,12 +22,12 @@ written-fits env (Some c) h = go (values_fit c env) refl h
     go true f g = f
     go false f g = cc
 
--- one that fits has none
+-- A cost that fits has no fault.
 fits-written : (env : List ℤ) (c : Option Term) → CostFits env c → written_fault c env ≡ None
 fits-written env None h = refl
 fits-written env (Some c) h = ap (λ (b : Bool). if b then None else Some PastRange) h
 
--- the faults of a cost, an atom, an update or a rule's body are never that there is no such rule
+-- The faults of a cost, an atom, an update or a rule's body are never that there is no such rule.
 written-isnt-other : (env : List ℤ) (c : Option Term) → written_fault c env ≡ Some OtherRule → ⊥
 written-isnt-other env None h = cc
 written-isnt-other env (Some c) h = go (values_fit c env) h
@@ -65,13 +65,13 @@ updates-isnt-other env (u ∷ us) h = go (values_fit u env) (updates-isnt-other 
 body-isnt-other : (r : Rule) (env : List ℤ) → body_fault r env ≡ Some OtherRule → ⊥
 body-isnt-other r env = neither (guard_fault env 1 r.guard) (updates_fault env r.updates) (guard-isnt-other env 1 r.guard) (updates-isnt-other env r.updates)
 
--- if neither of two faults is that there is no such rule, choosing one of them by a test agrees on whether there is
+-- If neither of two faults is that there is no such rule, choosing one of them by a test agrees on whether there is.
 same-other : (b : Bool) (f g : Option StepFault) → (f ≡ Some OtherRule → ⊥) → (g ≡ Some OtherRule → ⊥)
     → ((if b then f else Some OtherRule) ≡ Some OtherRule) ↔ ((if b then g else Some OtherRule) ≡ Some OtherRule)
 same-other true f g h k = ((λ e. absurd (h e)), (λ e. absurd (k e)))
 same-other false f g h k = ((λ e. refl), (λ e. refl))
 
--- the law
+-- The law of the faults of costs.
 pub costs-have-no-fault : CostsHaveNoFault
 costs-have-no-fault = record {
   no_fault = λ p c s. (fitting p c s (rule_at p s.rule) refl, none p c s);

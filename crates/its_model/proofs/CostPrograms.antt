@@ -15,7 +15,7 @@ use Rattle.its_model.proofs.ValidLaws.{holds-at, rule-valid}
 use Rattle.its_model.proofs.CostTerms.{at-least-zero}
 use Rattle.its_model.proofs.CostSteps.{joined-hold, steps-of, charged-of}
 
--- the name of the symbol that is reached is another than that of the one that is left
+-- The name of the target symbol differs from that of the source.
 other-name : (n : Name) → is_same n (cost_name n) ≡ false
 other-name n = go (is_same n (36 ∷ [])) refl
   where
@@ -36,7 +36,7 @@ other-name n = go (is_same n (36 ∷ [])) refl
     go true e = longer n e
     go false e = e
 
--- the name of the target of a cost's program is a name
+-- The name of the target of a cost's program is a name.
 cost-name-is : (n : Name) → IsName (cost_name n)
 cost-name-is n = go (is_same n (36 ∷ []))
   where
@@ -44,13 +44,13 @@ cost-name-is n = go (is_same n (36 ∷ []))
     go true = (refl, refl)
     go false = (refl, refl)
 
--- a property of all elements holds of the first ones
+-- A property of all elements holds of the first ones.
 first-hold : {X : Type 0} (P : X → Type 0) (n : ℕ) (xs : List X) → AllByRecursion P xs → AllByRecursion P (take n xs)
 first-hold P zero xs h = tt
 first-hold P (suc n) [] h = tt
 first-hold P (suc n) (x ∷ xs) h = (h.0, first-hold P n xs h.1)
 
--- the first ones of distinct names are distinct
+-- The first ones of distinct names are distinct.
 among-first : (name : Name) (n : ℕ) (names : List Name) → is_among name names ≡ false → is_among name (take n names) ≡ false
 among-first name zero names h = refl
 among-first name (suc n) [] h = refl
@@ -66,7 +66,7 @@ first-distinct zero names h = tt
 first-distinct (suc n) [] h = tt
 first-distinct (suc n) (m ∷ names) h = (among-first m n names h.0, first-distinct n names h.1)
 
--- the cost rule of a valid rule is valid
+-- The cost rule of a valid rule is valid.
 rule-of-cost : (p : Program) (s : Symbol) (r : Rule) (k : Term) → IsValidRule p r → r.cost ≡ Some k → slice_get p.symbols r.source ≡ Some s
     → IsValidRule (cost_program s r k) (cost_rule r k)
 rule-of-cost p s r k h e f =
@@ -85,7 +85,7 @@ rule-of-cost p s r k h e f =
       cost = tt;
     }
 
--- the program of a cost is valid
+-- The program of a cost is valid.
 program-of-cost : (p : Program) (s : Symbol) (r : Rule) (k : Term) → IsValidSymbol s → IsValidRule p r → r.cost ≡ Some k → slice_get p.symbols r.source ≡ Some s
     → IsValid (cost_program s r k)
 program-of-cost p s r k v h e f = record {
@@ -106,6 +106,6 @@ valid-of p q t v k =
     subst IsValid (sym k.program) (program-of-cost p k.symbol r k.costs.cost (holds-at IsValidSymbol p.symbols r.source k.symbol v.symbols k.source)
     (rule-valid p t r v k.costs.numbered) k.costs.written k.source)
 
--- the law
+-- The law of programs of costs.
 pub cost-programs-tell-costs : CostProgramsTellCosts
 cost-programs-tell-costs = record { valid = valid-of; steps = steps-of; charged = charged-of }

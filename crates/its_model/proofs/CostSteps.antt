@@ -11,23 +11,23 @@ use Rattle.poly_terms.specs.model.Costs.{cost_rule, entering_cost}
 use Rattle.its_model.specs.CostPrograms.{cost_program, LeadsToCost, IsCostProgram, at_cost}
 use Rattle.its_model.proofs.ListLaws.{all-to, all-from}
 
--- a property of an appended list holds of each part
+-- A property of an appended list holds of each part.
 both-hold : {X : Type 0} (P : X → Type 0) (xs ys : List X) → AllByRecursion P (xs ++ ys) → AllByRecursion P xs × AllByRecursion P ys
 both-hold P [] ys h = (tt, h)
 both-hold P (x ∷ xs) ys h = let rest = both-hold P xs ys h.1 in ((h.0, rest.0), rest.1)
 
--- a property that holds of two lists holds of the appended list
+-- A property that holds of two lists holds of the appended list.
 pub joined-hold : {X : Type 0} (P : X → Type 0) (xs ys : List X) → AllByRecursion P xs → AllByRecursion P ys → AllByRecursion P (xs ++ ys)
 joined-hold P [] ys h k = k
 joined-hold P (x ∷ xs) ys h k = (h.0, joined-hold P xs ys h.1 k)
 
--- the guard of a cost rule holds where the rule's does and the cost is at least 0
+-- The guard of a cost rule holds if the rule's does and the cost is at least 0.
 pub guard-with-cost : (r : Rule) (k : Term) (env : List ℤ) → GuardHolds env r.guard → pos 0 ≤ℤ value k env → GuardHolds env (cost_rule r k).guard
 guard-with-cost r k env g l =
     all-to (AtomHolds env) (cost_rule r k).guard
     (joined-hold (AtomHolds env) r.guard (Compare k AtLeast (Literal (pos 0)) ∷ []) (all-from (AtomHolds env) r.guard g) (l, tt))
 
--- a cost rule leads to the cost, and to nothing else
+-- A cost rule leads to the cost, and to nothing else.
 to-cost : (r : Rule) (k : Term) (c d : Config) (free : List ℤ) → Leads (cost_rule r k) c free d → LeadsToCost r k c free d
 to-cost r k c d free h =
     let env = c.values ++ free in
@@ -51,7 +51,7 @@ from-cost r k c d free h = record {
   values = h.cost;
 }
 
--- the only rule of a program of a cost has the number 1
+-- The only rule of a program of a cost has the number 1.
 only-rule : (s : Symbol) (r q : Rule) (k : Term) (n : ℕ) → rule_at (cost_program s r k) n ≡ Some q → (n ≡ 1) × (q ≡ cost_rule r k)
 only-rule s r q k zero e = cc
 only-rule s r q k (suc zero) e = (refl, same e)
@@ -75,19 +75,19 @@ step-of s r k c d t = (told, taken)
       leads = from-cost r k c d t.free h.1;
     }
 
--- the steps of a program of a cost
+-- The steps of a program of a cost are those that lead to the cost.
 pub steps-of : (p q : Program) (t : ℕ) (k : IsCostProgram p t q) (c d : Config) (s : Step)
     → IsStep q c s d ↔ ((s.rule ≡ 1) × LeadsToCost k.costs.rule k.costs.cost c s.free d)
 steps-of p q t k c d s =
     subst (λ (w : Program). IsStep w c s d ↔ ((s.rule ≡ 1) × LeadsToCost k.costs.rule k.costs.cost c s.free d)) (sym k.program)
     (step-of k.symbol k.costs.rule k.costs.cost c d s)
 
--- a nonnegative integer is its nonnegative part
+-- A nonnegative integer is its nonnegative part.
 counted : (z : ℤ) → pos 0 ≤ℤ z → pos (or_zero z) ≡ z
 counted (pos n) l = refl
 counted (negsuc n) l = absurd (omega (arith, ints, l))
 
--- a step is charged its cost
+-- A step of the program with a nonnegative cost leads to its cost in the cost's program.
 pub charged-of : (p q : Program) (t : ℕ) (k : IsCostProgram p t q) (c d : Config) (free : List ℤ)
     → IsStep p c (record { rule = t; free = free }) d → pos 0 ≤ℤ value k.costs.cost (c.values ++ free)
     → IsStep q (entering_cost c) (record { rule = 1; free = free }) (at_cost (pos (cost p t (c.values ++ free))))

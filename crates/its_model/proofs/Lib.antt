@@ -1,4 +1,4 @@
--- laws of valid programs, of steps in 128 bits and of their costs, and worked values
+-- Laws of valid programs, of steps in 128 bits and of their costs, and worked values.
 pub mod WorkedValues
 pub mod ListLaws
 pub mod ValidLaws
@@ -11,7 +11,7 @@ mod RuleLaws
 mod WorkedPrograms
 mod WorkedSteps
 mod WorkedCosts
--- the lemmas of the crates below, which callers name through this one
+-- The lemmas of the crates below, which callers name through this one.
 pub use Rattle.poly_terms.proofs.linear_forms
 pub use Rattle.poly_terms.proofs as poly_terms
 pub use Rattle.text_core.proofs as text_core

@@ -20,7 +20,7 @@ use Rattle.its_model.specs.Steps.{guard_fault, updates_fault, rule_fault, found_
 use Rattle.its_model.specs.Steps.{maximum_arity, StepsHaveNoFault}
 use Rattle.its_model.proofs.ListLaws.{all-to, all-from}
 
--- a value that is answered is the expression's, and nothing exceeds 128 bits
+-- If a value is returned, it is the expression's, and no intermediate value exceeds 128 bits.
 pub within-some : (u : Term) (env : List ℤ) (z : ℤ) → Some z ≡ value_within u env → (values_fit u env ≡ true) × (z ≡ value u env)
 within-some u env z e = go (values_fit u env) refl e
   where
@@ -28,7 +28,7 @@ within-some u env z e = go (values_fit u env) refl e
     go true f g = (f, cc)
     go false f g = cc
 
--- no value is answered where one exceeds 128 bits
+-- If no value is returned, some value exceeds 128 bits.
 pub within-none : (u : Term) (env : List ℤ) → None ≡ value_within u env → values_fit u env ≡ false
 within-none u env e = go (values_fit u env) refl e
   where
@@ -36,12 +36,12 @@ within-none u env e = go (values_fit u env) refl e
     go true f g = cc
     go false f g = f
 
--- where the first of two has no fault, the second decides
+-- If the first of two has no fault, neither has; the second is then reported.
 first-none : (f g : Option StepFault) → first_of f g ≡ None → (f ≡ None) × (g ≡ None)
 first-none None g h = (refl, h)
 first-none (Some f) g h = cc
 
--- integers that compare as equal are equal, and equal ones do
+-- Two integers compare as equal exactly if they are equal.
 equal-holds : (x y : ℤ) → int_eq x y ≡ true → x ≡ y
 equal-holds x y h = go (int_cmp x y) (int_ranked x y (int_cmp x y) refl) h
   where
@@ -58,7 +58,7 @@ equal-answers x y e = go (int_cmp x y) (int_ranked x y (int_cmp x y) refl)
     go Equal m = refl
     go Greater m = absurd (omega (arith, ints, m, e))
 
--- a relation that is answered holds
+-- If the test of a relation says that it holds, it does.
 related-holds : (r : Relation) (x y : ℤ) → is_related r x y ≡ true → Related r x y
 related-holds AtLeast x y h = grind (arith, ints)
 related-holds MoreThan x y h = grind (arith, ints)
@@ -66,7 +66,7 @@ related-holds AtMost x y h = grind (arith, ints)
 related-holds LessThan x y h = grind (arith, ints)
 related-holds EqualTo x y h = equal-holds x y h
 
--- one that holds is answered
+-- If a relation holds, its test says so.
 related-answers : (r : Relation) (x y : ℤ) → Related r x y → is_related r x y ≡ true
 related-answers AtLeast x y h = grind (arith, ints)
 related-answers MoreThan x y h = grind (arith, ints)
@@ -74,7 +74,7 @@ related-answers AtMost x y h = grind (arith, ints)
 related-answers LessThan x y h = grind (arith, ints)
 related-answers EqualTo x y h = equal-answers x y h
 
--- an atom without a fault holds, and nothing exceeds 128 bits
+-- An atom without a fault holds, and no value of it exceeds 128 bits.
 atom-holds : (env : List ℤ) (n : ℕ) (a : Atom) → atom_fault env n a ≡ None → AtomHolds env a × AtomFits env a
 atom-holds env n Always h = (tt, tt)
 atom-holds env n (Compare d r e) h = go (values_fit d env) (values_fit e env) (is_related r (value d env) (value e env)) refl refl refl h
@@ -94,7 +94,7 @@ atom-no_fault env n (Compare d r e) h f =
     ∙ (ap (λ (b : Bool). if b then (if is_related r (value d env) (value e env) then None else Some (AtomFails n)) else Some PastRange) f.1
     ∙ ap (λ (b : Bool). if b then None else Some (AtomFails n)) (related-answers r (value d env) (value e env) h))
 
--- if no atom has a fault, all of them hold
+-- If no atom has a fault, all of them hold.
 guard-holds : (env : List ℤ) (n : ℕ) (atoms : List Atom) → guard_fault env n atoms ≡ None → AllByRecursion (AtomHolds env) atoms × AllByRecursion (AtomFits env) atoms
 guard-holds env n [] h = (tt, tt)
 guard-holds env n (a ∷ atoms) h =
@@ -108,7 +108,7 @@ guard-no_fault env n [] h f = refl
 guard-no_fault env n (a ∷ atoms) h f =
     ap (λ (g : Option StepFault). first_of g (guard_fault env (suc n) atoms)) (atom-no_fault env n a h.0 f.0) ∙ guard-no_fault env (suc n) atoms h.1 f.1
 
--- updates have no fault exactly if their values are within 128 bits
+-- Updates have no fault exactly if their values are within 128 bits.
 updates-fit : (env : List ℤ) (us : List Term) → updates_fault env us ≡ None → AllByRecursion (λ u. values_fit u env ≡ true) us
 updates-fit env [] h = tt
 updates-fit env (u ∷ us) h = go (values_fit u env) refl h (updates-fit env us)
@@ -122,7 +122,7 @@ updates-no_fault : (env : List ℤ) (us : List Term) → AllByRecursion (λ u. v
 updates-no_fault env [] f = refl
 updates-no_fault env (u ∷ us) f = ap (λ (b : Bool). if b then updates_fault env us else Some PastRange) f.0 ∙ updates-no_fault env us f.1
 
--- the conditions that a rule without a fault meets
+-- The conditions that a rule without a fault meets.
 record Sound (r : Rule) (c : Config) (free : List ℤ) : Type 0 where
   source : c.at ≡ r.source
   free_ones : length free ≡ r.free
@@ -144,11 +144,11 @@ rule-sound r c free h = go (nat_eq c.at r.source) (nat_eq (length free) r.free) 
     go true false f g k = cc
     go false b f g k = cc
 
--- the rule that is found decides
+-- The fault of a step is that of the rule with its number.
 found : (p : Program) (c : Config) (s : Step) (r : Rule) → rule_at p s.rule ≡ Some r → step_fault p c s ≡ rule_fault r c s.free
 found p c s r e = ap (λ (o : Option Rule). found_fault o c s.free) e
 
--- a use of a rule has no fault exactly if it is a step within 128 bits
+-- A use of a rule has no fault exactly if it is a step within 128 bits.
 pub steps-have-no-fault : StepsHaveNoFault
 steps-have-no-fault = record { step = step; fits = fits; no_fault = no_fault }
   where
@@ -188,14 +188,14 @@ steps-have-no-fault = record { step = step; fits = fits; no_fault = no_fault }
         yes : (x y : ℕ) → x ≡ y → nat_eq x y ≡ true
         yes x y g = grind (arith, nat_tests)
 
--- a use without a fault reaches the configuration with the new values
+-- A use without a fault reaches the configuration with the new values.
 pub step-taken : (p : Program) (c d : Config) (s : Step) (r : Rule) → rule_at p s.rule ≡ Some r → (c.at ≡ r.source → length c.values ≡ r.left)
     → rule_fault r c s.free ≡ None → d.at ≡ r.target → d.values ≡ map (λ u. value u (c.values ++ s.free)) r.updates → IsStep p c s d
 step-taken p c d s r e l h a v =
     subst (IsStep p c s) (λ i. record { at = sym a i; values = sym v i })
     (steps-have-no-fault.step p c s r e (l (rule-sound r c s.free h).source) (found p c s r e ∙ h))
 
--- no symbol has more places than the maximum
+-- No symbol has more places than the maximum.
 pub arity-at-most : (symbols : List Symbol) (s : ℕ) → arity_in (slice_get symbols s) ≤ maximum_arity symbols
 arity-at-most [] s = omega arith
 arity-at-most (x ∷ symbols) zero = omega arith

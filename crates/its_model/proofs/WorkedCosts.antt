@@ -33,16 +33,16 @@ faults = record {
   not_of_rule_2 = λ h. let e = (costs-have-no-fault.no_fault (paying A) (standing_at 0 (pos 2) (pos 3)) (by_rule 2 [])).1 h in cc;
 }
 
--- the cost of a rule where there is one
+-- The cost of a rule, if there is one.
 abbrev cost_in : Option Rule → Option Term
 cost_in None = None
 cost_in (Some r) = r.cost
 
--- the cost of a rule that has one is that of the rule with its number
+-- The cost of a rule that has one is that of the rule with its number.
 cost-found : (p : Program) (t : ℕ) (h : HasCost p t) → cost_in (rule_at p t) ≡ Some h.cost
 cost-found p t h = ap cost_in h.numbered ∙ h.written
 
--- the first update of the first rule
+-- The first update of the first rule.
 abbrev update_of : List Rule → Option Term
 update_of [] = None
 update_of (r ∷ rs) = first r.updates
@@ -51,7 +51,7 @@ update_of (r ∷ rs) = first r.updates
     first [] = None
     first (u ∷ us) = Some u
 
--- in the program of a cost it is the cost
+-- In the program of a cost, the first update is the cost.
 update-is-cost : (p q : Program) (t : ℕ) → IsCostProgram p t q → update_of q.rules ≡ cost_in (rule_at p t)
 update-is-cost p q t k = ap (λ (w : Program). update_of w.rules) k.program ∙ sym (cost-found p t k.costs)
 
@@ -81,11 +81,11 @@ programs = record {
   itself = λ k. let e = update-is-cost (paying B) (paying B) 1 k in cc;
 }
 
--- A > B holds where it does
+-- The guard A > B holds if A > B does.
 guard-at : (x y : ℤ) → y <ℤ x → GuardHolds (x ∷ y ∷ []) (more_than_B ∷ [])
 guard-at x y l = All-cons (AtomHolds (x ∷ y ∷ [])) more_than_B [] l (All-nil (AtomHolds (x ∷ y ∷ [])))
 
--- the first value of a list
+-- The first value of a list.
 abbrev first_value : List ℤ → ℤ
 first_value [] = pos 0
 first_value (x ∷ xs) = x

@@ -10,7 +10,7 @@ use Rattle.its_model.specs.WorkedPrograms.{rule_with, rule_costing, starting_at,
 use Rattle.its_model.specs.WorkedPrograms.{LimitsAreKept}
 use Rattle.its_model.specs.WorkedPrograms.{DifferencesAreTaken, ProgramsAreWorkedOut}
 
--- the programs are valid, or not, as was worked out
+-- The worked values of the validity of programs hold.
 valid : ProgramsAreValid
 valid = record {
   small = record {
@@ -77,12 +77,12 @@ valid = record {
   no_rule = λ h. let e = h.start_is_source in cc;
 }
 
--- a property of an element holds of each of its copies
+-- A property of an element holds of each of its copies.
 copies : {X : Type 0} (P : X → Type 0) (n : ℕ) (x : X) → P x → AllByRecursion P (replicate n x)
 copies P zero x h = tt
 copies P (suc n) x h = (h, copies P n x h)
 
--- a rule of the program with l0 and l1, from l0(A, B) to l1(A)
+-- A rule of the program with l0 and l1, from l0(A, B) to l1(A), is valid.
 plain_rule : (rules : List Rule) (guard : List Atom) → length guard + 0 ≤ 64 → AllByRecursion (IsValidAtom 2) guard → IsValidRule (starting_at 0 rules) (rule_with (Variable 0 ∷ []) guard)
 plain_rule rules guard few each = record {
   source = omega arith;
@@ -99,7 +99,7 @@ plain_rule rules guard few each = record {
   cost = tt;
 }
 
--- a rule of that program with a cost, from l0(A, B) to l1(A)
+-- A rule of that program with a cost, from l0(A, B) to l1(A), is valid.
 costing_rule : (c : Term) (guard : List Atom) → length guard + 1 ≤ 64 → AllByRecursion (IsValidAtom 2) guard → IsValidTerm 2 c → IsValidRule (starting_at 0 []) (rule_costing c guard)
 costing_rule c guard few each valid = record {
   source = omega arith;
@@ -116,7 +116,7 @@ costing_rule c guard few each valid = record {
   cost = valid;
 }
 
--- the parts of rules, symbols and starts
+-- The worked values of rules, symbols and starts hold.
 parts : PartsAgree
 parts = record {
   free_variable = record {
@@ -173,7 +173,7 @@ parts = record {
   same_start_names = λ h. let e = h.start_distinct.0 in cc;
 }
 
--- the limits
+-- The worked values of the limits hold.
 limits : LimitsAreKept
 limits = record {
   places = record { name = (refl, refl); arity = omega arith };
@@ -199,7 +199,7 @@ limits = record {
   more_variables = λ names h. absurd (let l = h.few_variables in omega (arith, l));
 }
 
--- differences are taken as was worked out
+-- The worked values of differences hold.
 differences : DifferencesAreTaken
 differences = record { at_least = refl; more_than = refl; at_most = refl; less_than = refl; equal_to = refl }
 

@@ -11,22 +11,22 @@ use Rattle.its_model.specs.Views.{name_of, atom_of, symbol_of, rule_of, program_
 use Rattle.its_model.specs.Worked.{GuardsAreRead, ProgramsAreRead, RunsAreRead, IsSymbol, AreSpelled, IsFirstRule}
 use Rattle.its_model.specs.Worked.{first_rule, IsSecondRule, second_rule, IsWorkedProgram, worked_program}
 
--- relations and atoms are read as was worked out
+-- The worked values of relations and atoms hold.
 pub guards : GuardsAreRead
 guards = record { at_least = refl; more_than = refl; at_most = refl; less_than = refl; equal_to = refl; always = refl; with_literal = refl; with_variables = refl }
 
--- names that have these bytes are read as them
+-- Names that have these bytes are these plain names.
 names_read : (ns : List Name) (all : List plain.Name) → AreSpelled ns all → map name_of ns ≡ all
 names_read [] [] h = refl
 names_read [] (bytes ∷ more) h = absurd h
 names_read (n ∷ ns) [] h = absurd h
 names_read (n ∷ ns) (bytes ∷ more) h = λ i. h.0 i ∷ names_read ns more h.1 i
 
--- a symbol is read with its name and its places
+-- A symbol with these bytes and places is this plain symbol.
 symbol_read : (bytes : plain.Name) (places : ℕ) (s : Symbol) → IsSymbol bytes places s → symbol_of s ≡ record { name = bytes; arity = places }
 symbol_read bytes places s h = λ i. record { name = h.named i; arity = h.arity i }
 
--- the first rule is read with all its parts
+-- The first rule as plain data.
 first_read : (r : Rule) → IsFirstRule r → rule_of r ≡ first_rule
 first_read r h = λ i. record {
   source = h.source i;
@@ -39,7 +39,7 @@ first_read r h = λ i. record {
   cost = ap (option_map term_of) h.cost i;
 }
 
--- the second rule as plain data
+-- The second rule as plain data.
 second_read : (r : Rule) → IsSecondRule r → rule_of r ≡ second_rule
 second_read r h = λ i. record {
   source = h.source i;
@@ -52,7 +52,7 @@ second_read r h = λ i. record {
   cost = ap (option_map term_of) h.cost i;
 }
 
--- the program as plain data
+-- The program as plain data.
 program_read : (p : Program) → IsWorkedProgram p → program_of p ≡ worked_program
 program_read p w = λ i. record {
   symbols = symbols i;
@@ -67,11 +67,11 @@ program_read p w = λ i. record {
     rules : map rule_of p.rules.items ≡ worked_program.rules
     rules = ap (map rule_of) w.rules ∙ (λ i. first_read w.one w.one_is i ∷ second_read w.two w.two_is i ∷ [])
 
--- symbols, rules and programs are read as was worked out
+-- The worked values of symbols, rules and programs hold.
 pub programs : ProgramsAreRead
 programs = record { symbol = symbol_read _ _; rule = first_read; bare_rule = second_read; program = program_read }
 
--- configurations and steps are read as was worked out
+-- The worked values of configurations and steps hold.
 pub runs : RunsAreRead
 runs = record {
   config = λ c a v. λ i. record { at = a i; values = v i };

@@ -6,34 +6,34 @@ use Rattle.poly_terms.specs.model.Runs.{Config, Step}
 use Rattle.poly_terms.specs.Checked.{values_fit}
 use Rattle.its_model.specs.Steps.{StepFault, OtherRule, PastRange, step_fault}
 
--- the fault of a written cost: some value of it exceeds 128 bits
+-- The fault of a written cost: some value of it exceeds 128 bits.
 abbrev pub written_fault : Option Term → List ℤ → Option StepFault
 written_fault None env = None
 written_fault (Some c) env = if values_fit c env then None else Some PastRange
 
--- the fault of the cost of a use of a rule; whether the guard holds doesn't matter
+-- The fault of the cost of a use of a rule; whether the guard holds doesn't matter.
 abbrev pub rule_cost_fault : Rule → Config → List ℤ → Option StepFault
 rule_cost_fault r c free =
     if nat_eq c.at r.source && nat_eq (length free) r.free
     then written_fault r.cost (c.values ++ free)
     else Some OtherRule
 
--- the fault of a use's cost, if there is such a rule
+-- The fault of the cost of a use of a rule that may not exist.
 abbrev pub found_cost_fault : Option Rule → Config → List ℤ → Option StepFault
 found_cost_fault None c free = Some OtherRule
 found_cost_fault (Some r) c free = rule_cost_fault r c free
 
--- the fault of the cost of a step of a program from a configuration
+-- The fault of the cost of a step of a program from a configuration.
 abbrev pub cost_fault : Program → Config → Step → Option StepFault
 cost_fault p c s = found_cost_fault (rule_at p s.rule) c s.free
 
--- no value of a cost exceeds 128 bits
+-- No value of a cost exceeds 128 bits.
 abbrev pub CostFits : List ℤ → Option Term → Type 0
 CostFits env None = ⊤
 CostFits env (Some c) = values_fit c env ≡ true
 
--- the rule exists, leaves the configuration's symbol, has this many free variables, and no value of its cost exceeds
--- 128 bits
+-- The rule exists, leaves the configuration's symbol, has this many free variables, and no value of its cost exceeds
+-- 128 bits.
 pub record HasFittingCost (p : Program) (c : Config) (s : Step) : Type 0 where
   pub rule : Rule
   pub numbered : rule_at p s.rule ≡ Some rule
@@ -41,8 +41,8 @@ pub record HasFittingCost (p : Program) (c : Config) (s : Step) : Type 0 where
   pub free_ones : length s.free ≡ rule.free
   pub fits : CostFits (c.values ++ s.free) rule.cost
 
--- the cost of a use of a rule has no fault exactly if it is one of the rule whose cost fits, and it is no use of the
--- rule exactly if it would be none as a step
+-- The cost of a use of a rule has no fault exactly if the use is one of the rule and its cost fits; and the use is none
+-- of the rule exactly if it would be none as a step.
 pub record CostsHaveNoFault : Type 0 where
   pub no_fault : (p : Program) (c : Config) (s : Step) → (cost_fault p c s ≡ None) ↔ HasFittingCost p c s
   pub other_rule : (p : Program) (c : Config) (s : Step) → (cost_fault p c s ≡ Some OtherRule)

@@ -5,15 +5,15 @@ pub mod Steps
 pub mod StepAnswers
 pub mod Costs
 pub mod CostPrograms
--- laws, and values that were worked out by hand
+-- Laws and worked values.
 pub mod Worked
 pub mod ValidLaws
 pub mod WorkedPrograms
 pub mod WorkedSteps
 pub mod WorkedCosts
--- the machinery of the functions inside and of the proofs
+-- The definitions for the inner functions and the proofs.
 pub mod Steppable
--- the crates below, which callers name through this one
+-- The crates below, which callers name through this one.
 pub use Rattle.poly_terms.specs.model
 pub use Rattle.poly_terms.specs.int_laws
 pub use Rattle.poly_terms.specs.linear_forms

@@ -5,19 +5,19 @@ use Rattle.its_model.specs.declared.step_error.StepError.{StepError}
 use Rattle.its_model.specs.declared.step_error.StepError.TheVariants as code
 use Rattle.its_model.specs.Steps.{StepFault, OtherRule, AtomFails, PastRange, is_related}
 
--- an error as the fault that it names
+-- The fault that an error names.
 abbrev pub fault_of : StepError → StepFault
 fault_of code.WrongRule = OtherRule
 fault_of (code.GuardFails atom) = AtomFails atom
 fault_of code.PassedRange = PastRange
 
--- the fault of a comparison with a number, where a side without a value exceeds 128 bits
+-- The fault of a comparison with a number; a side without a value exceeds 128 bits.
 abbrev pub comparison_fault : Option ℤ → Relation → Option ℤ → ℕ → Option StepFault
 comparison_fault (Some x) r (Some y) n = if is_related r x y then None else Some (AtomFails n)
 comparison_fault (Some x) r None n = Some PastRange
 comparison_fault None r y n = Some PastRange
 
--- the answer is that fault
+-- The answer is that fault.
 abbrev pub ComparisonError : Option StepError → Option ℤ → Relation → Option ℤ → ℕ → Type 0
 ComparisonError result x r y n = MatchOption result (comparison_fault x r y n ≡ None) (λ e. comparison_fault x r y n
     ≡ Some (fault_of e))

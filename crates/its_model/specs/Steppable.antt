@@ -7,7 +7,7 @@ use Rattle.its_model.specs.declared.program.Rule.{Rule}
 use Rattle.its_model.specs.Valid.{IsValidAtom, IsValidTerm}
 use Rattle.its_model.specs.Views.{atom_of}
 
--- a rule's guard and updates read its own variables and can be expanded, and its guard has at most 64 atoms
+-- A rule's guard and updates read its own variables and can be expanded, and its guard has at most 64 atoms.
 pub record IsSteppable (r : Rule) : Type 0 where
   pub few : length r.guard.items ≤ atom_limit
   pub guard : AllByRecursion (IsValidAtom (r.left + r.free)) (map atom_of r.guard.items)

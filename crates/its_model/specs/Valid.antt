@@ -10,8 +10,8 @@ use Rattle.poly_terms.specs.Checked.{ReadsBelow}
 use Rattle.poly_terms.specs.Faults.{first_fault}
 use Rattle.text_core.specs.Names.{IsName, AreDistinct}
 
--- the difference of a comparison, which is at least 0 exactly if the comparison holds: over integers x > y is
--- x - y - 1 >= 0; that of an equation is its left side less its right one, which has to be 0
+-- The difference of a comparison, which is at least 0 exactly if the comparison holds: over integers, x > y is x - y -
+-- 1 >= 0. That of an equation is its left side minus its right one, which has to be 0.
 abbrev pub difference_of : Term → Relation → Term → Term
 difference_of d AtLeast e = Subtraction d e
 difference_of d MoreThan e = Subtraction (Subtraction d e) (Literal (pos 1))
@@ -19,40 +19,40 @@ difference_of d AtMost e = Subtraction e d
 difference_of d LessThan e = Subtraction (Subtraction e d) (Literal (pos 1))
 difference_of d EqualTo e = Subtraction d e
 
--- an expression over the variables below n can be expanded
+-- An expression over the variables below n can be expanded.
 pub record IsValidTerm (n : ℕ) (t : Term) : Type 0 where
   pub variables : ReadsBelow n t
   pub expands : first_fault t ≡ None
 
--- a comparison over the variables below n, whose difference can be expanded
+-- A comparison is over the variables below n, and its difference can be expanded.
 pub record IsValidComparison (n : ℕ) (d : Term) (r : Relation) (e : Term) : Type 0 where
   pub left : ReadsBelow n d
   pub right : ReadsBelow n e
   pub expands : first_fault (difference_of d r e) ≡ None
 
--- an atom is the one that always holds, or a valid comparison
+-- An atom is the one that always holds, or a valid comparison.
 abbrev pub IsValidAtom : ℕ → Atom → Type 0
 IsValidAtom n Always = ⊤
 IsValidAtom n (Compare d r e) = IsValidComparison n d r e
 
--- a cost, where one is written, is an expression that can be expanded
+-- A cost annotation, if there is one, is an expression that can be expanded.
 abbrev pub IsValidCost : ℕ → Option Term → Type 0
 IsValidCost n None = ⊤
 IsValidCost n (Some c) = IsValidTerm n c
 
--- a cost that is written counts as one atom
+-- A cost annotation counts as one atom.
 abbrev pub cost_atoms : Option Term → ℕ
 cost_atoms None = 0
 cost_atoms (Some c) = 1
 
--- a symbol has a name, and at most 32 places
+-- A symbol has a name, and at most 32 places.
 pub record IsValidSymbol (s : Symbol) : Type 0 where
   pub name : IsName s.name
   pub arity : s.arity ≤ place_limit
 
--- a rule leads from one symbol of the program to another; it has a left variable for each place of the source, an
+-- A rule leads from one symbol of the program to another; it has a left variable for each place of the source, an
 -- update for each place of the target, distinct names for all its variables, at most 64 of them, and at most 64 atoms,
--- where its cost counts as one
+-- of which its cost counts as one.
 pub record IsValidRule (p : Program) (r : Rule) : Type 0 where
   pub source : r.source < length p.symbols
   pub target : r.target < length p.symbols
@@ -67,8 +67,8 @@ pub record IsValidRule (p : Program) (r : Rule) : Type 0 where
   pub guard : AllByRecursion (IsValidAtom (r.left + r.free)) r.guard
   pub cost : IsValidCost (r.left + r.free) r.cost
 
--- a program is valid: at most 1,000 rules, which are valid as are the symbols; names differ; and the start symbol is
--- the source of some rule and has a name for each of its places
+-- A program is valid: it has at most 1,000 rules; its rules and symbols are valid; the names of the symbols differ; and
+-- the start symbol is the source of some rule and has a name for each of its places.
 pub record IsValid (p : Program) : Type 0 where
   pub symbols : AllByRecursion IsValidSymbol p.symbols
   pub distinct : AreDistinct (map (λ s. s.name) p.symbols)

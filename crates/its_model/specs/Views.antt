@@ -15,7 +15,7 @@ use Rattle.its_model.specs.declared.program.Program.{Program}
 use Rattle.its_model.specs.declared.run.Config.{Config}
 use Rattle.its_model.specs.declared.run.Step.{Step}
 
--- a relation as plain data
+-- A relation as plain data.
 abbrev pub relation_of : Rel → plain.Relation
 relation_of Ge = AtLeast
 relation_of Gt = MoreThan
@@ -23,16 +23,16 @@ relation_of Le = AtMost
 relation_of Lt = LessThan
 relation_of Eq = EqualTo
 
--- an atom as plain data
+-- An atom as plain data.
 abbrev pub atom_of : Atom → plain.Atom
 atom_of Always = plain.Always
 atom_of (Compare l r q) = plain.Compare (term_of l) (relation_of r) (term_of q)
 
--- a symbol as plain data
+-- A symbol as plain data.
 abbrev pub symbol_of : Symbol → plain.Symbol
 symbol_of s = record { name = name_of s.name; arity = s.arity }
 
--- a rule as plain data
+-- A rule as plain data.
 abbrev pub rule_of : Rule → plain.Rule
 rule_of r = record {
   source = r.source;
@@ -45,7 +45,7 @@ rule_of r = record {
   cost = option_map term_of r.cost;
 }
 
--- a program as plain data
+-- A program as plain data.
 abbrev pub program_of : Program → plain.Program
 program_of p = record {
   symbols = map symbol_of p.symbols.items;
@@ -54,10 +54,10 @@ program_of p = record {
   rules = map rule_of p.rules.items;
 }
 
--- a configuration as plain data
+-- A configuration as plain data.
 abbrev pub config_of : Config → runs.Config
 config_of c = record { at = c.at; values = c.values.items }
 
--- a step as plain data
+-- A step as plain data.
 abbrev pub step_of : Step → runs.Step
 step_of s = record { rule = s.rule; free = s.free.items }

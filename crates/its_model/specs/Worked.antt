@@ -14,38 +14,39 @@ use Rattle.its_model.specs.declared.run.Config.{Config}
 use Rattle.its_model.specs.declared.run.Step.{Step}
 use Rattle.its_model.specs.Views.{relation_of, atom_of, symbol_of, rule_of, program_of, config_of, step_of}
 
--- the name with one byte
+-- The name with one byte.
 abbrev pub letter : ℕ → plain.Name
 letter b = b ∷ []
 
--- how relations and atoms are read
+-- Worked values of relations and atoms as plain data.
 pub record GuardsAreRead : Type 0 where
-  -- `>=` is at least, `>` more than, `<=` at most, `<` less than, and `=` equal to
+  -- `>=` is at least, `>` more than, `<=` at most, `<` less than, and `=` equal to.
   pub at_least : relation_of Ge ≡ AtLeast
   pub more_than : relation_of Gt ≡ MoreThan
   pub at_most : relation_of Le ≡ AtMost
   pub less_than : relation_of Lt ≡ LessThan
   pub equal_to : relation_of Eq ≡ EqualTo
-  -- `TRUE` is the atom that always holds
+  -- `TRUE` is the atom that always holds.
   pub always : atom_of Always ≡ plain.Always
-  -- sides of a comparison are not swapped: `A >= -3`, and `B < A` with B numbered 1 and A numbered 0
+  -- Sides of a comparison are not swapped: `A >= -3`, and `B < A` with B numbered 1 and A numbered 0.
   pub with_literal : atom_of (Compare (Var 0) Ge (Num (negsuc 2)))
       ≡ plain.Compare (Variable 0) AtLeast (Literal (negsuc 2))
   pub with_variables : atom_of (Compare (Var 1) Lt (Var 0)) ≡ plain.Compare (Variable 1) LessThan (Variable 0)
 
--- the symbol has a name with these bytes, and this many places
+-- The symbol has a name with these bytes, and this many places.
 pub record IsSymbol (bytes : plain.Name) (places : ℕ) (s : Symbol) : Type 0 where
   pub named : s.name.bytes.items ≡ bytes
   pub arity : s.arity ≡ places
 
--- the names have these bytes, one by one
+-- The names have these bytes, one by one.
 abbrev pub AreSpelled : List Name → List plain.Name → Type 0
 AreSpelled [] [] = ⊤
 AreSpelled [] (bytes ∷ more) = ⊥
 AreSpelled (n ∷ ns) [] = ⊥
 AreSpelled (n ∷ ns) (bytes ∷ more) = (n.bytes.items ≡ bytes) × AreSpelled ns more
 
--- the rule is f(A, B, C) -{C}> h(B, E) where TRUE and A >= D, with f numbered 0 and h numbered 1; D and E are free
+-- The rule is f(A, B, C) -{C}> h(B, E) with the guard TRUE and A >= D, with f numbered 0 and h numbered 1; D and E are
+-- free.
 pub record IsFirstRule (r : Rule) : Type 0 where
   pub source : r.source ≡ 0
   pub target : r.target ≡ 1
@@ -56,7 +57,7 @@ pub record IsFirstRule (r : Rule) : Type 0 where
   pub guard : r.guard.items ≡ Always ∷ Compare (Var 0) Ge (Var 3) ∷ []
   pub cost : r.cost ≡ Some (Var 2)
 
--- this rule as plain data
+-- This rule as plain data.
 abbrev pub first_rule : plain.Rule
 first_rule = record {
   source = 0;
@@ -69,7 +70,7 @@ first_rule = record {
   cost = Some (Variable 2);
 }
 
--- the rule is g(X, Y) -> h(Y, 7), with g numbered 2; it has no guard and no cost
+-- The rule is g(X, Y) -> h(Y, 7), with g numbered 2; it has no guard and no cost.
 pub record IsSecondRule (r : Rule) : Type 0 where
   pub source : r.source ≡ 2
   pub target : r.target ≡ 1
@@ -80,7 +81,7 @@ pub record IsSecondRule (r : Rule) : Type 0 where
   pub guard : r.guard.items ≡ []
   pub cost : r.cost ≡ None
 
--- this rule as plain data
+-- This rule as plain data.
 abbrev pub second_rule : plain.Rule
 second_rule = record {
   source = 2;
@@ -93,7 +94,7 @@ second_rule = record {
   cost = None;
 }
 
--- the program has the symbols f, h and g with three, two and two places, these two rules, and starts at g(X, Y)
+-- The program has the symbols f, h and g with three, two and two places and these two rules, and starts at g(X, Y).
 pub record IsWorkedProgram (p : Program) : Type 0 where
   pub f : Symbol
   pub h : Symbol
@@ -110,7 +111,7 @@ pub record IsWorkedProgram (p : Program) : Type 0 where
   pub start_names : AreSpelled p.start_names.items (letter 88 ∷ letter 89 ∷ [])
   pub rules : p.rules.items ≡ one ∷ two ∷ []
 
--- this program as plain data
+-- This program as plain data.
 abbrev pub worked_program : plain.Program
 worked_program = record {
   symbols = record { name = letter 102; arity = 3 } ∷ record { name = letter 104; arity = 2 }
@@ -120,28 +121,28 @@ worked_program = record {
   rules = first_rule ∷ second_rule ∷ [];
 }
 
--- how symbols, rules and programs are read, wherever their parts lie in memory
+-- Worked values of symbols, rules and programs as plain data, wherever their parts lie in memory.
 pub record ProgramsAreRead : Type 0 where
-  -- a symbol keeps its name and its number of places: `f1` with three
+  -- A symbol keeps its name and its number of places: `f1` with three.
   pub symbol : (s : Symbol) → IsSymbol (102 ∷ 49 ∷ []) 3 s → symbol_of s ≡ record { name = 102 ∷ 49 ∷ []; arity = 3 }
-  -- a rule keeps its two symbols, its numbers of left and of free variables, its names, updates and atoms in order, and
-  -- its cost
+  -- A rule keeps its two symbols, its numbers of left and free variables, its names, updates and atoms in order, and
+  -- its cost.
   pub rule : (r : Rule) → IsFirstRule r → rule_of r ≡ first_rule
-  -- a rule without a guard gets none, and one without a cost gets none
+  -- A rule without a guard gets none, and one without a cost gets none.
   pub bare_rule : (r : Rule) → IsSecondRule r → rule_of r ≡ second_rule
-  -- a program keeps its start, and its symbols, start names and rules in order
+  -- A program keeps its start, and its symbols, start names and rules in order.
   pub program : (p : Program) → IsWorkedProgram p → program_of p ≡ worked_program
 
--- how configurations and steps are read, wherever their values lie in memory
+-- Worked values of configurations and steps as plain data, wherever their values lie in memory.
 pub record RunsAreRead : Type 0 where
-  -- a configuration keeps its symbol, and its values in order: the symbol 2 with 5 and -2
+  -- A configuration keeps its symbol, and its values in order: the symbol 2 with 5 and -2.
   pub config : (c : Config) → c.at ≡ 2 → c.values.items ≡ pos 5 ∷ negsuc 1 ∷ []
       → config_of c ≡ record { at = 2; values = pos 5 ∷ negsuc 1 ∷ [] }
-  -- a step keeps its rule, and the values of the free variables in order: rule 1 with -3 and 4
+  -- A step keeps its rule, and the values of the free variables in order: rule 1 with -3 and 4.
   pub step : (s : Step) → s.rule ≡ 1 → s.free.items ≡ negsuc 2 ∷ pos 4 ∷ []
       → step_of s ≡ record { rule = 1; free = negsuc 2 ∷ pos 4 ∷ [] }
 
--- all of it
+-- All worked values of plain data.
 pub record WorkedValues : Type 0 where
   pub guards : GuardsAreRead
   pub programs : ProgramsAreRead

@@ -10,7 +10,7 @@ use poly_terms::{Expr, Memory};
 use std::alloc::Global;
 use text_core::Name;
 
-// A name.
+// A copy of a name.
 fn copied_name(alloc: Global, name: &Name) -> Result<Name, Memory>
     ensures { IfOk result (λ n. name_of n ≡ name_of name.now) }
 {
@@ -19,7 +19,7 @@ fn copied_name(alloc: Global, name: &Name) -> Result<Name, Memory>
     })
 }
 
-// Names, in order.
+// Copies of names, in order.
 pub(crate) fn copied_names(alloc: Global, names: &[Name]) -> Result<Vec<Name>, Memory>
     ensures { IfOk result (λ copies. map name_of copies.items ≡ map name_of names.now) }
 {
@@ -30,11 +30,11 @@ pub(crate) fn copied_names(alloc: Global, names: &[Name]) -> Result<Vec<Name>, M
     Ok(copies)
 }
 
-/// The names of a rule's left variables, in order.
+/// Copies of the names of a rule's left variables, in order.
 ///
 /// # Errors
 ///
-/// `Memory` where an allocation fails.
+/// `Memory` if an allocation fails.
 pub fn left_names(alloc: Global, rule: &Rule) -> Result<Vec<Name>, Memory>
     ensures { IfOk result (λ names. map name_of names.items ≡ take rule.now.left (map name_of rule.now.names.items)) }
 {
@@ -43,7 +43,7 @@ pub fn left_names(alloc: Global, rule: &Rule) -> Result<Vec<Name>, Memory>
     Ok(names)
 }
 
-// An expression.
+// A copy of an expression.
 #[cycle(copied)]
 pub(crate) fn copied_expr(alloc: Global, e: &Expr) -> Result<Expr, Memory>
     ensures { IfOk result (λ t. term_of t ≡ term_of e.now) }
@@ -59,7 +59,7 @@ pub(crate) fn copied_expr(alloc: Global, e: &Expr) -> Result<Expr, Memory>
     }
 }
 
-// A copy in a box.
+// A copy of an expression in a box.
 #[cycle(copied)]
 fn boxed(alloc: Global, e: &Expr) -> Result<Box<Expr>, Memory>
     ensures { IfOk result (λ b. term_of b.value ≡ term_of e.now) }
@@ -67,7 +67,7 @@ fn boxed(alloc: Global, e: &Expr) -> Result<Box<Expr>, Memory>
     Ok(Box::new(alloc, copied_expr(alloc, e)?)?)
 }
 
-// A symbol.
+// A copy of a symbol.
 pub(crate) fn copied_symbol(alloc: Global, symbol: &Symbol) -> Result<Symbol, Memory>
     ensures { IfOk result (λ s. symbol_of s ≡ symbol_of symbol.now) }
 {
@@ -77,7 +77,7 @@ pub(crate) fn copied_symbol(alloc: Global, symbol: &Symbol) -> Result<Symbol, Me
     })
 }
 
-// An atom.
+// A copy of an atom.
 fn copied_atom(alloc: Global, atom: &Atom) -> Result<Atom, Memory>
     ensures { IfOk result (λ a. atom_of a ≡ atom_of atom.now) }
 {
@@ -91,7 +91,7 @@ fn copied_atom(alloc: Global, atom: &Atom) -> Result<Atom, Memory>
     }
 }
 
-// Atoms, in order.
+// Copies of atoms, in order.
 pub(crate) fn copied_atoms(alloc: Global, atoms: &[Atom]) -> Result<Vec<Atom>, Memory>
     ensures { IfOk result (λ copies. map atom_of copies.items ≡ map atom_of atoms.now) }
 {

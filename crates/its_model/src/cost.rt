@@ -17,13 +17,13 @@ use crate::step::rule_position;
 use crate::step_error::StepError;
 use poly_terms::{Expr, value_in_parts};
 
-/// The cost of a use of a rule: the value of the rule's cost at the values before the step, or 0 where that is
-/// negative; 1 where the rule has no cost. Whether the guard holds doesn't matter. It allocates no memory.
+/// The cost of a use of a rule: the value of the rule's cost annotation at the values before the step, or 0 if that is
+/// negative; 1 if the rule has no annotation. Whether the guard holds doesn't matter. It allocates no memory.
 ///
 /// # Errors
 ///
-/// `WrongRule` where there is no such rule, it leaves another symbol, or it has another number of free variables;
-/// `PassedRange` where a value of the cost exceeds 128 bits; never `GuardFails`.
+/// `WrongRule` if there is no such rule, it leaves another symbol, or it has another number of free variables;
+/// `PassedRange` if a value of the cost exceeds 128 bits; never `GuardFails`.
 pub fn cost_checked(p: &Program, now: &Config, step: &Step) -> Result<u128, StepError>
     requires valid { IsValid (program_of p.now) }
     requires places { length now.now.values.items ≡ arity_of (program_of p.now) now.now.at }
@@ -59,7 +59,7 @@ fn cost_by(rule: &Rule, now: &Config, free: &[i128]) -> Result<u128, StepError>
     }
 }
 
-// The value of a cost, or `None` where a value in it exceeds 128 bits.
+// The value of a cost, or `None` if a value in it exceeds 128 bits.
 fn cost_in_parts(cost: &Option<Expr>, left: &[i128], free: &[i128]) -> Option<u128>
     requires { IsValidCost (length left.now + length free.now) (option_map term_of cost.now) }
     ensures fault { MatchOption result
@@ -74,7 +74,7 @@ fn cost_in_parts(cost: &Option<Expr>, left: &[i128], free: &[i128]) -> Option<u1
     }
 }
 
-// The integer, or 0 where it is negative.
+// The integer, or 0 if it is negative.
 fn or_zero(z: i128) -> u128
     ensures { result ≡ or_zero_of z }
 {

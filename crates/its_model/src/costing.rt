@@ -15,13 +15,14 @@ use poly_terms::{Expr, Memory};
 use std::alloc::Global;
 use text_core::Name;
 
-/// The program of the cost of the rule with this number, which must have a cost. Its only rule leaves the rule's
-/// source, where the program starts, has the rule's variables and its guard with the atom that the cost is at least 0,
-/// and leads to the cost as the only value of a symbol named `$`, or `$$` where the source is called `$`.
+/// The program of the cost of the rule with this number, which must have a cost. The program has one rule: it leaves
+/// the given rule's source, where the program starts, has the given rule's variables and its guard with the atom that
+/// the cost is at least 0, and leads to the cost as the only value of a symbol named `$`, or `$$` if the source is
+/// called `$`.
 ///
 /// # Errors
 ///
-/// `Memory` where an allocation fails.
+/// `Memory` if an allocation fails.
 pub fn cost_program(alloc: Global, p: &Program, rule: u32) -> Result<Program, Memory>
     requires valid { IsValid (program_of p.now) }
     requires costs { HasCost (program_of p.now) rule }
@@ -56,7 +57,7 @@ fn program_from(alloc: Global, source: &Symbol, rule: &Rule, cost: &Expr) -> Res
     })
 }
 
-// The name of the symbol that is reached, by that of the one that is left.
+// The name of the target symbol, by that of the source.
 fn target_name(alloc: Global, source: &Name) -> Result<Name, Memory>
     ensures { IfOk result (λ n. name_of n ≡ cost_name (name_of source.now)) }
 {
@@ -92,8 +93,8 @@ fn rule_from(alloc: Global, rule: &Rule, cost: &Expr) -> Result<Rule, Memory>
     })
 }
 
-/// The program of a cost is valid where the program is, and its only rule leads to the cost of each step whose cost
-/// isn't negative, and nowhere else. The function has no code: its contract is the law.
+/// The program of a cost is valid if the given program is, and its only rule leads to the cost of each step whose cost
+/// isn't negative, and to nothing else. The function has no code: its contract is the law.
 pub fn cost_programs_tell_costs()
     ensures { CostProgramsTellCosts }
 {}

@@ -12,12 +12,12 @@ pub fn worked_values_hold()
     ensures { WorkedValues }
 {}
 
-/// Worked values of which programs are valid, and of the differences of comparisons.
+/// Worked values of the validity of programs, and of the differences of comparisons.
 pub fn programs_are_worked_out()
     ensures { ProgramsAreWorkedOut }
 {}
 
-/// Worked values of the faults of steps, and of which one is reported.
+/// Worked values of the faults of steps, and of the order in which they are reported.
 pub fn steps_are_worked_out()
     ensures { StepsAreWorkedOut }
 {}

@@ -19,9 +19,9 @@ pub struct Rule {
     pub source: u32,
     /// The number of the symbol that a step by this rule reaches.
     pub target: u32,
-    /// How many left variables there are.
+    /// The number of left variables.
     pub left: u32,
-    /// How many free variables there are.
+    /// The number of free variables.
     pub free: u32,
     /// The names of the variables, one each.
     pub names: Vec<Name>,
@@ -29,7 +29,7 @@ pub struct Rule {
     pub updates: Vec<Expr>,
     /// The atoms that have to hold.
     pub guard: Vec<Atom>,
-    /// What a step costs, over the values before it; none where it costs 1.
+    /// The cost of a step, over the values before it; a rule without one costs 1.
     pub cost: Option<Expr>,
 }
 

@@ -148,7 +148,7 @@ fn atom_error(atom: &Atom, number: u32, left: &[i128], free: &[i128]) -> Option<
     }
 }
 
-// The fault of a comparison with a number, by the values of its sides where these are within 128 bits.
+// The fault of a comparison with a number, by the values of its sides; a side without a value exceeds 128 bits.
 fn comparison_error(x: Option<i128>, rel: Rel, y: Option<i128>, number: u32) -> Option<StepError>
     ensures { ComparisonError result x (relation_of rel) y number }
 {
@@ -197,7 +197,7 @@ fn update(updates: &[Expr], left: &[i128], free: &[i128], values: &mut Vec<i128>
     true
 }
 
-// Appends a value where there is room for it.
+// Appends a value if there is room for it.
 fn put(values: &mut Vec<i128>, z: i128)
     requires { vec_len values.old < vec_capacity values.old }
     ensures items { values.new.items ≡ values.old.items ++ z ∷ [] }
@@ -206,8 +206,8 @@ fn put(values: &mut Vec<i128>, z: i128)
     let _ = values.push(z);
 }
 
-/// For a configuration with a value for each left variable, a use of a rule has no fault exactly if it is a step and
-/// no value exceeds 128 bits on the way. The function has no code: its contract is the law.
+/// For a configuration with a value for each left variable, a use of a rule has no fault exactly if it is a step and no
+/// intermediate value exceeds 128 bits. The function has no code: its contract is the law.
 pub fn steps_have_no_fault()
     ensures { StepsHaveNoFault }
 {}

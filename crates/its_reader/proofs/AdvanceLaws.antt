@@ -10,11 +10,11 @@ use Rattle.text_core.specs.Names.{is_same, is_among}
 use Rattle.its_text.specs.expr_text.Pieces as inner
 use Rattle.expr_reader.specs.Variables.{names_in}
 use Rattle.its_text.specs.Pieces.{Piece, In, Disjoining, Strange}
-use Rattle.its_text.specs.Fronts as fronts
+use Rattle.its_text.specs.Fronts as grammar_states
 use Rattle.its_text.specs.Fronts.{Front, Ruling, Headed}
 use Rattle.its_text.specs.expr_text.GuardFronts.{GuardFront}
 use Rattle.its_text.specs.Steps.{step}
-use Rattle.its_text.specs.FrontFaults.{Tokens, left_wanted, left_break_kind, break_kind_at}
+use Rattle.its_text.specs.StateFaults.{Tokens, left_wanted, left_break_kind, break_kind_at}
 use Rattle.its_reader.specs.Tests as tests
 use Rattle.its_reader.specs.Places.{InSections, InLeft, CostPartEnded, RightPartEnded, TailPartEnded, PartEndedAt, LeadsTo}
 use Rattle.its_reader.specs.Places.{IsSource, IsGuard}
@@ -88,7 +88,7 @@ nowhere ts behind o result new e g = subst (λ o. LeadsTo ts behind o result new
 read_stops : (f : Front) (p : Piece) (name : Name) (ts : Tokens) (d : Draft) → InLeft ts (Some p) lefts.LeftRead d f → tests.word p ≡ Some name → step f p ≡ None
 read_stops f p name ts d k w = ap (λ f. step f p) k.1.1.1.1.0 ∙ go p w
   where
-    go : (p : Piece) → tests.word p ≡ Some name → step (fronts.LeftRead k.0 k.1.0 k.1.1.0 k.1.1.1.0) p ≡ None
+    go : (p : Piece) → tests.word p ≡ Some name → step (grammar_states.LeftRead k.0 k.1.0 k.1.1.0 k.1.1.1.0) p ≡ None
     go (In (inner.Word m)) w = refl
     go (In _) w = cc
     go _ w = cc
@@ -96,7 +96,7 @@ read_stops f p name ts d k w = ap (λ f. step f p) k.1.1.1.1.0 ∙ go p w
 closed_stops : (f : Front) (p : Piece) (name : Name) (ts : Tokens) (d : Draft) → InLeft ts (Some p) lefts.SourceClosed d f → tests.word p ≡ Some name → step f p ≡ None
 closed_stops f p name ts d k w = ap (λ f. step f p) k.1.1.0 ∙ go p w
   where
-    go : (p : Piece) → tests.word p ≡ Some name → step (fronts.SourceClosed k.0 k.1.0) p ≡ None
+    go : (p : Piece) → tests.word p ≡ Some name → step (grammar_states.SourceClosed k.0 k.1.0) p ≡ None
     go (In (inner.Word m)) w = refl
     go (In _) w = cc
     go _ w = cc
@@ -210,12 +210,12 @@ break_kind_of_wanted : (o : Option (List Name)) (p : inner.Piece) → break_kind
 break_kind_of_wanted None p = refl
 break_kind_of_wanted (Some arguments) p = refl
 
-off_alike : (f : Front) (p : Piece) → break_kind_in (is_some (left_wanted f)) p ≡ break_kind_at f (Some p)
-off_alike f (In p) = break_kind_of_wanted (left_wanted f) p
-off_alike f Disjoining = refl
-off_alike f Strange = refl
-off_alike f _ = refl
+stop_kinds_alike : (f : Front) (p : Piece) → break_kind_in (is_some (left_wanted f)) p ≡ break_kind_at f (Some p)
+stop_kinds_alike f (In p) = break_kind_of_wanted (left_wanted f) p
+stop_kinds_alike f Disjoining = refl
+stop_kinds_alike f Strange = refl
+stop_kinds_alike f _ = refl
 
 -- the refusal for a text that breaks off at a piece is decided by the reader's state exactly as by the written state
-pub off_is : (ts : Tokens) (state : ParserState) (d : Draft) (f : Front) (p : Piece) → PartEndedAt ts (Some p) state d f → break_kind_in (wants_left state) p ≡ break_kind_at f (Some p)
-off_is ts state d f p k = ap (λ v. break_kind_in v p) (sym (is_wanted ts (Some p) d f state k)) ∙ off_alike f p
+pub stop_kind_is : (ts : Tokens) (state : ParserState) (d : Draft) (f : Front) (p : Piece) → PartEndedAt ts (Some p) state d f → break_kind_in (wants_left state) p ≡ break_kind_at f (Some p)
+stop_kind_is ts state d f p k = ap (λ v. break_kind_in v p) (sym (is_wanted ts (Some p) d f state k)) ∙ stop_kinds_alike f p

@@ -8,13 +8,13 @@ use Rattle.its_text.specs.expr_text.Fronts as expression
 use Rattle.its_text.specs.expr_text.Steps as expression_steps
 use Rattle.its_text.specs.expr_text.GuardFronts.{no_atoms}
 use Rattle.expr_reader.specs.Variables.{names_in}
-use Rattle.expr_reader.specs.GuardStanding.{IsWanting}
+use Rattle.expr_reader.specs.GuardRepresentation.{IsWanting}
 use Rattle.its_text.specs.Pieces.{Piece}
 use Rattle.its_text.specs.Written.{LeftTerm}
 use Rattle.its_text.specs.Numbering.{left_names}
-use Rattle.its_text.specs.Fronts as fronts
+use Rattle.its_text.specs.Fronts as grammar_states
 use Rattle.its_text.specs.Fronts.{Ruling}
-use Rattle.its_text.specs.FrontFaults.{Tokens, ends_expression, last_faults}
+use Rattle.its_text.specs.StateFaults.{Tokens, ends_expression, last_faults}
 use Rattle.its_reader.specs.Tests.{inner_next}
 use Rattle.its_reader.specs.Faults.{maybe_kind}
 use Rattle.its_reader.specs.FaultTests.{is_costing}
@@ -55,20 +55,20 @@ module _ (ts : Tokens) (next : Option Piece) (r : Ruling) (t : LeftTerm) (e : ex
 
   -- a cost ends or continues
   cost_part_ended : (rule : RuleDraft) (now : ParserState) (refusal : Option Kind) → CostEndsPartBy (ends_in old.rule.expression (inner_next next)) costs.Costing old.rule now refusal rule
-      → PartEndedAt ts next now (record old { rule = rule }) (fronts.Costing r t e) × ((at : ℕ) → maybe_kind refusal at ≡ last_faults at (fronts.Costing r t e) next)
+      → PartEndedAt ts next now (record old { rule = rule }) (grammar_states.Costing r t e) × ((at : ℕ) → maybe_kind refusal at ≡ last_faults at (grammar_states.Costing r t e) next)
   cost_part_ended rule now refusal h = go (ends_in old.rule.expression (inner_next next)) refl h
     where
       go : (v : Bool) → ends_in old.rule.expression (inner_next next) ≡ v → CostEndsPartBy v costs.Costing old.rule now refusal rule
-          → PartEndedAt ts next now (record old { rule = rule }) (fronts.Costing r t e) × ((at : ℕ) → maybe_kind refusal at ≡ last_faults at (fronts.Costing r t e) next)
+          → PartEndedAt ts next now (record old { rule = rule }) (grammar_states.Costing r t e) × ((at : ℕ) → maybe_kind refusal at ≡ last_faults at (grammar_states.Costing r t e) next)
       go true v h =
           let s = ends_by (left_names t) e (names_in old.rule.variables) old.rule.expression k.expression next true v in (
-            subst (λ p. PartEndedAt ts next p (record old { rule = rule }) (fronts.Costing r t e)) (sym h.0) (r, (t, (e, (s.0, (refl, cost_over rule refusal s.0 s.1.0 s.1.1 h.1))))),
+            subst (λ p. PartEndedAt ts next p (record old { rule = rule }) (grammar_states.Costing r t e)) (sym h.0) (r, (t, (e, (s.0, (refl, cost_over rule refusal s.0 s.1.0 s.1.1 h.1))))),
             λ at. h.1.found_is at ∙ ended_found (left_names t) e (names_in old.rule.variables) old.rule.expression k.expression s.0 s.1.0 at next h.1.made h.1.ends s.1.1,
           )
       go false v h =
           let stops = ends_by (left_names t) e (names_in old.rule.variables) old.rule.expression k.expression next false v in (
-            subst (λ p. PartEndedAt ts next p (record old { rule = rule }) (fronts.Costing r t e)) (sym h.0)
-                (subst (λ q. CostPartEnded ts next costs.Costing (record old { rule = q }) (fronts.Costing r t e)) (sym h.1.1) (r, (t, (e, (refl, (k, stops)))))),
+            subst (λ p. PartEndedAt ts next p (record old { rule = rule }) (grammar_states.Costing r t e)) (sym h.0)
+                (subst (λ q. CostPartEnded ts next costs.Costing (record old { rule = q }) (grammar_states.Costing r t e)) (sym h.1.1) (r, (t, (e, (refl, (k, stops)))))),
             λ at. ap (λ o. maybe_kind o at) h.1.0 ∙ going_silent at (left_names t) e next stops,
           )
 

@@ -8,14 +8,14 @@ use Rattle.its_text.specs.expr_text.Steps as expression_steps
 use Rattle.its_text.specs.expr_text.FrontNames.{is_front, goes_on_with}
 use Rattle.its_text.specs.expr_text.GuardFronts.{no_atoms}
 use Rattle.expr_reader.specs.Standing.{IsModest}
-use Rattle.expr_reader.specs.GuardStanding.{IsWanting}
+use Rattle.expr_reader.specs.GuardRepresentation.{IsWanting}
 use Rattle.its_text.specs.Pieces.{Piece, In, CostClose}
 use Rattle.its_text.specs.Written.{LeftTerm}
 use Rattle.its_text.specs.Numbering.{left_names}
-use Rattle.its_text.specs.Fronts as fronts
+use Rattle.its_text.specs.Fronts as grammar_states
 use Rattle.its_text.specs.Fronts.{Front, Ruling}
-use Rattle.its_text.specs.FrontNames.{symbols_led}
-use Rattle.its_text.specs.FrontFaults.{Tokens, ends_expression}
+use Rattle.its_text.specs.FrontNames.{symbols_of_arrow}
+use Rattle.its_text.specs.StateFaults.{Tokens, ends_expression}
 use Rattle.its_text.specs.Steps.{step, cost_step}
 use Rattle.its_reader.specs.Tests as tests
 use Rattle.its_reader.specs.Standing.{KnowsSymbols, without_cost}
@@ -28,7 +28,7 @@ use Rattle.its_reader.specs.declared.parser_state.TargetState.TheVariants as rig
 use Rattle.its_reader.specs.declared.parser_state.ParserState.{ParserState}
 use Rattle.its_reader.specs.declared.parser_state.ParserState.TheVariants as places
 use Rattle.its_reader.proofs.LeftLaws.{leads_together}
-use Rattle.its_reader.proofs.LedLaws.{led_kept}
+use Rattle.its_reader.proofs.ArrowLaws.{arrow_kept}
 use Rattle.its_reader.proofs.RightPromises.{takes_written}
 
 -- the place within the braces while a cost is read
@@ -39,8 +39,8 @@ module _ (r : Ruling) (t : LeftTerm) (e : expression.Front) (p : inner.Piece) (o
   -- a piece continues a cost, and the rest of the draft is unchanged
   cost_goes_on : (ts : Tokens) (more : expression.Front) → IsCosting ts r t e old → expression_steps.step e p ≡ Some more → IsModest p → GoesOn old p new → IsCosting ts r t more new
   cost_goes_on ts more k led modest g = record {
-    led = led_kept ts (without_cost r t) old new k.led g.sections g.rules g.stays.source g.stays.left g.stays.cost;
-    symbols = subst (KnowsSymbols (symbols_led r t)) (sym g.symbols) k.symbols;
+    led = arrow_kept ts (without_cost r t) old new k.led g.sections g.rules g.stays.source g.stays.left g.stays.cost;
+    symbols = subst (KnowsSymbols (symbols_of_arrow r t)) (sym g.symbols) k.symbols;
     updates = ap (λ v. v.items) g.stays.updates ∙ k.updates;
     guard = subst (λ g. (before : List Name) → IsWanting before no_atoms before g) (sym g.stays.guard) k.guard;
     expression = g.leads.each (left_names t) e more k.expression led modest;
@@ -70,13 +70,13 @@ costing_promise p old new result h = record {
 }
   where
     together : (ts : Tokens) (p : Piece) → TakesPiece reading old p result new → (r : Ruling) (t : LeftTerm) (e : expression.Front) → IsCosting ts r t e old
-        → (ends_expression e (Some p) ≡ true → expression_steps.finish e ≡ None) → GoTogether (step (fronts.Costing r t e) p) result
+        → (ends_expression e (Some p) ≡ true → expression_steps.finish e ≡ None) → GoTogether (step (grammar_states.Costing r t e) p) result
     together ts (In q) h r t e k stops = inner_together r t e q old new result (takes_written reading (left_names t) e q old new result k.expression h)
     together ts CostClose h r t e k stops = rw (stops refl, h.0) tt
     together ts _ h r t e k stops = rw h.0 tt
 
     each : (ts : Tokens) (next : Option Piece) (p : Piece) → TakesPiece reading old p result new → IsModestPiece p → (r : Ruling) (t : LeftTerm) (e : expression.Front) → IsCosting ts r t e old
-        → (ends_expression e (Some p) ≡ true → expression_steps.finish e ≡ None) → LeadsTo ts next (step (fronts.Costing r t e) p) result new
+        → (ends_expression e (Some p) ≡ true → expression_steps.finish e ≡ None) → LeadsTo ts next (step (grammar_states.Costing r t e) p) result new
     each ts next (In q) h modest r t e k stops = inner_leads r t e q old new result ts next k modest (takes_written reading (left_names t) e q old new result k.expression h)
     each ts next CostClose h modest r t e k stops = rw (stops refl, h.0) tt
     each ts next _ h modest r t e k stops = rw h.0 tt
@@ -93,7 +93,7 @@ costed_leads ts next p f d k = rw k.1.1.1.1.0 (go p known.ends)
     stopped (Some more) n = cc
     stopped None n = tt
 
-    go : (p : Piece) → ends_expression k.1.1.0 (Some p) ≡ true → LeadsTo ts next (step (fronts.Costing k.0 k.1.0 k.1.1.0) p) (if tests.closes_cost p then Some (places.InRight rights.Arrowed) else None) d
+    go : (p : Piece) → ends_expression k.1.1.0 (Some p) ≡ true → LeadsTo ts next (step (grammar_states.Costing k.0 k.1.0 k.1.1.0) p) (if tests.closes_cost p then Some (places.InRight rights.Arrowed) else None) d
     go (In q) ends = stopped (expression_steps.step k.1.1.0 q) ends
     go CostClose ends = rw known.finish_is (record { ruling = k.0; left = k.1.0; cost = Some k.1.1.1.0 }, (refl, known.left))
     go _ ends = tt

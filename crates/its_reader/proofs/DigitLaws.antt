@@ -9,7 +9,7 @@ use Rattle.its_text.specs.expr_text.Pieces as inner
 use Rattle.its_text.specs.Pieces.{Piece, In}
 use Rattle.its_text.proofs.LexemeCases.{IsMark, HoldsOfPieces, of_lexeme}
 use Rattle.its_text.specs.Lexing.{Mode, Outside, lexeme_in, lexer, tokens_of}
-use Rattle.its_text.specs.FrontFaults.{Tokens}
+use Rattle.its_text.specs.StateFaults.{Tokens}
 use Rattle.its_reader.specs.FaultTests.{IsDigital}
 use Rattle.its_reader.specs.Reading.{AreDigital}
 

@@ -10,12 +10,12 @@ use Rattle.its_text.specs.Pieces.{Piece}
 use Rattle.its_text.specs.Kinds.{Kind, Syntax}
 use Rattle.its_text.specs.Lexing.{tokens_of}
 use Rattle.its_text.specs.Written.{Section}
-use Rattle.its_text.specs.Fronts as fronts
+use Rattle.its_text.specs.Fronts as grammar_states
 use Rattle.its_text.specs.Fronts.{Front, Ruling, Headed}
 use Rattle.its_text.specs.Steps.{finish}
 use Rattle.its_text.specs.Grammar.{programs}
 use Rattle.its_text.specs.Answers.{verdict, verdict_of_answer}
-use Rattle.its_text.specs.FrontFaults.{Tokens}
+use Rattle.its_text.specs.StateFaults.{Tokens}
 use Rattle.its_reader.specs.Faults.{fault_in, Says}
 use Rattle.its_reader.specs.Standing.{KnowsBetween}
 use Rattle.its_reader.specs.Places.{InSections, InLeft, CostPartEnded, RightPartEnded, TailPartEnded, PartEndedAt, IsSource}
@@ -116,7 +116,7 @@ module _ (ts : Tokens) (next : Option Piece) (d : Draft) (f : Front) where
   still_open (places.InTail state) k b = tail_open state k
 
   -- between sections
-  stands_between : (state : ParserState) → PartEndedAt ts next state d f → is_between state ≡ true → (ss : List Section) × ((f ≡ fronts.Between ss) × KnowsBetween ts ss d)
+  stands_between : (state : ParserState) → PartEndedAt ts next state d f → is_between state ≡ true → (ss : List Section) × ((f ≡ grammar_states.Between ss) × KnowsBetween ts ss d)
   stands_between (places.InSections sections.Between) k b = k
   stands_between (places.InSections _) k b = cc
   stands_between _ k b = cc
@@ -127,8 +127,8 @@ ended_open (Some x) None off e = refl
 ended_open best (Some t) off e = cc
 
 module _ (state now : ParserState) (last : ℕ) (best first : Option (Fault Kind)) (old new : Draft) (n : ℕ) (j : Judges state last best old None None n now first new) where
-  at_end : (bytes : List ℕ) → n ≡ length bytes → (r : IsReading bytes state last best old []) → answer programs (length bytes) (tokens_of bytes) ≡ ended programs first (finish r.front) (record { kind = Syntax; at = length bytes })
-  at_end bytes e r = reading_ends bytes state last best first old r (j.first_fault_ahead (tokens_of bytes) (length bytes) r.done [] r.front r.stands refl refl (sym e) (sym r.last_is) tt)
+  at_end : (bytes : List ℕ) → n ≡ length bytes → (r : IsReading bytes state last best old []) → answer programs (length bytes) (tokens_of bytes) ≡ ended programs first (finish r.grammar_state) (record { kind = Syntax; at = length bytes })
+  at_end bytes e r = reading_ends bytes state last best first old r (j.first_fault_ahead (tokens_of bytes) (length bytes) r.done [] r.grammar_state r.stands refl refl (sym e) (sym r.last_is) tt)
 
   -- the text breaks off at its end
   pub closes_open : (e : ReadError) → is_between now ≡ false → fault_in e ≡ Some (first_of programs first (record { kind = Syntax; at = n })) → Closes state last best old n (Err e)
@@ -136,12 +136,12 @@ module _ (state now : ParserState) (last : ℕ) (best first : Option (Fault Kind
     each = λ bytes l r.
         subst (λ a. Says a (Err e))
         (sym (ap (verdict_of_answer (length bytes) (tokens_of bytes))
-        (at_end bytes l r ∙ ended_open first (finish r.front) (record { kind = Syntax; at = length bytes }) (still_open (tokens_of bytes) None new r.front now (j.part_ended (tokens_of bytes) r.front r.stands) b))))
+        (at_end bytes l r ∙ ended_open first (finish r.grammar_state) (record { kind = Syntax; at = length bytes }) (still_open (tokens_of bytes) None new r.grammar_state now (j.part_ended (tokens_of bytes) r.grammar_state r.stands) b))))
         (refusal_said (first_of programs first (record { kind = Syntax; at = length bytes })) e (h ∙ ap (λ i. Some (first_of programs first (record { kind = Syntax; at = i }))) l));
   }
 
-  between_at : (bytes : List ℕ) → is_between now ≡ true → (r : IsReading bytes state last best old []) → (ss : List Section) × ((r.front ≡ fronts.Between ss) × KnowsBetween (tokens_of bytes) ss new)
-  between_at bytes b r = stands_between (tokens_of bytes) None new r.front now (j.part_ended (tokens_of bytes) r.front r.stands) b
+  between_at : (bytes : List ℕ) → is_between now ≡ true → (r : IsReading bytes state last best old []) → (ss : List Section) × ((r.grammar_state ≡ grammar_states.Between ss) × KnowsBetween (tokens_of bytes) ss new)
+  between_at bytes b r = stands_between (tokens_of bytes) None new r.grammar_state now (j.part_ended (tokens_of bytes) r.grammar_state r.stands) b
 
   -- the sections have a fault
   pub closes_refused : (x : Fault Kind) (e : ReadError) → is_between now ≡ true → first ≡ Some x → fault_in e ≡ Some x → Closes state last best old n (Err e)
@@ -149,7 +149,7 @@ module _ (state now : ParserState) (last : ℕ) (best first : Option (Fault Kind
     each = λ bytes l r. let k = between_at bytes b r in
         subst (λ a. Says a (Err e))
         (sym (ap (verdict_of_answer (length bytes) (tokens_of bytes))
-        (at_end bytes l r ∙ (ap (λ o. ended programs o (finish r.front) (record { kind = Syntax; at = length bytes })) f
+        (at_end bytes l r ∙ (ap (λ o. ended programs o (finish r.grammar_state) (record { kind = Syntax; at = length bytes })) f
         ∙ ap (λ g. ended programs (Some x) (finish g) (record { kind = Syntax; at = length bytes })) k.1.0))))
         (refusal_said x e h);
   }
@@ -160,6 +160,6 @@ module _ (state now : ParserState) (last : ℕ) (best first : Option (Fault Kind
     each = λ bytes l r. let k = between_at bytes b r in
         h.each bytes k.0 l k.1.1
         (ap (verdict_of_answer (length bytes) (tokens_of bytes))
-        (at_end bytes l r ∙ (ap (λ o. ended programs o (finish r.front) (record { kind = Syntax; at = length bytes })) f
+        (at_end bytes l r ∙ (ap (λ o. ended programs o (finish r.grammar_state) (record { kind = Syntax; at = length bytes })) f
         ∙ ap (λ g. ended programs None (finish g) (record { kind = Syntax; at = length bytes })) k.1.0)));
   }

@@ -13,12 +13,12 @@ use Rattle.its_text.specs.expr_text.Fronts as expression
 use Rattle.its_text.specs.expr_text.Steps as expression_steps
 use Rattle.its_text.specs.expr_text.TermFronts.{limited}
 use Rattle.its_text.proofs.expr_text.LimitedFaults.{limited_fault}
-use Rattle.expr_reader.specs.Standing.{Stands, Ends}
+use Rattle.expr_reader.specs.Standing.{RepresentsExpression, Ends}
 use Rattle.expr_reader.specs.GuardParts.{can_end, goes_on}
 use Rattle.expr_reader.specs.declared.expression.Expression.{Expression}
 use Rattle.expr_reader.proofs.Endings.{goes_on_is, can_end_is, finished_names}
 use Rattle.its_text.specs.Pieces.{Piece, In}
-use Rattle.its_text.specs.FrontFaults.{expansion_faults, argument_faults, ends_expression}
+use Rattle.its_text.specs.StateFaults.{expansion_faults, argument_faults, ends_expression}
 use Rattle.its_reader.specs.Tests.{inner_next}
 use Rattle.its_reader.specs.PartEnds.{ends_in}
 
@@ -39,7 +39,7 @@ abbrev pub EndsBy : Bool → expression.Front → Option Piece → Type 0
 EndsBy true e next = (s : Sum) × ((expression_steps.finish e ≡ Some s) × (ends_expression e next ≡ true))
 EndsBy false e next = ends_expression e next ≡ true → expression_steps.finish e ≡ None
 
-module _ (before : List Name) (e : expression.Front) (names : List Name) (x : Expression) (k : Stands before e names x) where
+module _ (before : List Name) (e : expression.Front) (names : List Name) (x : Expression) (k : RepresentsExpression before e names x) where
   -- the code's test agrees with the written expression
   ends_is : (next : Option Piece) → not (goes_on x (inner_next next)) ≡ ends_expression e next
   ends_is None = refl

@@ -10,10 +10,10 @@ use Rattle.its_text.specs.Kinds.{Kind, RepeatedSection, Limit, LongName}
 use Rattle.its_text.specs.Pieces.{Piece, In}
 use Rattle.its_text.specs.Grammar.{programs}
 use Rattle.its_text.specs.Written.{Section, Goal, Start, Variables, Rules, Comment}
-use Rattle.its_text.specs.Fronts as fronts
+use Rattle.its_text.specs.Fronts as grammar_states
 use Rattle.its_text.specs.Fronts.{Front}
-use Rattle.its_text.specs.FrontFaults.{Tokens, FaultList, fault_if, long_name, next_faults, last_faults, has, is_start}
-use Rattle.its_text.specs.FrontFaults.{repeats, has_named}
+use Rattle.its_text.specs.StateFaults.{Tokens, FaultList, fault_if, long_name, next_faults, last_faults, has, is_start}
+use Rattle.its_text.specs.StateFaults.{repeats, has_named}
 use Rattle.its_reader.specs.Tests as tests
 use Rattle.its_reader.specs.FaultTests.{is_long, has_word, repeats_in}
 use Rattle.its_reader.specs.Standing.{KnowsSections, started, started_of}
@@ -84,7 +84,7 @@ repeats_is ts ss s k (Some _) behind = refl
 
 -- the faults of a state outside rules at the next token
 module _ (ts : Tokens) (at : ℕ) (next behind : Option Piece) where
-  between_shows : (ss : List Section) (s : Sections) → KnowsSections ts ss s → next_faults at (fronts.Between ss) next behind ≡ fault_if (repeats_in sections.Between s next behind) RepeatedSection at ++ fault_if (long_name next) (Limit LongName) at
+  between_shows : (ss : List Section) (s : Sections) → KnowsSections ts ss s → next_faults at (grammar_states.Between ss) next behind ≡ fault_if (repeats_in sections.Between s next behind) RepeatedSection at ++ fault_if (long_name next) (Limit LongName) at
   between_shows ss s k = simp append-nil (ap (λ v. fault_if v RepeatedSection at ++ fault_if (long_name next) (Limit LongName) at) (repeats_is ts ss s k next behind))
 
   -- at the next token a state outside rules shows a repeated section and a name that is too long

@@ -13,10 +13,10 @@ use Rattle.its_text.specs.expr_text.FrontNames.{goes_on_with}
 use Rattle.its_text.specs.Pieces.{Piece, In}
 use Rattle.its_text.specs.Kinds.{Kind, kind_number, NumberTooLarge}
 use Rattle.its_text.specs.Written.{Target, Marked, Bare}
-use Rattle.its_text.specs.Fronts.{Front, SourceClosed, TargetClosed, Targeted, front_pieces}
+use Rattle.its_text.specs.Fronts.{Front, SourceClosed, TargetClosed, Targeted, pieces_read}
 use Rattle.its_text.specs.Grammar.{programs}
-use Rattle.its_text.specs.FrontFaults.{FaultList, OpenExpression, open_expression, token_faults, is_large, next_faults}
-use Rattle.its_text.specs.FrontFaults.{has_other_arity, bare_differs}
+use Rattle.its_text.specs.StateFaults.{FaultList, OpenExpression, open_expression, token_faults, is_large, next_faults}
+use Rattle.its_text.specs.StateFaults.{has_other_arity, bare_differs}
 
 below_or : (a b : ℕ) → (a < b) ⊎ (b ≤ a)
 below_or a b = go (nat_lt a b) refl
@@ -64,19 +64,19 @@ among_right y [] ys a = a
 among_right y (x ∷ xs) ys a = inr (among_right y xs ys a)
 
 -- a literal that is too large is shown
-pub large_shown : (at : ℕ) (f : Front) (p : inner.Piece) (behind : Option Piece) (g : OpenExpression) → open_expression f (Some (In p)) behind ≡ Some g → goes_on_with g.front p ≡ true → is_large p ≡ true
+pub large_shown : (at : ℕ) (f : Front) (p : inner.Piece) (behind : Option Piece) (g : OpenExpression) → open_expression f (Some (In p)) behind ≡ Some g → goes_on_with g.grammar_state p ≡ true → is_large p ≡ true
     → Among (record { kind = NumberTooLarge; at = at }) (next_faults at f (Some (In p)) behind)
 large_shown at f p behind g e h l =
     among_right _ _ (token_faults at (open_expression f (Some (In p)) behind) (Some (In p)) behind)
     (subst (λ o. Among (record { kind = NumberTooLarge; at = at }) (token_faults at o (Some (In p)) behind)) (sym e) (rw (h, l) (inl refl)))
 
 -- after digits no arity differs
-pub digits_differ : (g : Front) (ds : List ℕ) (ps : List Piece) → front_pieces g ≡ In (inner.Digits ds) ∷ ps → has_other_arity g ≡ false
+pub digits_differ : (g : Front) (ds : List ℕ) (ps : List Piece) → pieces_read g ≡ In (inner.Digits ds) ∷ ps → has_other_arity g ≡ false
 digits_differ (SourceClosed r t) ds ps e = cc
 digits_differ (TargetClosed l t) ds ps e = cc
 digits_differ (Targeted h) ds ps e = go h.target refl
   where
     go : (t : Target) → h.target ≡ t → bare_differs h.led h.target ≡ false
     go (Marked r) k = rw k refl
-    go (Bare r) k = let written : front_pieces (Targeted h) ≡ front_pieces (Targeted (record { led = h.led; target = Bare r })) = ap (λ (t : Target). front_pieces (Targeted (record { led = h.led; target = t }))) k in cc
+    go (Bare r) k = let written : pieces_read (Targeted h) ≡ pieces_read (Targeted (record { led = h.led; target = Bare r })) = ap (λ (t : Target). pieces_read (Targeted (record { led = h.led; target = t }))) k in cc
 digits_differ _ ds ps e = refl

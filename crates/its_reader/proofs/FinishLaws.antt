@@ -22,7 +22,7 @@ use Rattle.its_text.specs.Written.{pieces_behind}
 use Rattle.its_text.specs.Numbering.{names_of, symbols_of, with_left, with_sums, number_of, left_names, arrow_names}
 use Rattle.its_text.specs.Numbering.{term_in, rule_numbered, rules_numbered, start_of, rules_of, or_left, first_leaving}
 use Rattle.its_text.specs.Numbering.{rule_names, program_from}
-use Rattle.its_text.specs.FrontFaults.{Tokens, has, is_rules}
+use Rattle.its_text.specs.StateFaults.{Tokens, has, is_rules}
 use Rattle.its_text.specs.Answers.{at_index, at_maybe, start_index, program_or, whole, verdict}
 use Rattle.its_reader.specs.Faults.{fault_in, Says}
 use Rattle.its_reader.specs.Standing.{Started, started, started_of, limited_rule, KnowsRules, KnowsLast, KnowsBetween}

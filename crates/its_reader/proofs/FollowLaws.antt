@@ -23,18 +23,18 @@ use Rattle.its_text.specs.expr_text.FrontNames.{goes_on_with, is_front}
 use Rattle.its_text.specs.Pieces.{Piece, In}
 use Rattle.its_text.specs.Kinds.{Kind, kind_number, Syntax, RepeatedSection, ManyTargets, LeftNotVariable, LeftRepeated}
 use Rattle.its_text.specs.Kinds.{NumberTooLarge, Limit, TooManyRules, TooManyArguments, TooManyAtoms, LongName}
-use Rattle.its_text.specs.Fronts as fronts
-use Rattle.its_text.specs.Fronts.{Front, Ruling, Aimed, Headed, front_pieces}
+use Rattle.its_text.specs.Fronts as grammar_states
+use Rattle.its_text.specs.Fronts.{Front, Ruling, Aimed, Headed, pieces_read}
 use Rattle.its_text.specs.Written.{LeftTerm}
 use Rattle.its_text.specs.Steps.{step, cost_step, argument_step, behind_argument, mark_guard_step, guard_ended}
 use Rattle.its_text.specs.Steps.{guard_named, square_guard_step}
 use Rattle.its_text.specs.Grammar.{programs}
 use Rattle.its_text.specs.Answers.{verdict}
-use Rattle.its_text.specs.FrontFaults.{Tokens, OpenExpression, open_expression, fault_if, long_name, targets_again}
-use Rattle.its_text.specs.FrontFaults.{repeats_at, targets_many, too_many_rules, passes_arguments, another_atom}
-use Rattle.its_text.specs.FrontFaults.{token_faults, is_operator, left_wanted, left_of, next_piece, last_byte}
-use Rattle.its_text.specs.FrontFaults.{front_faults, last_faults, next_faults}
-use Rattle.its_text.proofs.Ends.{front_known}
+use Rattle.its_text.specs.StateFaults.{Tokens, OpenExpression, open_expression, fault_if, long_name, targets_again}
+use Rattle.its_text.specs.StateFaults.{repeats_at, targets_many, too_many_rules, passes_arguments, another_atom}
+use Rattle.its_text.specs.StateFaults.{token_faults, is_operator, left_wanted, left_of, next_piece, last_byte}
+use Rattle.its_text.specs.StateFaults.{faults_of_state, last_faults, next_faults}
+use Rattle.its_text.proofs.Ends.{state_known}
 use Rattle.its_reader.specs.Tests as tests
 use Rattle.its_reader.specs.FaultTests.{IsDigital}
 use Rattle.its_reader.specs.StateSteps.{IsModestPiece}
@@ -72,7 +72,7 @@ unfinal_is x t e = unfinal_split x t (nat_lt x.at (t.upto - 1)) (x.at == t.upto 
 
 -- digits that can follow continue an expression
 abbrev GoesOnAt : Front → Option Piece → inner.Piece → Type 0
-GoesOnAt f behind p = (x : OpenExpression) × ((open_expression f (Some (In p)) behind ≡ Some x) × (goes_on_with x.front p ≡ true))
+GoesOnAt f behind p = (x : OpenExpression) × ((open_expression f (Some (In p)) behind ≡ Some x) × (goes_on_with x.grammar_state p ≡ true))
 
 argued_never : (a : Aimed) (arguments : List Sum) (o : Option Sum) (ds : Name) → behind_argument a arguments o (inner.Digits ds) ≡ None
 argued_never a arguments None ds = refl
@@ -112,14 +112,14 @@ squared_goes h k ds g e = go (expression_steps.step (expression_in k) (inner.Dig
     go None e = let n = sym (ap (square_guard_step h) (behind_never k ds)) ∙ e in cc
 
 digits_follow : (f : Front) (ds : Name) (behind : Option Piece) (g : Front) → step f (In (inner.Digits ds)) ≡ Some g → GoesOnAt f behind (inner.Digits ds)
-digits_follow (fronts.Costing r t k) ds behind g e = (_, (refl, costing_goes r t (expression_steps.step k (inner.Digits ds)) g e))
-digits_follow (fronts.RightOpened a) ds behind g e = (_, (refl, refl))
-digits_follow (fronts.Arguing a arguments k) ds behind g e = (_, (refl, arguing_goes a arguments k ds g e))
-digits_follow (fronts.GuardMarked h) ds behind g e = (_, (refl, refl))
-digits_follow (fronts.WordRead h name) ds behind g e = (_, (refl, guarding_goes h (guard_named name) ds g e))
-digits_follow (fronts.MarkGuarding h k) ds behind g e = (_, (refl, guarding_goes h k ds g e))
-digits_follow (fronts.SquareOpened h) ds behind g e = (_, (refl, refl))
-digits_follow (fronts.SquareGuarding h k) ds behind g e = (_, (refl, squared_goes h k ds g e))
+digits_follow (grammar_states.Costing r t k) ds behind g e = (_, (refl, costing_goes r t (expression_steps.step k (inner.Digits ds)) g e))
+digits_follow (grammar_states.RightOpened a) ds behind g e = (_, (refl, refl))
+digits_follow (grammar_states.Arguing a arguments k) ds behind g e = (_, (refl, arguing_goes a arguments k ds g e))
+digits_follow (grammar_states.GuardMarked h) ds behind g e = (_, (refl, refl))
+digits_follow (grammar_states.WordRead h name) ds behind g e = (_, (refl, guarding_goes h (guard_named name) ds g e))
+digits_follow (grammar_states.MarkGuarding h k) ds behind g e = (_, (refl, guarding_goes h k ds g e))
+digits_follow (grammar_states.SquareOpened h) ds behind g e = (_, (refl, refl))
+digits_follow (grammar_states.SquareGuarding h k) ds behind g e = (_, (refl, squared_goes h k ds g e))
 digits_follow _ ds behind g e = cc
 
 -- the faults of a left argument are among those shown
@@ -138,12 +138,12 @@ left_shown at f next behind y a =
     (among_right y (fault_if (targets_again f next behind) Syntax at ++ fault_if (repeats_at f next behind) RepeatedSection at ++ fault_if (targets_many f next behind) ManyTargets at) (left_of at (left_wanted f) next behind) a)))))
 
 module _ (bytes : List ℕ) (state : ParserState) (last : ℕ) (best first : Option (Fault Kind)) (old : Draft) (t : Token Piece) (rest : Tokens) (r : IsReading bytes state last best old (t ∷ rest))
-    (first_fault_ahead : first ≡ first_among programs best (front_faults (length bytes) r.done r.front (t ∷ rest))) where
+    (first_fault_ahead : first ≡ first_among programs best (faults_of_state (length bytes) r.done r.grammar_state (t ∷ rest))) where
   -- a fault of the next token with a low number makes the refusal so far final there
-  shown_final : (k : ℕ) (y : Fault Kind) → Among y (next_faults t.at r.front (Some t.piece) (next_piece rest)) → y.at ≡ t.at → kind_number y.kind ≤ k → IsFinalIn k t first
+  shown_final : (k : ℕ) (y : Fault Kind) → Among y (next_faults t.at r.grammar_state (Some t.piece) (next_piece rest)) → y.at ≡ t.at → kind_number y.kind ≤ k → IsFinalIn k t first
   shown_final k y a at n =
       subst (IsFinalIn k t) (sym first_fault_ahead)
-      (found_final k t best (front_faults (length bytes) r.done r.front (t ∷ rest)) y (among_right y (last_faults (last_byte r.done) r.front (Some t.piece)) (next_faults t.at r.front (Some t.piece) (next_piece rest)) a) at r.ordered.1 n)
+      (found_final k t best (faults_of_state (length bytes) r.done r.grammar_state (t ∷ rest)) y (among_right y (last_faults (last_byte r.done) r.grammar_state (Some t.piece)) (next_faults t.at r.grammar_state (Some t.piece) (next_piece rest)) a) at r.ordered.1 n)
 
   -- a left argument that is named again is shown
   repeated_shown : (arguments : List Name) (name : Name) (behind : Option Piece) → is_among name arguments ≡ true → Among (record { kind = LeftRepeated; at = t.at }) (left_of t.at (Some arguments) (Some (In (inner.Word name))) behind)
@@ -151,37 +151,37 @@ module _ (bytes : List ℕ) (state : ParserState) (last : ℕ) (best first : Opt
       among_left (record { kind = LeftRepeated; at = t.at }) (fault_if (is_operator behind) LeftNotVariable t.at ++ fault_if (is_among name arguments) LeftRepeated t.at) (fault_if (nat_le place_limit (length arguments)) (Limit TooManyArguments) t.at)
       (among_right (record { kind = LeftRepeated; at = t.at }) (fault_if (is_operator behind) LeftNotVariable t.at) (fault_if (is_among name arguments) LeftRepeated t.at) (rw e (inl refl)))
 
-  named_shown : (arguments : List Name) (name : Name) → left_wanted r.front ≡ Some arguments → t.piece ≡ In (inner.Word name) → is_among name arguments ≡ true
-      → Among (record { kind = LeftRepeated; at = t.at }) (next_faults t.at r.front (Some t.piece) (next_piece rest))
+  named_shown : (arguments : List Name) (name : Name) → left_wanted r.grammar_state ≡ Some arguments → t.piece ≡ In (inner.Word name) → is_among name arguments ≡ true
+      → Among (record { kind = LeftRepeated; at = t.at }) (next_faults t.at r.grammar_state (Some t.piece) (next_piece rest))
   named_shown arguments name w p e =
-      left_shown t.at r.front (Some t.piece) (next_piece rest) (record { kind = LeftRepeated; at = t.at })
+      left_shown t.at r.grammar_state (Some t.piece) (next_piece rest) (record { kind = LeftRepeated; at = t.at })
       (subst (λ o. Among (record { kind = LeftRepeated; at = t.at }) (left_of t.at o (Some t.piece) (next_piece rest))) (sym w)
       (subst (λ (p : Piece). Among (record { kind = LeftRepeated; at = t.at }) (left_of t.at (Some arguments) (Some p) (next_piece rest))) (sym p) (repeated_shown arguments name (next_piece rest) e)))
 
   -- where the refusal so far isn't final, the next token names no left argument again
-  pub allowed : (IsFinalIn (least_of t.piece) t first → ⊥) → AllowsName (left_wanted r.front) (tests.word t.piece)
-  allowed never = go (left_wanted r.front) refl t.piece refl
+  pub allowed : (IsFinalIn (least_of t.piece) t first → ⊥) → AllowsName (left_wanted r.grammar_state) (tests.word t.piece)
+  allowed never = go (left_wanted r.grammar_state) refl t.piece refl
     where
-      new : (arguments : List Name) (name : Name) → left_wanted r.front ≡ Some arguments → t.piece ≡ In (inner.Word name) → (v : Bool) → is_among name arguments ≡ v → v ≡ false
+      new : (arguments : List Name) (name : Name) → left_wanted r.grammar_state ≡ Some arguments → t.piece ≡ In (inner.Word name) → (v : Bool) → is_among name arguments ≡ v → v ≡ false
       new arguments name w p false e = refl
       new arguments name w p true e =
           absurd (never (shown_final (least_of t.piece) (record { kind = LeftRepeated; at = t.at }) (named_shown arguments name w p e) refl (let least : least_of t.piece ≡ 8 = ap least_of p in omega (arith, least))))
 
-      go : (o : Option (List Name)) → left_wanted r.front ≡ o → (p : Piece) → t.piece ≡ p → AllowsName o (tests.word p)
+      go : (o : Option (List Name)) → left_wanted r.grammar_state ≡ o → (p : Piece) → t.piece ≡ p → AllowsName o (tests.word p)
       go None w p e = tt
       go (Some arguments) w (In (inner.Word name)) e = new arguments name w e (is_among name arguments) refl
       go (Some arguments) w (In _) e = tt
       go (Some arguments) w _ e = tt
 
-  pub modest : (g : Front) → step r.front t.piece ≡ Some g → (IsFinalIn (least_of t.piece) t first → ⊥) → IsModestPiece t.piece
+  pub modest : (g : Front) → step r.grammar_state t.piece ≡ Some g → (IsFinalIn (least_of t.piece) t first → ⊥) → IsModestPiece t.piece
   modest g e never = go t.piece refl r.digital.0
     where
       small : (ds : Name) → t.piece ≡ In (inner.Digits ds) → (v : Bool) → nat_lt coefficient_limit (number_of ds) ≡ v → v ≡ false
       small ds p false l = refl
       small ds p true l =
-          let k = digits_follow r.front ds (next_piece rest) g (sym (ap (step r.front) p) ∙ e) in
+          let k = digits_follow r.grammar_state ds (next_piece rest) g (sym (ap (step r.grammar_state) p) ∙ e) in
           absurd (never (shown_final (least_of t.piece) (record { kind = NumberTooLarge; at = t.at })
-          (subst (λ (p : Piece). Among (record { kind = NumberTooLarge; at = t.at }) (next_faults t.at r.front (Some p) (next_piece rest))) (sym p) (large_shown t.at r.front (inner.Digits ds) (next_piece rest) k.0 k.1.0 k.1.1 l)) refl
+          (subst (λ (p : Piece). Among (record { kind = NumberTooLarge; at = t.at }) (next_faults t.at r.grammar_state (Some p) (next_piece rest))) (sym p) (large_shown t.at r.grammar_state (inner.Digits ds) (next_piece rest) k.0 k.1.0 k.1.1 l)) refl
           (let least : least_of t.piece ≡ 9 = ap least_of p in omega (arith, least))))
 
       go : (p : Piece) → t.piece ≡ p → IsDigital (Some p) → IsModestPiece p
@@ -190,11 +190,11 @@ module _ (bytes : List ℕ) (state : ParserState) (last : ℕ) (best first : Opt
       go _ e d = tt
 
   -- a final refusal is the answer
-  pub stops : (x : Fault Kind) (g : Front) → first ≡ Some x → step r.front t.piece ≡ Some g → IsFinal (least_of t.piece) t x → verdict bytes ≡ Refused x
+  pub stops : (x : Fault Kind) (g : Front) → first ≡ Some x → step r.grammar_state t.piece ≡ Some g → IsFinal (least_of t.piece) t x → verdict bytes ≡ Refused x
   stops x g f e h = reading_stops bytes state last best old t rest r x g (sym f ∙ first_fault_ahead) e (by h)
     where
-      known : front_pieces g ≡ t.piece ∷ pieces r.done
-      known = (front_known (t.piece ∷ pieces r.done) g (ap (λ (o : Option Front). next step o t.piece) r.led ∙ e)).0
+      known : pieces_read g ≡ t.piece ∷ pieces r.done
+      known = (state_known (t.piece ∷ pieces r.done) g (ap (λ (o : Option Front). next step o t.piece) r.led ∙ e)).0
 
       least : (p : Piece) → t.piece ≡ p → (y : Fault Kind) → Among y (last_faults (t.upto - 1) g (next_piece rest)) → least_of p ≤ kind_number y.kind
       least (In (inner.Digits ds)) q y a = last_least_9 (t.upto - 1) g (next_piece rest) y (digits_differ g ds (pieces r.done) (known ∙ ap (λ (p : Piece). p ∷ pieces r.done) q)) a

@@ -9,14 +9,14 @@ use Rattle.std.specs.Char.{is_ascii_digit}
 use Rattle.text_core.specs.Names.{begins_name, continues_name}
 use Rattle.text_core.specs.Bytes.{is_white_space}
 use Rattle.its_text.specs.Pieces.{word, digits}
-use Rattle.its_text.specs.Lexing.{take_front, lexeme, lexeme_at}
+use Rattle.its_text.specs.Lexing.{take_prefix, lexeme, lexeme_at}
 
 -- the two definitions of a prefix agree
-pub front-take : (n : ℕ) (xs : List ℕ) → take n xs ≡ take_front n xs
-front-take zero [] = refl
-front-take zero (x ∷ xs) = refl
-front-take (suc n) [] = refl
-front-take (suc n) (x ∷ xs) = ap (λ ys. x ∷ ys) (front-take n xs)
+pub grammar_state-take : (n : ℕ) (xs : List ℕ) → take n xs ≡ take_prefix n xs
+grammar_state-take zero [] = refl
+grammar_state-take zero (x ∷ xs) = refl
+grammar_state-take (suc n) [] = refl
+grammar_state-take (suc n) (x ∷ xs) = ap (λ ys. x ∷ ys) (grammar_state-take n xs)
 
 -- one element, and the prefix of those after it
 pub first-take : (test : ℕ → Bool) (x : ℕ) (others text : List ℕ) → text ≡ x ∷ others → take (1 + length (prefix test others)) text ≡ x ∷ prefix test others

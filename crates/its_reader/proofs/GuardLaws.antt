@@ -18,22 +18,22 @@ use Rattle.its_text.specs.expr_text.GuardFronts.{GuardFront, LeftSide, RightSide
 use Rattle.its_text.specs.expr_text.FrontNames.{operates, is_front, with_conjoined}
 use Rattle.its_text.specs.expr_text.TermFronts.{goes_on_from}
 use Rattle.expr_reader.specs.Variables.{names_in}
-use Rattle.expr_reader.specs.Views.{front_of}
-use Rattle.expr_reader.specs.Standing.{IsFresh, IsModest, Stands}
+use Rattle.expr_reader.specs.Views.{grammar_state_of}
+use Rattle.expr_reader.specs.Standing.{IsFresh, IsModest, RepresentsExpression}
 use Rattle.expr_reader.specs.GuardParts.{is_read}
-use Rattle.expr_reader.specs.GuardStanding as standing
-use Rattle.expr_reader.specs.GuardStanding.{IsEnded, IsPartEnded, part_ended_none, part_ended_left, part_ended_right, part_ended_end}
+use Rattle.expr_reader.specs.GuardRepresentation as standing
+use Rattle.expr_reader.specs.GuardRepresentation.{IsEnded, IsPartEnded, part_ended_none, part_ended_left, part_ended_right, part_ended_end}
 use Rattle.expr_reader.specs.declared.guard.GuardState.TheVariants as guard_places
 use Rattle.expr_reader.specs.declared.guard.GuardReader.{GuardReader}
 use Rattle.expr_reader.proofs.Standing.{fresh_stands}
 use Rattle.expr_reader.proofs.Endings.{goes_on_is}
 use Rattle.its_text.specs.Pieces.{Piece, In, SquareClose}
-use Rattle.its_text.specs.Fronts as fronts
+use Rattle.its_text.specs.Fronts as grammar_states
 use Rattle.its_text.specs.Fronts.{Front, Headed}
 use Rattle.its_text.specs.FrontNames.{headed_names}
 use Rattle.its_text.specs.Steps.{step, mark_guard_step, guard_ended, guard_named, square_guard_step, square_ended}
-use Rattle.its_text.specs.FrontFaults as shown
-use Rattle.its_text.specs.FrontFaults.{Tokens}
+use Rattle.its_text.specs.StateFaults as shown
+use Rattle.its_text.specs.StateFaults.{Tokens}
 use Rattle.its_reader.specs.Tests as tests
 use Rattle.its_reader.specs.Standing.{KnowsSymbols, KnowsHeaded, symbols_headed}
 use Rattle.its_reader.specs.Places.{LeadsTo, IsGuard}
@@ -46,13 +46,13 @@ use Rattle.its_reader.specs.declared.parser_state.ParserState.{ParserState}
 use Rattle.its_reader.specs.declared.draft.Draft.{Draft}
 use Rattle.its_reader.specs.declared.draft.RuleDraft.{RuleDraft}
 use Rattle.its_reader.proofs.LeftLaws.{leads_together}
-use Rattle.its_reader.proofs.LedLaws.{led_kept}
+use Rattle.its_reader.proofs.ArrowLaws.{arrow_kept}
 use Rattle.std.proofs.lemmas.Bool.{ltb-false as at_most, le-ltb as not_below}
 
 -- the written state of a guard after its opening, and of a guard that may be absent
 abbrev pub guarded : GuardOpening → Headed → GuardFront → Front
-guarded fences.Mark h g = fronts.MarkGuarding h g
-guarded fences.Square h g = fronts.SquareGuarding h g
+guarded fences.Mark h g = grammar_states.MarkGuarding h g
+guarded fences.Square h g = grammar_states.SquareGuarding h g
 
 abbrev pub mapped : Option GuardFront → GuardOpening → Headed → Option Front
 mapped None fence h = None
@@ -86,23 +86,23 @@ right_step c l sign e p h = go (expression_steps.step e p) h
 module _ (before names : List Name) (r : GuardReader) where
   -- within an atom a guard can't end before a piece that is in no guard
   pub unfinished : (g : GuardFront) → IsPartEnded None before g names r → is_read r.state ≡ false → guards.finish g ≡ None
-  unfinished g (part_ended_none at) u = ap guards.finish at.front_is
-  unfinished g (part_ended_left at) u = ap guards.finish at.front_is ∙ ap (ended at.conjoined) (at.follows refl)
-  unfinished g (part_ended_right at) u = ap guards.finish at.right.front_is ∙ ap (λ o. ended at.right.conjoined (compared at.right.left at.right.sign o)) (at.goes_on refl)
+  unfinished g (part_ended_none at) u = ap guards.finish at.state_is_represented
+  unfinished g (part_ended_left at) u = ap guards.finish at.state_is_represented ∙ ap (ended at.conjoined) (at.follows refl)
+  unfinished g (part_ended_right at) u = ap guards.finish at.right.state_is_represented ∙ ap (λ o. ended at.right.conjoined (compared at.right.left at.right.sign o)) (at.goes_on refl)
   unfinished g (part_ended_end at) u = absurd (read_unread r u at.state_is)
 
   -- within an atom a guard can't end before a piece that doesn't continue it
   stuck : (h : Headed) (g : GuardFront) (p : inner.Piece) → IsPartEnded (Some p) before g names r → is_read r.state ≡ false → guards.step g p ≡ None → guard_ended h (guards.finish g) p ≡ None
-  stuck h g p (part_ended_none at) u n = ap (λ o. guard_ended h o p) (ap guards.finish at.front_is)
+  stuck h g p (part_ended_none at) u n = ap (λ o. guard_ended h o p) (ap guards.finish at.state_is_represented)
   stuck h g p (part_ended_left at) u n = go (operates p) refl
     where
       go : (v : Bool) → operates p ≡ v → guard_ended h (guards.finish g) p ≡ None
       go true e = operator_stays h (guards.finish g) p e
-      go false e = ap (λ o. guard_ended h o p) (ap guards.finish at.front_is ∙ ap (ended at.conjoined) (at.follows e))
+      go false e = ap (λ o. guard_ended h o p) (ap guards.finish at.state_is_represented ∙ ap (ended at.conjoined) (at.follows e))
   stuck h g p (part_ended_right at) u n =
-      let none = right_step at.right.conjoined at.right.left at.right.sign at.right.read p (sym (ap (λ g. guards.step g p) at.right.front_is) ∙ n) in
+      let none = right_step at.right.conjoined at.right.left at.right.sign at.right.read p (sym (ap (λ g. guards.step g p) at.right.state_is_represented) ∙ n) in
       ap (λ o. guard_ended h o p)
-      (ap guards.finish at.right.front_is
+      (ap guards.finish at.right.state_is_represented
       ∙ ap (λ o. ended at.right.conjoined (compared at.right.left at.right.sign o)) (at.goes_on (ap (λ (o : Option expression.Front). not (is_front o)) none)))
   stuck h g p (part_ended_end at) u n = absurd (read_unread r u at.state_is)
 
@@ -147,8 +147,8 @@ module _ (before names : List Name) (r : GuardReader) where
   is_going None = false
   is_going (Some g) = true
 
-  goes : (p : inner.Piece) → is_read r.state ≡ false → (base : List Name) (e : expression.Front) → Stands base e names r.expression → goes_on_in r p ≡ is_front (expression_steps.step e p)
-  goes p u base e s = ap (λ v. not v && goes_on_from (front_of r.expression).outer (front_of r.expression).operand p) u ∙ goes_on_is base e names r.expression p s
+  goes : (p : inner.Piece) → is_read r.state ≡ false → (base : List Name) (e : expression.Front) → RepresentsExpression base e names r.expression → goes_on_in r p ≡ is_front (expression_steps.step e p)
+  goes p u base e s = ap (λ v. not v && goes_on_from (grammar_state_of r.expression).outer (grammar_state_of r.expression).operand p) u ∙ goes_on_is base e names r.expression p s
 
   digits_left : (c : Conjoined) (e : expression.Front) (ds : Name) → is_going (guards.step (LeftSide c e) (inner.Digits ds)) ≡ is_front (expression_steps.step e (inner.Digits ds))
   digits_left c e ds = go (expression_steps.step e (inner.Digits ds))
@@ -166,18 +166,18 @@ module _ (before names : List Name) (r : GuardReader) where
 
   digits_go : (g : GuardFront) (ds : Name) → IsPartEnded (Some (inner.Digits ds)) before g names r → is_going (guards.step g (inner.Digits ds)) ≡ goes_on_in r (inner.Digits ds)
   digits_go g ds (part_ended_none at) =
-      ap (λ g. is_going (guards.step g (inner.Digits ds))) at.front_is
+      ap (λ g. is_going (guards.step g (inner.Digits ds))) at.state_is_represented
       ∙ sym (goes (inner.Digits ds) (ap is_read at.state_is) names beginning (fresh_stands names r.expression at.expression))
   digits_go g ds (part_ended_left at) =
-      ap (λ g. is_going (guards.step g (inner.Digits ds))) at.front_is
+      ap (λ g. is_going (guards.step g (inner.Digits ds))) at.state_is_represented
       ∙ (digits_left at.conjoined at.read ds ∙ sym (goes (inner.Digits ds) (ap is_read at.state_is) (with_conjoined before at.conjoined) at.read at.expression))
   digits_go g ds (part_ended_right at) =
-      ap (λ g. is_going (guards.step g (inner.Digits ds))) at.right.front_is
+      ap (λ g. is_going (guards.step g (inner.Digits ds))) at.right.state_is_represented
       ∙ (digits_right at.right.conjoined at.right.left at.right.sign at.right.read ds
       ∙ sym (goes (inner.Digits ds) (ap is_read at.right.state_is) (with_sum (with_conjoined before at.right.conjoined) at.right.left) at.right.read at.right.expression))
   digits_go g ds (part_ended_end at) =
       ap is_going (at.joins (inner.Digits ds) refl)
-      ∙ sym (ap (λ state. not (is_read state) && goes_on_from (front_of r.expression).outer (front_of r.expression).operand (inner.Digits ds)) at.state_is)
+      ∙ sym (ap (λ state. not (is_read state) && goes_on_from (grammar_state_of r.expression).outer (grammar_state_of r.expression).operand (inner.Digits ds)) at.state_is)
 
   -- a literal that is too large is accepted by the code exactly if the guard accepts it
   pub digits_together : (fence : GuardOpening) (h : Headed) (g : GuardFront) (p : inner.Piece) (result : Option ParserState) → is_modest p ≡ false → IsPartEnded (Some p) before g names r → result ≡ guarding_if (goes_on_in r p) fence
@@ -210,7 +210,7 @@ is_modest_is _ m = refl
 -- the knowledge of a target is unchanged while a guard is read
 pub headed_stays : (ts : Tokens) (h : Headed) (fence : GuardOpening) (p : Piece) (behind : Option Piece) (result : Option ParserState) (old new : Draft) → KnowsHeaded ts h old → AtomTakes fence old p behind result new → KnowsHeaded ts h new
 headed_stays ts h fence p behind result old new k a = record {
-  led = led_kept ts h.led old new k.led a.sections a.rules a.stays.source a.stays.left a.stays.cost;
+  led = arrow_kept ts h.led old new k.led a.sections a.rules a.stays.source a.stays.left a.stays.cost;
   symbols = subst (KnowsSymbols (symbols_headed h)) (sym a.symbols) k.symbols;
   target_is = a.stays.target ∙ k.target_is;
   updates_are = ap (λ v. map term_of v.items) a.stays.updates ∙ k.updates_are;
@@ -263,16 +263,16 @@ module _ (ts : Tokens) (h : Headed) (fence : GuardOpening) (behind : Option Piec
       rw a.takes.by (subst (λ o. GoTogether o None) (sym (none_behind (headed_names h) (names_in old.rule.variables) old.rule.guard fence h g p refl s (unread (is_read old.rule.guard.state) still))) tt)
 
 -- a name after `:|:` that begins an atom denotes the guard
-word_step : (h : Headed) (name : Name) (p : Piece) → shown.is_open (Some p) ≡ false → step (fronts.WordRead h name) p ≡ step (fronts.MarkGuarding h (guard_named name)) p
+word_step : (h : Headed) (name : Name) (p : Piece) → shown.is_open (Some p) ≡ false → step (grammar_states.WordRead h name) p ≡ step (grammar_states.MarkGuarding h (guard_named name)) p
 word_step h name (In inner.Open) e = cc
 word_step h name (In _) e = refl
 word_step h name _ e = refl
 
 -- a state that denotes a guard leads where the guard after its opening does
-pub front_step : (fence : GuardOpening) (h : Headed) (g : GuardFront) (f : Front) (p : Piece) → IsGuard (Some p) fence h g f → step f p ≡ step (guarded fence h g) p
-front_step fences.Square h g f p e = ap (λ f. step f p) e
-front_step fences.Mark h g f p (inl e) = ap (λ f. step f p) e
-front_step fences.Mark h g f p (inr (name, (e, (is, closed)))) = ap (λ f. step f p) e ∙ (word_step h name p closed ∙ ap (λ g. step (fronts.MarkGuarding h g) p) (sym is))
+pub state_step : (fence : GuardOpening) (h : Headed) (g : GuardFront) (f : Front) (p : Piece) → IsGuard (Some p) fence h g f → step f p ≡ step (guarded fence h g) p
+state_step fences.Square h g f p e = ap (λ f. step f p) e
+state_step fences.Mark h g f p (inl e) = ap (λ f. step f p) e
+state_step fences.Mark h g f p (inr (name, (e, (is, closed)))) = ap (λ f. step f p) e ∙ (word_step h name p closed ∙ ap (λ g. step (grammar_states.MarkGuarding h g) p) (sym is))
 
 -- a literal that is too large, a modest piece, and no piece
 pub large_taken : {fence : GuardOpening} {old new : RuleDraft} {p : inner.Piece} {behind : Option inner.Piece} {result : Option ParserState} → is_modest p ≡ false → result ≡ guarding_if (goes_on_in old.guard p) fence → TakesPiece fence old p behind result new

@@ -9,8 +9,8 @@ use Rattle.its_text.specs.Pieces.{Piece}
 use Rattle.its_text.specs.Kinds.{Kind}
 use Rattle.its_text.specs.Fronts.{Front}
 use Rattle.its_text.specs.Grammar.{programs}
-use Rattle.its_text.specs.FrontFaults.{Tokens, next_piece, piece_behind, last_byte, front_faults, last_faults}
-use Rattle.its_text.specs.FrontFaults.{next_faults}
+use Rattle.its_text.specs.StateFaults.{Tokens, next_piece, piece_behind, last_byte, faults_of_state, last_faults}
+use Rattle.its_text.specs.StateFaults.{next_faults}
 use Rattle.its_reader.specs.Places.{PartEndedAt}
 use Rattle.its_reader.specs.FaultTests.{IsDigital, state_faults}
 use Rattle.its_reader.specs.TokenSteps.{EndsPart, Judges}
@@ -33,7 +33,7 @@ state_next ts at next behind d f (places.InTail state) k digital = tail_next ts 
 
 -- the first of the faults shown, with the tokens before and after
 shown_is : (best : Option (Fault Kind)) (n last at : ℕ) (next behind : Option Piece) (done rest : Tokens) (f : Front) → next_piece rest ≡ next → piece_behind rest ≡ behind → next_at n rest ≡ at → last_byte done ≡ last
-    → first_among programs best (last_faults last f next ++ next_faults at f next behind) ≡ first_among programs best (front_faults n done f rest)
+    → first_among programs best (last_faults last f next ++ next_faults at f next behind) ≡ first_among programs best (faults_of_state n done f rest)
 shown_is best n last at next behind done rest f a b c e =
     ap (λ l. first_among programs best (last_faults l f next ++ next_faults at f next behind)) (sym e)
     ∙ (ap (λ o. first_among programs best (last_faults (last_byte done) f o ++ next_faults at f o behind)) (sym a)

@@ -15,10 +15,10 @@ use Rattle.expr_reader.specs.Variables.{names_in}
 use Rattle.its_text.specs.Pieces.{Piece, In, Comma, Arrow, CostOpen, open_bracket}
 use Rattle.its_text.specs.Written.{LeftTerm, BehindMark}
 use Rattle.its_text.specs.Numbering.{symbols_of, with_symbol, number_of, names_of}
-use Rattle.its_text.specs.Fronts as fronts
+use Rattle.its_text.specs.Fronts as grammar_states
 use Rattle.its_text.specs.Fronts.{Front, Ruling, Headed, ruling_with, section_of}
-use Rattle.its_text.specs.FrontFaults.{Tokens, other_arity}
-use Rattle.its_text.specs.Steps.{step, left_shut}
+use Rattle.its_text.specs.StateFaults.{Tokens, other_arity}
+use Rattle.its_text.specs.Steps.{step, left_closed}
 use Rattle.its_reader.specs.Tests as tests
 use Rattle.its_reader.specs.Standing.{KnowsSections, KnowsRuling, KnowsSource, KnowsLeft, KnowsSymbols, IsFreshRule}
 use Rattle.its_reader.specs.Standing.{without_cost}
@@ -33,9 +33,9 @@ use Rattle.its_reader.specs.declared.parser_state.TargetState.TheVariants as rig
 use Rattle.its_reader.specs.declared.parser_state.ParserState.{ParserState}
 use Rattle.its_reader.specs.declared.parser_state.ParserState.TheVariants as places
 use Rattle.its_reader.proofs.SymbolTables.{symbols_with, arity_at, number_stays}
-use Rattle.expr_reader.specs.Standing.{IsFresh, Stands}
+use Rattle.expr_reader.specs.Standing.{IsFresh, RepresentsExpression}
 use Rattle.expr_reader.proofs.Standing.{fresh_stands}
-use Rattle.expr_reader.specs.GuardStanding.{IsWanting}
+use Rattle.expr_reader.specs.GuardRepresentation.{IsWanting}
 use Rattle.its_text.specs.expr_text.GuardFronts.{no_atoms}
 
 -- two states that agree accept the same pieces
@@ -50,12 +50,12 @@ module _ (ts : Tokens) (next : Option Piece) where
   pub source_leads : (p : Piece) (f : Front) (d : Draft) → InLeft ts (Some p) lefts.SourceNamed d f → LeadsTo ts next (step f p) (if tests.opens p then Some (places.InLeft lefts.LeftOpened) else None) d
   source_leads p f d k = either k.1.1.0
     where
-      go : (p : Piece) → LeadsTo ts next (step (fronts.SourceNamed k.0 k.1.0) p) (if tests.opens p then Some (places.InLeft lefts.LeftOpened) else None) d
+      go : (p : Piece) → LeadsTo ts next (step (grammar_states.SourceNamed k.0 k.1.0) p) (if tests.opens p then Some (places.InLeft lefts.LeftOpened) else None) d
       go (In inner.Open) = (k.0, (k.1.0, (refl, k.1.1.1)))
       go (In _) = tt
       go _ = tt
 
-      mark : (h : Headed) → k.0 ≡ ruling_with h (BehindMark None) → LeadsTo ts next (step (fronts.WordRead h k.1.0) open_bracket) (Some (places.InLeft lefts.LeftOpened)) d
+      mark : (h : Headed) → k.0 ≡ ruling_with h (BehindMark None) → LeadsTo ts next (step (grammar_states.WordRead h k.1.0) open_bracket) (Some (places.InLeft lefts.LeftOpened)) d
       mark h e = (ruling_with h (BehindMark None), (k.1.0, (refl, subst (λ (r : Ruling). KnowsSource ts r k.1.0 [] d) e k.1.1.1)))
 
       either : IsSource (Some p) k.0 k.1.0 f → LeadsTo ts next (step f p) (if tests.opens p then Some (places.InLeft lefts.LeftOpened) else None) d
@@ -71,15 +71,15 @@ module _ (ts : Tokens) (next : Option Piece) where
     symbols = k.symbols;
     updates = k.updates;
     guard = k.guard;
-    expression = subst (λ (b : List Name). Stands b expression.beginning (names_in d.rule.variables) d.rule.expression) k.names_are (fresh_stands (names_in d.rule.variables) d.rule.expression k.expression);
+    expression = subst (λ (b : List Name). RepresentsExpression b expression.beginning (names_in d.rule.variables) d.rule.expression) k.names_are (fresh_stands (names_in d.rule.variables) d.rule.expression k.expression);
   }
 
   -- after a left term only an arrow can follow, with a cost or none
-  pub shut_leads : (p : Piece) (f : Front) (d : Draft) → InLeft ts (Some p) lefts.SourceClosed d f
+  pub closed_leads : (p : Piece) (f : Front) (d : Draft) → InLeft ts (Some p) lefts.SourceClosed d f
       → LeadsTo ts next (step f p) (if tests.leads p then Some (places.InRight rights.Arrowed) else if tests.opens_cost p then Some (places.InCost costs.Costing) else None) d
-  shut_leads p f d k = rw k.1.1.0 (go p)
+  closed_leads p f d k = rw k.1.1.0 (go p)
     where
-      go : (p : Piece) → LeadsTo ts next (step (fronts.SourceClosed k.0 k.1.0) p) (if tests.leads p then Some (places.InRight rights.Arrowed) else if tests.opens_cost p then Some (places.InCost costs.Costing) else None) d
+      go : (p : Piece) → LeadsTo ts next (step (grammar_states.SourceClosed k.0 k.1.0) p) (if tests.leads p then Some (places.InRight rights.Arrowed) else if tests.opens_cost p then Some (places.InCost costs.Costing) else None) d
       go Arrow = (without_cost k.0 k.1.0, (refl, k.1.1.1.0))
       go CostOpen = (k.0, (k.1.0, (expression.beginning, (refl, cost_begins k.0 k.1.0 d k.1.1.1.0))))
       go (In _) = tt
@@ -89,7 +89,7 @@ module _ (ts : Tokens) (next : Option Piece) where
   pub parted_leads : (p : Piece) (f : Front) (d : Draft) → InLeft ts (Some p) lefts.LeftRead d f → tests.closes p ≡ false → LeadsTo ts next (step f p) (if tests.parts p then Some (places.InLeft lefts.LeftParted) else None) d
   parted_leads p f d k h = rw k.1.1.1.1.0 (go p h)
     where
-      go : (p : Piece) → tests.closes p ≡ false → LeadsTo ts next (step (fronts.LeftRead k.0 k.1.0 k.1.1.0 k.1.1.1.0) p) (if tests.parts p then Some (places.InLeft lefts.LeftParted) else None) d
+      go : (p : Piece) → tests.closes p ≡ false → LeadsTo ts next (step (grammar_states.LeftRead k.0 k.1.0 k.1.1.0 k.1.1.1.0) p) (if tests.parts p then Some (places.InLeft lefts.LeftParted) else None) d
       go Comma h = (k.0, (k.1.0, (k.1.1.0, (k.1.1.1.0, (refl, k.1.1.1.1.1)))))
       go (In inner.Close) h = cc
       go (In _) h = tt
@@ -116,7 +116,7 @@ module _ (ts : Tokens) (next : Option Piece) where
       → is_among a (names_in old.rule.variables) ≡ false → LeadsTo ts next (step f p) (Some (places.InLeft lefts.LeftRead)) new
   opened_named p f old new a k h s n fresh = rw k.1.1.0 (go p h)
     where
-      go : (p : Piece) → tests.word p ≡ Some a → LeadsTo ts next (step (fronts.LeftOpened k.0 k.1.0) p) (Some (places.InLeft lefts.LeftRead)) new
+      go : (p : Piece) → tests.word p ≡ Some a → LeadsTo ts next (step (grammar_states.LeftOpened k.0 k.1.0) p) (Some (places.InLeft lefts.LeftRead)) new
       go (In (inner.Word b)) h = let same : b ≡ a = cc in (k.0, (k.1.0, (b, ([], (refl, subst (λ (c : Name). KnowsSource ts k.0 k.1.0 (c ∷ []) new) (sym same) (argument_known k.0 k.1.0 a [] old new k.1.1.1 s n fresh))))))
       go (In _) h = cc
       go _ h = cc
@@ -126,7 +126,7 @@ module _ (ts : Tokens) (next : Option Piece) where
       → is_among a (names_in old.rule.variables) ≡ false → LeadsTo ts next (step f p) (Some (places.InLeft lefts.LeftRead)) new
   parted_named p f old new a k h s n fresh = rw k.1.1.1.1.0 (go p h)
     where
-      go : (p : Piece) → tests.word p ≡ Some a → LeadsTo ts next (step (fronts.LeftParted k.0 k.1.0 k.1.1.0 k.1.1.1.0) p) (Some (places.InLeft lefts.LeftRead)) new
+      go : (p : Piece) → tests.word p ≡ Some a → LeadsTo ts next (step (grammar_states.LeftParted k.0 k.1.0 k.1.1.0 k.1.1.1.0) p) (Some (places.InLeft lefts.LeftRead)) new
       go (In (inner.Word b)) h = let same : b ≡ a = cc in (k.0, (k.1.0, (b, (k.1.1.0 ∷ k.1.1.1.0, (refl, subst (λ (c : Name). KnowsSource ts k.0 k.1.0 (c ∷ (k.1.1.0 ∷ k.1.1.1.0)) new) (sym same) (argument_known k.0 k.1.0 a (k.1.1.0 ∷ k.1.1.1.0) old new k.1.1.1.1.1 s n fresh))))))
       go (In _) h = cc
       go _ h = cc
@@ -135,7 +135,7 @@ module _ (ts : Tokens) (next : Option Piece) where
   pub parted_stops : (p : Piece) (f : Front) (d : Draft) → InLeft ts (Some p) lefts.LeftParted d f → tests.word p ≡ None → LeadsTo ts next (step f p) None d
   parted_stops p f d k h = rw k.1.1.1.1.0 (go p h)
     where
-      go : (p : Piece) → tests.word p ≡ None → LeadsTo ts next (step (fronts.LeftParted k.0 k.1.0 k.1.1.0 k.1.1.1.0) p) None d
+      go : (p : Piece) → tests.word p ≡ None → LeadsTo ts next (step (grammar_states.LeftParted k.0 k.1.0 k.1.1.0 k.1.1.1.0) p) None d
       go (In (inner.Word b)) h = cc
       go (In _) h = tt
       go _ h = tt
@@ -144,7 +144,7 @@ module _ (ts : Tokens) (next : Option Piece) where
   pub opened_stops : (p : Piece) (f : Front) (d : Draft) → InLeft ts (Some p) lefts.LeftOpened d f → tests.closes p ≡ false → tests.word p ≡ None → LeadsTo ts next (step f p) None d
   opened_stops p f d k c h = rw k.1.1.0 (go p c h)
     where
-      go : (p : Piece) → tests.closes p ≡ false → tests.word p ≡ None → LeadsTo ts next (step (fronts.LeftOpened k.0 k.1.0) p) None d
+      go : (p : Piece) → tests.closes p ≡ false → tests.word p ≡ None → LeadsTo ts next (step (grammar_states.LeftOpened k.0 k.1.0) p) None d
       go (In (inner.Word b)) c h = cc
       go (In inner.Close) c h = cc
       go (In _) c h = tt
@@ -189,7 +189,7 @@ module _ (ts : Tokens) (next : Option Piece) where
       ∙ ap (λ n. not (n == length arguments)) (arity_at (with_symbol (symbols_of r.rules) name (length arguments)) name))))
 
   left_ends : (r : Ruling) (name : Name) (arguments : List Name) (old new : Draft) → KnowsSource ts r name arguments old → AfterLeft old new
-      → LeadsTo ts next (Some (left_shut r name arguments)) (Some (places.InLeft lefts.SourceClosed)) new
+      → LeadsTo ts next (Some (left_closed r name arguments)) (Some (places.InLeft lefts.SourceClosed)) new
   left_ends r name arguments old new k h =
       let left = left_known r name arguments old new k h in
       (r, (record { name = name; arguments = arguments }, (refl, (left, left_differs r name arguments old new k h left))))
@@ -198,7 +198,7 @@ module _ (ts : Tokens) (next : Option Piece) where
   pub opened_ends : (p : Piece) (f : Front) (old new : Draft) → InLeft ts (Some p) lefts.LeftOpened old f → tests.closes p ≡ true → AfterLeft old new → LeadsTo ts next (step f p) (Some (places.InLeft lefts.SourceClosed)) new
   opened_ends p f old new k c h = rw k.1.1.0 (go p c)
     where
-      go : (p : Piece) → tests.closes p ≡ true → LeadsTo ts next (step (fronts.LeftOpened k.0 k.1.0) p) (Some (places.InLeft lefts.SourceClosed)) new
+      go : (p : Piece) → tests.closes p ≡ true → LeadsTo ts next (step (grammar_states.LeftOpened k.0 k.1.0) p) (Some (places.InLeft lefts.SourceClosed)) new
       go (In inner.Close) c = left_ends k.0 k.1.0 [] old new k.1.1.1 h
       go (In _) c = cc
       go _ c = cc
@@ -207,7 +207,7 @@ module _ (ts : Tokens) (next : Option Piece) where
   pub read_ends : (p : Piece) (f : Front) (old new : Draft) → InLeft ts (Some p) lefts.LeftRead old f → tests.closes p ≡ true → AfterLeft old new → LeadsTo ts next (step f p) (Some (places.InLeft lefts.SourceClosed)) new
   read_ends p f old new k c h = rw k.1.1.1.1.0 (go p c)
     where
-      go : (p : Piece) → tests.closes p ≡ true → LeadsTo ts next (step (fronts.LeftRead k.0 k.1.0 k.1.1.0 k.1.1.1.0) p) (Some (places.InLeft lefts.SourceClosed)) new
+      go : (p : Piece) → tests.closes p ≡ true → LeadsTo ts next (step (grammar_states.LeftRead k.0 k.1.0 k.1.1.0 k.1.1.1.0) p) (Some (places.InLeft lefts.SourceClosed)) new
       go (In inner.Close) c = left_ends k.0 k.1.0 (k.1.1.0 ∷ k.1.1.1.0) old new k.1.1.1.1.1 h
       go (In _) c = cc
       go _ c = cc
@@ -215,10 +215,10 @@ module _ (ts : Tokens) (next : Option Piece) where
   -- a rule's source is named
   pub ruled_named : (p : Piece) (r : Ruling) (old new : Draft) (name : Name) → KnowsRuling ts r old → IsFreshRule old.rule → tests.word p ≡ Some name → new.rule.name.now ≡ name
       → new.sections ≡ old.sections → new.rules ≡ old.rules → new.symbols ≡ old.symbols → new.rule.variables ≡ old.rule.variables → new.rule.updates ≡ old.rule.updates → new.rule.expression ≡ old.rule.expression → new.rule.guard ≡ old.rule.guard
-      → new.rule.cost ≡ old.rule.cost → LeadsTo ts next (step (fronts.AfterRule r) p) (Some (places.InLeft lefts.SourceNamed)) new
+      → new.rule.cost ≡ old.rule.cost → LeadsTo ts next (step (grammar_states.AfterRule r) p) (Some (places.InLeft lefts.SourceNamed)) new
   ruled_named p r old new name k fresh w e a b c v u x g y = go p w
     where
-      go : (p : Piece) → tests.word p ≡ Some name → LeadsTo ts next (step (fronts.AfterRule r) p) (Some (places.InLeft lefts.SourceNamed)) new
+      go : (p : Piece) → tests.word p ≡ Some name → LeadsTo ts next (step (grammar_states.AfterRule r) p) (Some (places.InLeft lefts.SourceNamed)) new
       go (In (inner.Word n)) w = (
         r,
         (
@@ -245,10 +245,10 @@ module _ (ts : Tokens) (next : Option Piece) where
 
   -- the rules end
   pub ruled_ends : (p : Piece) (r : Ruling) (old new : Draft) → KnowsRuling ts r old → tests.closes p ≡ true → new ≡ record old { sections = record old.sections { rules = true } }
-      → LeadsTo ts next (step (fronts.AfterRule r) p) (Some (places.InSections sections.Between)) new
+      → LeadsTo ts next (step (grammar_states.AfterRule r) p) (Some (places.InSections sections.Between)) new
   ruled_ends p r old new k c e = rw e (go p c)
     where
-      go : (p : Piece) → tests.closes p ≡ true → LeadsTo ts next (step (fronts.AfterRule r) p) (Some (places.InSections sections.Between)) (record old { sections = record old.sections { rules = true } })
+      go : (p : Piece) → tests.closes p ≡ true → LeadsTo ts next (step (grammar_states.AfterRule r) p) (Some (places.InSections sections.Between)) (record old { sections = record old.sections { rules = true } })
       go (In inner.Close) c = (
         section_of r,
         (
@@ -263,7 +263,7 @@ module _ (ts : Tokens) (next : Option Piece) where
       go _ c = cc
 
   -- between rules only a name and a closing bracket can follow
-  pub ruled_stops : (p : Piece) (r : Ruling) (d : Draft) → tests.word p ≡ None → tests.closes p ≡ false → LeadsTo ts next (step (fronts.AfterRule r) p) None d
+  pub ruled_stops : (p : Piece) (r : Ruling) (d : Draft) → tests.word p ≡ None → tests.closes p ≡ false → LeadsTo ts next (step (grammar_states.AfterRule r) p) None d
   ruled_stops (In (inner.Word n)) r d w c = cc
   ruled_stops (In inner.Close) r d w c = cc
   ruled_stops (In _) r d w c = tt
@@ -273,7 +273,7 @@ module _ (ts : Tokens) (next : Option Piece) where
   opened_follows : (p : Piece) (f : Front) (old : Draft) (a : Name) (state : ParserState) → InLeft ts (Some p) lefts.LeftOpened old f → tests.word p ≡ Some a → GoTogether (step f p) (Some state)
   opened_follows p f old a state k h = rw k.1.1.0 (go p h)
     where
-      go : (p : Piece) → tests.word p ≡ Some a → GoTogether (step (fronts.LeftOpened k.0 k.1.0) p) (Some state)
+      go : (p : Piece) → tests.word p ≡ Some a → GoTogether (step (grammar_states.LeftOpened k.0 k.1.0) p) (Some state)
       go (In (inner.Word b)) h = tt
       go (In _) h = cc
       go _ h = cc
@@ -281,7 +281,7 @@ module _ (ts : Tokens) (next : Option Piece) where
   parted_follows : (p : Piece) (f : Front) (old : Draft) (a : Name) (state : ParserState) → InLeft ts (Some p) lefts.LeftParted old f → tests.word p ≡ Some a → GoTogether (step f p) (Some state)
   parted_follows p f old a state k h = rw k.1.1.1.1.0 (go p h)
     where
-      go : (p : Piece) → tests.word p ≡ Some a → GoTogether (step (fronts.LeftParted k.0 k.1.0 k.1.1.0 k.1.1.1.0) p) (Some state)
+      go : (p : Piece) → tests.word p ≡ Some a → GoTogether (step (grammar_states.LeftParted k.0 k.1.0 k.1.1.0 k.1.1.1.0) p) (Some state)
       go (In (inner.Word b)) h = tt
       go (In _) h = cc
       go _ h = cc
@@ -332,7 +332,7 @@ source_promise p old result v e h = always lefts.SourceNamed p old old result (�
 -- after a left term the code steps as the written state does
 pub closed_promise : (p : Piece) (old : Draft) (result : Option ParserState) → result ≡ (if tests.leads p then Some (places.InRight rights.Arrowed) else if tests.opens_cost p then Some (places.InCost costs.Costing) else None)
     → LeftLeads lefts.SourceClosed old p result old
-closed_promise p old result h = always lefts.SourceClosed p old old result (λ ts next f k. rw h (shut_leads ts next p f old k))
+closed_promise p old result h = always lefts.SourceClosed p old old result (λ ts next f k. rw h (closed_leads ts next p f old k))
 
 -- between rules the code steps as the written state does
 pub ruled_promise : (p : Piece) (old new : Draft) (result : Option ParserState) → RuleLeads old p result new → LeftLeads lefts.AfterRule old p result new

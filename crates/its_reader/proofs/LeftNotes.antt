@@ -14,7 +14,7 @@ use Rattle.its_text.specs.Pieces.{Piece, In}
 use Rattle.its_text.specs.Written.{WrittenRule}
 use Rattle.its_text.specs.Kinds.{LeftNotVariable, LeftRepeated, Limit, TooManyRules, TooManyArguments, LongName}
 use Rattle.its_text.specs.Fronts.{Front}
-use Rattle.its_text.specs.FrontFaults.{Tokens, fault_if, long_name, is_word, is_operator, left_of, next_faults}
+use Rattle.its_text.specs.StateFaults.{Tokens, fault_if, long_name, is_word, is_operator, left_of, next_faults}
 use Rattle.its_reader.specs.Tests as tests
 use Rattle.its_reader.specs.Standing.{rules_so_far}
 use Rattle.its_reader.specs.Places.{InLeft, IsSource}

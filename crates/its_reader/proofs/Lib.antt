@@ -6,7 +6,7 @@ pub mod SectionLaws
 pub mod Positions
 pub mod Fronts
 pub mod SymbolTables
-pub mod LedLaws
+pub mod ArrowLaws
 pub mod LeftLaws
 pub mod CostLaws
 pub mod CostEnds
@@ -38,5 +38,5 @@ pub mod TailNotes
 pub mod ListedLaws
 pub mod FinishLaws
 pub mod LimitedRules
--- the lemmas of the crates below, which callers name through this one
+-- The lemmas of the crates below, which callers name through this one.
 pub use Rattle.its_text.proofs as its_text

@@ -10,7 +10,7 @@ use Rattle.text_core.specs.Reading.{Answer, Stands, Refused}
 use Rattle.poly_terms.specs.Faults.{first_fault}
 use Rattle.its_model.specs.Valid.{IsValid, IsValidRule, IsValidTerm, IsValidAtom, IsValidCost, difference_of}
 use Rattle.its_text.specs.expr_text.TermFronts.{limited}
-use Rattle.expr_reader.specs.GuardStanding.{limited_atom}
+use Rattle.expr_reader.specs.GuardRepresentation.{limited_atom}
 use Rattle.expr_reader.proofs.LimitedFaults.{limited_same}
 use Rattle.its_model.specs.declared.program.Program as code
 use Rattle.its_model.specs.Views.{program_of}

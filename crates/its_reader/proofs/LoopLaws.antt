@@ -8,7 +8,7 @@ use Rattle.its_text.specs.Pieces.{Piece}
 use Rattle.its_text.specs.Kinds.{Kind}
 use Rattle.its_text.specs.Lexing.{Outside, lexer, tokens_of}
 use Rattle.its_text.specs.Answers.{verdict}
-use Rattle.its_text.specs.FrontFaults.{Tokens, next_piece}
+use Rattle.its_text.specs.StateFaults.{Tokens, next_piece}
 use Rattle.its_reader.specs.Views.{mode_of, tokens_in, listed, piece_in_token}
 use Rattle.its_reader.specs.Faults.{fault_of, maybe_fault, fault_in, Says}
 use Rattle.its_reader.specs.Standing.{KnowsBetween}

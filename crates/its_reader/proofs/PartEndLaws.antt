@@ -19,19 +19,19 @@ use Rattle.its_text.specs.expr_text.Differences.{differences, first_of_all}
 use Rattle.expr_reader.specs.Variables.{names_in}
 use Rattle.expr_reader.specs.Faults as found
 use Rattle.expr_reader.specs.Standing.{IsFresh}
-use Rattle.expr_reader.specs.GuardStanding as standing
-use Rattle.expr_reader.specs.GuardStanding.{IsWanting, Reads, reading_none, reading_left, reading_right, reading_truth}
-use Rattle.expr_reader.specs.GuardStanding.{IsPartEnded}
+use Rattle.expr_reader.specs.GuardRepresentation as standing
+use Rattle.expr_reader.specs.GuardRepresentation.{IsWanting, Reads, reading_none, reading_left, reading_right, reading_truth}
+use Rattle.expr_reader.specs.GuardRepresentation.{IsPartEnded}
 use Rattle.expr_reader.specs.declared.guard.GuardReader.{GuardReader}
 use Rattle.expr_reader.proofs.Endings.{finished_names}
 use Rattle.its_text.specs.Pieces.{Piece, In}
 use Rattle.its_text.specs.Kinds.{ArityDiffers}
 use Rattle.its_text.specs.Numbering.{arrow_names}
-use Rattle.its_text.specs.Fronts as fronts
+use Rattle.its_text.specs.Fronts as grammar_states
 use Rattle.its_text.specs.Fronts.{Front, Aimed, Headed}
 use Rattle.its_text.specs.FrontNames.{names_with, headed_names}
-use Rattle.its_text.specs.FrontFaults.{Tokens, FaultList, fault_if, expansion_faults, atom_faults}
-use Rattle.its_text.specs.FrontFaults.{right_side_faults, ends_expression, last_faults}
+use Rattle.its_text.specs.StateFaults.{Tokens, FaultList, fault_if, expansion_faults, atom_faults}
+use Rattle.its_text.specs.StateFaults.{right_side_faults, ends_expression, last_faults}
 use Rattle.its_reader.specs.Tests.{inner_next}
 use Rattle.its_reader.specs.Standing.{KnowsHeaded, updates_of}
 use Rattle.its_reader.specs.Places.{InLeft, InRight, InTail, RightPartEnded, TailPartEnded, PartEndedAt, IsArguing, IsArgued}
@@ -42,7 +42,7 @@ use Rattle.its_reader.specs.TailSteps.{StaysInGuard}
 use Rattle.its_reader.specs.PartEnds.{closes_left, closes_right, closes_target, wrap_of_argument, is_guarding, ends_in}
 use Rattle.its_reader.specs.PartEnds.{IsStill}
 use Rattle.its_reader.specs.PartEnds.{AfterArgument, ArgumentEndsPart, ArgumentIsPartEnded, RightEndsPartBy, RightEndsPart}
-use Rattle.its_reader.specs.PartEnds.{GuardStands, TailEndsPartBy, TailEndsPart}
+use Rattle.its_reader.specs.PartEnds.{RepresentsGuard, TailEndsPartBy, TailEndsPart}
 use Rattle.its_reader.specs.declared.fault.Kind.{Kind}
 use Rattle.its_reader.specs.declared.parser_state.GuardOpening.{GuardOpening}
 use Rattle.its_reader.specs.declared.parser_state.GuardOpening.TheVariants as fences
@@ -136,20 +136,20 @@ module _ (ts : Tokens) (next : Option Piece) (w : Wrap) (a : Aimed) (arguments :
   }
 
   argument_part_ended : (old : Draft) (rule : RuleDraft) (now : ParserState) (refusal : Option Kind) → IsArguing ts w a arguments e old → ArgumentEndsPart (ends_in old.rule.expression (inner_next next)) w old.rule now refusal rule
-      → PartEndedAt ts next now (record old { rule = rule }) (fronts.Arguing a arguments e) × ((at : ℕ) → maybe_kind refusal at ≡ last_faults at (fronts.Arguing a arguments e) next)
+      → PartEndedAt ts next now (record old { rule = rule }) (grammar_states.Arguing a arguments e) × ((at : ℕ) → maybe_kind refusal at ≡ last_faults at (grammar_states.Arguing a arguments e) next)
   argument_part_ended old rule now refusal k h = go (ends_in old.rule.expression (inner_next next)) refl h
     where
       go : (v : Bool) → ends_in old.rule.expression (inner_next next) ≡ v → ArgumentEndsPart v w old.rule now refusal rule
-          → PartEndedAt ts next now (record old { rule = rule }) (fronts.Arguing a arguments e) × ((at : ℕ) → maybe_kind refusal at ≡ last_faults at (fronts.Arguing a arguments e) next)
+          → PartEndedAt ts next now (record old { rule = rule }) (grammar_states.Arguing a arguments e) × ((at : ℕ) → maybe_kind refusal at ≡ last_faults at (grammar_states.Arguing a arguments e) next)
       go true v h =
           let s = ends_by (names_with a.led arguments) e (names_in old.rule.variables) old.rule.expression k.expression next true v in (
-            subst (λ p. PartEndedAt ts next p (record old { rule = rule }) (fronts.Arguing a arguments e)) (sym h.0) (a, (arguments, (e, (s.0, (refl, argument_ended old rule refusal s.0 s.1.0 s.1.1 k h.1))))),
+            subst (λ p. PartEndedAt ts next p (record old { rule = rule }) (grammar_states.Arguing a arguments e)) (sym h.0) (a, (arguments, (e, (s.0, (refl, argument_ended old rule refusal s.0 s.1.0 s.1.1 k h.1))))),
             λ at. h.1.found_is at ∙ ended_found (names_with a.led arguments) e (names_in old.rule.variables) old.rule.expression k.expression s.0 s.1.0 at next h.1.made h.1.ends s.1.1,
           )
       go false v h =
           let stops = ends_by (names_with a.led arguments) e (names_in old.rule.variables) old.rule.expression k.expression next false v in (
-            subst (λ p. PartEndedAt ts next p (record old { rule = rule }) (fronts.Arguing a arguments e)) (sym h.0)
-                (subst (λ r. RightPartEnded ts next (rights.Arguing w) (record old { rule = r }) (fronts.Arguing a arguments e)) (sym h.1.1) (a, (arguments, (e, (refl, (k, stops)))))),
+            subst (λ p. PartEndedAt ts next p (record old { rule = rule }) (grammar_states.Arguing a arguments e)) (sym h.0)
+                (subst (λ r. RightPartEnded ts next (rights.Arguing w) (record old { rule = r }) (grammar_states.Arguing a arguments e)) (sym h.1.1) (a, (arguments, (e, (refl, (k, stops)))))),
             λ at. ap (λ o. maybe_kind o at) h.1.0 ∙ going_silent at (names_with a.led arguments) e next stops,
           )
 
@@ -213,10 +213,10 @@ module _ (at : ℕ) (next : Option Piece) (before names : List Name) (r : GuardR
           ap (λ ns. expansion_faults at (first_of_all (differences (sum_term ns l) (relation_of sign) (sum_term ns s)))) (known s h)
 
   atom_shows : (g : GuardFront) → Reads (inner_next next) before g names r → expansion_faults at (found.atom_fault names g (inner_next next)) ≡ atom_faults at before g next
-  atom_shows g (reading_none k) = rw k.front_is refl
-  atom_shows g (reading_left k) = rw k.front_is refl
-  atom_shows g (reading_right k) = rw k.front_is (right_side_shows k.conjoined k.left k.sign k.read (λ s h. k.expression.names_are ∙ finished_names (with_sum (with_conjoined before k.conjoined) k.left) k.read s h))
-  atom_shows g (reading_truth k) = rw k.front_is refl
+  atom_shows g (reading_none k) = rw k.state_is_represented refl
+  atom_shows g (reading_left k) = rw k.state_is_represented refl
+  atom_shows g (reading_right k) = rw k.state_is_represented (right_side_shows k.conjoined k.left k.sign k.read (λ s h. k.expression.names_are ∙ finished_names (with_sum (with_conjoined before k.conjoined) k.left) k.read s h))
+  atom_shows g (reading_truth k) = rw k.state_is_represented refl
 
 guard_shows : (at : ℕ) (next : Option Piece) (fence : GuardOpening) (h : Headed) (g : GuardFront) (f : Front) (names : List Name) (r : GuardReader) → IsGuard next fence h g f → Reads (inner_next next) (headed_names h) g names r
     → expansion_faults at (found.atom_fault names g (inner_next next)) ≡ last_faults at f next
@@ -245,7 +245,7 @@ tail_stays state old rule next now refusal e h = rw (h.now_is, h.new_is) (record
   found_is = λ ts at f k. h.found_is at ∙ tail_shows ts at next state old f e k;
 })
 
-guard_ends_part : (fence : GuardOpening) (old : Draft) (rule : RuleDraft) (next : Option Piece) (now : ParserState) (refusal : Option Kind) → GuardStands (tails.Guarding fence) old.rule next now refusal rule
+guard_ends_part : (fence : GuardOpening) (old : Draft) (rule : RuleDraft) (next : Option Piece) (now : ParserState) (refusal : Option Kind) → RepresentsGuard (tails.Guarding fence) old.rule next now refusal rule
     → EndsPart (places.InTail (tails.Guarding fence)) old next now (maybe_kind refusal) (record old { rule = rule })
 guard_ends_part fence old rule next now refusal h = record {
   part_ended = λ ts f k. subst (λ p. PartEndedAt ts next p (record old { rule = rule }) f) (sym h.now_is) (
@@ -306,7 +306,7 @@ pub right_holds : {state : TargetState} {old new : RuleDraft} {next : Option Pie
 right_holds {state} {old} {new} {next} {now} {refusal} e a = record { by = subst (λ o. RightEndsPartBy o state old next now refusal new) (sym e) a }
 
 -- after a target only a guard that is being read can end
-pub tail_guarding : {state : TailState} {old new : RuleDraft} {next : Option Piece} {now : ParserState} {refusal : Option Kind} → is_guarding state ≡ true → GuardStands state old next now refusal new → TailEndsPart state old next now refusal new
+pub tail_guarding : {state : TailState} {old new : RuleDraft} {next : Option Piece} {now : ParserState} {refusal : Option Kind} → is_guarding state ≡ true → RepresentsGuard state old next now refusal new → TailEndsPart state old next now refusal new
 tail_guarding {state} {old} {new} {next} {now} {refusal} e a = record { by = subst (λ v. TailEndsPartBy v state old next now refusal new) (sym e) a }
 
 -- after a target, where no guard is being read, nothing ends

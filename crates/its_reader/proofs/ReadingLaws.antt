@@ -8,16 +8,16 @@ use Rattle.text_core.specs.Reading.{Refused, Stopped, Going, first_of, first_amo
 use Rattle.its_text.specs.Kinds.{Kind, kind_number}
 use Rattle.its_text.specs.Pieces.{Piece}
 use Rattle.its_text.specs.Lexing.{tokens_of}
-use Rattle.its_text.specs.Fronts as fronts
-use Rattle.its_text.specs.Fronts.{Front, front_pieces}
+use Rattle.its_text.specs.Fronts as grammar_states
+use Rattle.its_text.specs.Fronts.{Front, pieces_read}
 use Rattle.its_text.specs.Steps.{step, finish}
 use Rattle.its_text.specs.Grammar.{programs}
 use Rattle.its_text.specs.Answers.{at_index, verdict, verdict_of_answer}
-use Rattle.its_text.specs.FrontFaults.{Tokens, next_piece, front_faults, last_faults, break_kind}
-use Rattle.its_text.proofs.Ends.{front_known}
+use Rattle.its_text.specs.StateFaults.{Tokens, next_piece, faults_of_state, last_faults, break_kind}
+use Rattle.its_text.proofs.Ends.{state_known}
 use Rattle.its_text.proofs.LexingLaws.{tokens_in_order}
 use Rattle.its_reader.specs.Standing.{KnowsBetween}
-use Rattle.its_reader.specs.Places.{StandsAt}
+use Rattle.its_reader.specs.Places.{RepresentsAt}
 use Rattle.its_reader.specs.Reading.{IsReading}
 use Rattle.its_reader.specs.declared.draft.Draft.{Draft}
 use Rattle.its_reader.specs.declared.parser_state.ParserState.{ParserState}
@@ -30,7 +30,7 @@ use Rattle.its_reader.proofs.Stopping.{answer_before, answer_here, stopped_is, o
 pub reading_begins : (bytes : List ℕ) (d : Draft) → KnowsBetween (tokens_of bytes) [] d → IsReading bytes (places.InSections sections.Between) 0 None d (tokens_of bytes)
 reading_begins bytes d k = record {
   done = [];
-  front = fronts.Between [];
+  grammar_state = grammar_states.Between [];
   whole = refl;
   led = refl;
   last_is = refl;
@@ -54,17 +54,17 @@ length-pieces (t ∷ done) = ap suc (length-pieces done)
 
 module _ (bytes : List ℕ) (state : ParserState) (last : ℕ) (best : Option (Fault Kind)) (d : Draft) (t : Token Piece) (rest : Tokens) (r : IsReading bytes state last best d (t ∷ rest)) where
   -- the next token's position by its number
-  pub position_is : t.at ≡ at_index (tokens_of bytes) (length (front_pieces r.front))
+  pub position_is : t.at ≡ at_index (tokens_of bytes) (length (pieces_read r.grammar_state))
   position_is =
       sym (at_onto r.done t rest) ∙ (ap (λ ts. at_index ts (length r.done)) r.whole
-      ∙ ap (at_index (tokens_of bytes)) (sym (ap length (front_known (pieces r.done) r.front r.led).0 ∙ length-pieces r.done)))
+      ∙ ap (at_index (tokens_of bytes)) (sym (ap length (state_known (pieces r.done) r.grammar_state r.led).0 ∙ length-pieces r.done)))
 
   -- one token further
-  pub reading_goes_on : (now : Option (Fault Kind)) (g : Front) (reached_state : ParserState) (new : Draft) → now ≡ first_among programs best (front_faults (length bytes) r.done r.front (t ∷ rest)) → step r.front t.piece ≡ Some g
-      → StandsAt (tokens_of bytes) (next_piece rest) reached_state new g → IsReading bytes reached_state (t.upto - 1) now new rest
+  pub reading_goes_on : (now : Option (Fault Kind)) (g : Front) (reached_state : ParserState) (new : Draft) → now ≡ first_among programs best (faults_of_state (length bytes) r.done r.grammar_state (t ∷ rest)) → step r.grammar_state t.piece ≡ Some g
+      → RepresentsAt (tokens_of bytes) (next_piece rest) reached_state new g → IsReading bytes reached_state (t.upto - 1) now new rest
   reading_goes_on now g reached_state new b e k = record {
     done = t ∷ r.done;
-    front = g;
+    grammar_state = g;
     whole = r.whole;
     led = ap (λ (o : Option Front). next step o t.piece) r.led ∙ e;
     last_is = refl;
@@ -72,28 +72,28 @@ module _ (bytes : List ℕ) (state : ParserState) (last : ℕ) (best : Option (F
     digital = r.digital.1;
     pending =
         r.pending
-        ∙ (ap (λ o. run programs (length bytes) (further programs (first_among programs best (front_faults (length bytes) r.done r.front (t ∷ rest))) r.done t o (off_at programs (length bytes) r.front (t ∷ rest))) rest) e
+        ∙ (ap (λ o. run programs (length bytes) (further programs (first_among programs best (faults_of_state (length bytes) r.done r.grammar_state (t ∷ rest))) r.done t o (off_at programs (length bytes) r.grammar_state (t ∷ rest))) rest) e
         ∙ ap (λ now. run programs (length bytes) (Going now (t ∷ r.done) g) rest) (sym b));
     stands = k;
   }
 
   -- the text is refused where it breaks off
-  pub reading_breaks : (now : Option (Fault Kind)) → now ≡ first_among programs best (front_faults (length bytes) r.done r.front (t ∷ rest)) → step r.front t.piece ≡ None
-      → verdict bytes ≡ Refused (first_of programs now (record { kind = break_kind r.front (t ∷ rest); at = t.at }))
+  pub reading_breaks : (now : Option (Fault Kind)) → now ≡ first_among programs best (faults_of_state (length bytes) r.done r.grammar_state (t ∷ rest)) → step r.grammar_state t.piece ≡ None
+      → verdict bytes ≡ Refused (first_of programs now (record { kind = break_kind r.grammar_state (t ∷ rest); at = t.at }))
   reading_breaks now b e =
       ap (verdict_of_answer (length bytes) (tokens_of bytes))
       (r.pending
-      ∙ (ap (λ o. run programs (length bytes) (further programs (first_among programs best (front_faults (length bytes) r.done r.front (t ∷ rest))) r.done t o (off_at programs (length bytes) r.front (t ∷ rest))) rest) e
-      ∙ (ap (λ now. run programs (length bytes) (Stopped (first_of programs now (off_at programs (length bytes) r.front (t ∷ rest)))) rest) (sym b)
-      ∙ stopped_is (length bytes) (first_of programs now (off_at programs (length bytes) r.front (t ∷ rest))) rest)))
+      ∙ (ap (λ o. run programs (length bytes) (further programs (first_among programs best (faults_of_state (length bytes) r.done r.grammar_state (t ∷ rest))) r.done t o (off_at programs (length bytes) r.grammar_state (t ∷ rest))) rest) e
+      ∙ (ap (λ now. run programs (length bytes) (Stopped (first_of programs now (off_at programs (length bytes) r.grammar_state (t ∷ rest)))) rest) (sym b)
+      ∙ stopped_is (length bytes) (first_of programs now (off_at programs (length bytes) r.grammar_state (t ∷ rest))) rest)))
 
   -- reading stops after a token: before its last byte, or at it where nothing that is shown there has a lesser number
-  pub reading_stops : (x : Fault Kind) (g : Front) → Some x ≡ first_among programs best (front_faults (length bytes) r.done r.front (t ∷ rest)) → step r.front t.piece ≡ Some g
+  pub reading_stops : (x : Fault Kind) (g : Front) → Some x ≡ first_among programs best (faults_of_state (length bytes) r.done r.grammar_state (t ∷ rest)) → step r.grammar_state t.piece ≡ Some g
       → (x.at < t.upto - 1) ⊎ ((x.at ≤ t.upto - 1) × ((y : Fault Kind) → Among y (last_faults (t.upto - 1) g (next_piece rest)) → kind_number x.kind ≤ kind_number y.kind)) → verdict bytes ≡ Refused x
   reading_stops x g b e h =
       ap (verdict_of_answer (length bytes) (tokens_of bytes))
       (r.pending
-      ∙ (ap (λ o. run programs (length bytes) (further programs (first_among programs best (front_faults (length bytes) r.done r.front (t ∷ rest))) r.done t o (off_at programs (length bytes) r.front (t ∷ rest))) rest) e
+      ∙ (ap (λ o. run programs (length bytes) (further programs (first_among programs best (faults_of_state (length bytes) r.done r.grammar_state (t ∷ rest))) r.done t o (off_at programs (length bytes) r.grammar_state (t ∷ rest))) rest) e
       ∙ (ap (λ now. run programs (length bytes) (Going now (t ∷ r.done) g) rest) (sym b) ∙ go h)))
     where
       behind : AreInOrder (t.upto - 1 + 1) rest (length bytes)
@@ -104,6 +104,6 @@ module _ (bytes : List ℕ) (state : ParserState) (last : ℕ) (best : Option (F
       go (inr a) = answer_here rest (length bytes) (t ∷ r.done) g x a.0 behind a.1
 
 -- the end of a text
-pub reading_ends : (bytes : List ℕ) (state : ParserState) (last : ℕ) (best now : Option (Fault Kind)) (d : Draft) → (r : IsReading bytes state last best d []) → now ≡ first_among programs best (front_faults (length bytes) r.done r.front [])
-    → answer programs (length bytes) (tokens_of bytes) ≡ ended programs now (finish r.front) (record { kind = break_kind r.front []; at = length bytes })
-reading_ends bytes state last best now d r b = r.pending ∙ ap (λ now. ended programs now (finish r.front) (off_at programs (length bytes) r.front [])) (sym b)
+pub reading_ends : (bytes : List ℕ) (state : ParserState) (last : ℕ) (best now : Option (Fault Kind)) (d : Draft) → (r : IsReading bytes state last best d []) → now ≡ first_among programs best (faults_of_state (length bytes) r.done r.grammar_state [])
+    → answer programs (length bytes) (tokens_of bytes) ≡ ended programs now (finish r.grammar_state) (record { kind = break_kind r.grammar_state []; at = length bytes })
+reading_ends bytes state last best now d r b = r.pending ∙ ap (λ now. ended programs now (finish r.grammar_state) (off_at programs (length bytes) r.grammar_state [])) (sym b)

@@ -9,31 +9,31 @@ use Rattle.its_text.specs.expr_text.Terms.{with_name}
 use Rattle.expr_reader.proofs.Standing.{fresh_stands}
 use Rattle.its_text.specs.Written.{RightTerm, Target, Marked, Bare}
 use Rattle.its_text.specs.Numbering.{with_symbol, with_right, number_of, arrow_names, term_in}
-use Rattle.its_text.specs.FrontFaults.{other_arity}
-use Rattle.its_text.specs.Steps.{right_shut}
+use Rattle.its_text.specs.StateFaults.{other_arity}
+use Rattle.its_text.specs.Steps.{right_closed}
 use Rattle.its_reader.specs.Standing.{updates_of}
 use Rattle.its_reader.specs.Places.{IsArgued, behind_wrap}
 use Rattle.its_reader.specs.StateSteps.{AfterRight}
-use Rattle.its_reader.proofs.LedLaws.{led_kept}
+use Rattle.its_reader.proofs.ArrowLaws.{arrow_kept}
 use Rattle.its_reader.proofs.SymbolTables.{symbols_with, arity_at, number_stays}
 use Rattle.its_text.specs.expr_text.Pieces as inner
 use Rattle.its_text.specs.expr_text.GuardFronts.{no_atoms}
 use Rattle.expr_reader.specs.Variables.{names_in}
-use Rattle.expr_reader.specs.Standing.{IsFresh, IsModest, Stands}
+use Rattle.expr_reader.specs.Standing.{IsFresh, IsModest, RepresentsExpression}
 use Rattle.its_text.specs.expr_text.Trees.{Sum}
 use Rattle.its_text.specs.expr_text.Fronts as expression
 use Rattle.its_text.specs.expr_text.Steps as expression_steps
 use Rattle.its_text.specs.expr_text.FrontNames.{is_front, goes_on_with}
 use Rattle.its_text.specs.FrontNames.{names_with}
-use Rattle.its_text.specs.FrontFaults.{ends_expression}
+use Rattle.its_text.specs.StateFaults.{ends_expression}
 use Rattle.its_text.specs.Steps.{argument_step}
 use Rattle.its_reader.specs.Places.{IsArguing}
 use Rattle.its_reader.specs.StateSteps.{GoesOn, Takes}
-use Rattle.expr_reader.specs.GuardStanding.{IsWanting}
+use Rattle.expr_reader.specs.GuardRepresentation.{IsWanting}
 use Rattle.its_text.specs.Pieces.{Piece, In, Comma}
-use Rattle.its_text.specs.Fronts as fronts
-use Rattle.its_text.specs.Fronts.{Front, Led, Aimed}
-use Rattle.its_text.specs.FrontFaults.{Tokens}
+use Rattle.its_text.specs.Fronts as grammar_states
+use Rattle.its_text.specs.Fronts.{Front, ArrowRead, Aimed}
+use Rattle.its_text.specs.StateFaults.{Tokens}
 use Rattle.its_text.specs.FrontNames.{symbols_behind}
 use Rattle.its_text.specs.Steps.{step}
 use Rattle.its_reader.specs.Tests as tests
@@ -53,7 +53,7 @@ module _ (ts : Tokens) (next : Option Piece) where
   pub com_named_leads : (p : Piece) (f : Front) (d : Draft) → InRight ts (Some p) rights.ComNamed d f → LeadsTo ts next (step f p) (if tests.opens p then Some (places.InRight rights.ComOpened) else None) d
   com_named_leads p f d k = rw k.1.0 (go p)
     where
-      go : (p : Piece) → LeadsTo ts next (step (fronts.ComNamed k.0) p) (if tests.opens p then Some (places.InRight rights.ComOpened) else None) d
+      go : (p : Piece) → LeadsTo ts next (step (grammar_states.ComNamed k.0) p) (if tests.opens p then Some (places.InRight rights.ComOpened) else None) d
       go (In inner.Open) = (k.0, (refl, k.1.1))
       go (In _) = tt
       go _ = tt
@@ -62,7 +62,7 @@ module _ (ts : Tokens) (next : Option Piece) where
   pub target_named_leads : (w : Wrap) (p : Piece) (f : Front) (d : Draft) → InRight ts (Some p) (rights.TargetNamed w) d f → LeadsTo ts next (step f p) (if tests.opens p then Some (places.InRight (rights.RightOpened w)) else None) d
   target_named_leads w p f d k = rw k.1.0 (go p)
     where
-      go : (p : Piece) → LeadsTo ts next (step (fronts.TargetNamed k.0) p) (if tests.opens p then Some (places.InRight (rights.RightOpened w)) else None) d
+      go : (p : Piece) → LeadsTo ts next (step (grammar_states.TargetNamed k.0) p) (if tests.opens p then Some (places.InRight (rights.RightOpened w)) else None) d
       go (In inner.Open) = (k.0, (refl, k.1.1))
       go (In _) = tt
       go _ = tt
@@ -71,16 +71,16 @@ module _ (ts : Tokens) (next : Option Piece) where
   pub com_leads : (p : Piece) (f : Front) (d : Draft) → InRight ts (Some p) rights.Arrowed d f → tests.says (codes "Com_1") p ≡ true → LeadsTo ts next (step f p) (Some (places.InRight rights.ComNamed)) d
   com_leads p f d k h = rw k.1.0 (go p h)
     where
-      go : (p : Piece) → tests.says (codes "Com_1") p ≡ true → LeadsTo ts next (step (fronts.Arrowed k.0) p) (Some (places.InRight rights.ComNamed)) d
+      go : (p : Piece) → tests.says (codes "Com_1") p ≡ true → LeadsTo ts next (step (grammar_states.Arrowed k.0) p) (Some (places.InRight rights.ComNamed)) d
       go (In (inner.Word name)) h = rw h (k.0, (refl, k.1.1))
       go (In _) h = cc
       go _ h = cc
 
-  aimed_known : (l : Led) (w : Wrap) (name : Name) (old new : Draft) → KnowsLeft ts l old → StaysBut old new → new.rule.name.now ≡ name → IsAimed ts w (record { led = l; wrap = wrap_of w; name = name }) new
+  aimed_known : (l : ArrowRead) (w : Wrap) (name : Name) (old new : Draft) → KnowsLeft ts l old → StaysBut old new → new.rule.name.now ≡ name → IsAimed ts w (record { led = l; wrap = wrap_of w; name = name }) new
   aimed_known l w name old new k s n = record {
     wrap_is = refl;
     aimed = record {
-      led = led_kept ts l old new k.led s.sections s.rules s.source s.left s.cost;
+      led = arrow_kept ts l old new k.led s.sections s.rules s.source s.left s.cost;
       symbols = subst (KnowsSymbols (symbols_behind l)) (sym s.symbols) k.symbols;
       name_is = n;
       updates_are = ap (λ v. map term_of v.items) s.updates ∙ ap (map term_of) k.updates;
@@ -95,8 +95,8 @@ module _ (ts : Tokens) (next : Option Piece) where
       → LeadsTo ts next (step f p) (Some (places.InRight (rights.TargetNamed wraps.Alone))) new
   bare_leads p f old new name k h w s n = rw k.1.0 (go p h w)
     where
-      go : (p : Piece) → tests.says (codes "Com_1") p ≡ false → tests.word p ≡ Some name → LeadsTo ts next (step (fronts.Arrowed k.0) p) (Some (places.InRight (rights.TargetNamed wraps.Alone))) new
-      go (In (inner.Word m)) h w = rw h (record { led = k.0; wrap = fronts.Alone; name = m }, (refl, aimed_known k.0 wraps.Alone m old new k.1.1 s (let same : name ≡ m = cc in n ∙ same)))
+      go : (p : Piece) → tests.says (codes "Com_1") p ≡ false → tests.word p ≡ Some name → LeadsTo ts next (step (grammar_states.Arrowed k.0) p) (Some (places.InRight (rights.TargetNamed wraps.Alone))) new
+      go (In (inner.Word m)) h w = rw h (record { led = k.0; wrap = grammar_states.Alone; name = m }, (refl, aimed_known k.0 wraps.Alone m old new k.1.1 s (let same : name ≡ m = cc in n ∙ same)))
       go (In _) h w = cc
       go _ h w = cc
 
@@ -104,7 +104,7 @@ module _ (ts : Tokens) (next : Option Piece) where
   pub arrowed_stops : (p : Piece) (f : Front) (d : Draft) → InRight ts (Some p) rights.Arrowed d f → tests.word p ≡ None → LeadsTo ts next (step f p) None d
   arrowed_stops p f d k w = rw k.1.0 (go p w)
     where
-      go : (p : Piece) → tests.word p ≡ None → LeadsTo ts next (step (fronts.Arrowed k.0) p) None d
+      go : (p : Piece) → tests.word p ≡ None → LeadsTo ts next (step (grammar_states.Arrowed k.0) p) None d
       go (In (inner.Word m)) w = cc
       go (In _) w = tt
       go _ w = tt
@@ -114,8 +114,8 @@ module _ (ts : Tokens) (next : Option Piece) where
       → LeadsTo ts next (step f p) (Some (places.InRight (rights.TargetNamed wraps.InCom))) new
   within_leads p f old new name k w s n = rw k.1.0 (go p w)
     where
-      go : (p : Piece) → tests.word p ≡ Some name → LeadsTo ts next (step (fronts.ComOpened k.0) p) (Some (places.InRight (rights.TargetNamed wraps.InCom))) new
-      go (In (inner.Word m)) w = (record { led = k.0; wrap = fronts.InCom; name = m }, (refl, aimed_known k.0 wraps.InCom m old new k.1.1 s (let same : name ≡ m = cc in n ∙ same)))
+      go : (p : Piece) → tests.word p ≡ Some name → LeadsTo ts next (step (grammar_states.ComOpened k.0) p) (Some (places.InRight (rights.TargetNamed wraps.InCom))) new
+      go (In (inner.Word m)) w = (record { led = k.0; wrap = grammar_states.InCom; name = m }, (refl, aimed_known k.0 wraps.InCom m old new k.1.1 s (let same : name ≡ m = cc in n ∙ same)))
       go (In _) w = cc
       go _ w = cc
 
@@ -123,18 +123,18 @@ module _ (ts : Tokens) (next : Option Piece) where
   pub within_stops : (p : Piece) (f : Front) (d : Draft) → InRight ts (Some p) rights.ComOpened d f → tests.word p ≡ None → LeadsTo ts next (step f p) None d
   within_stops p f d k w = rw k.1.0 (go p w)
     where
-      go : (p : Piece) → tests.word p ≡ None → LeadsTo ts next (step (fronts.ComOpened k.0) p) None d
+      go : (p : Piece) → tests.word p ≡ None → LeadsTo ts next (step (grammar_states.ComOpened k.0) p) None d
       go (In (inner.Word m)) w = cc
       go (In _) w = tt
       go _ w = tt
 
   -- an argument continues, and the rest of the draft is unchanged
   goes_on_known : (w : Wrap) (a : Aimed) (arguments : List Sum) (e more : expression.Front) (p : inner.Piece) (old new : Draft) → a.wrap ≡ wrap_of w → KnowsAimed ts a arguments old
-      → Stands (names_with a.led arguments) e (names_in old.rule.variables) old.rule.expression → expression_steps.step e p ≡ Some more → IsModest p → GoesOn old p new → IsArguing ts w a arguments more new
+      → RepresentsExpression (names_with a.led arguments) e (names_in old.rule.variables) old.rule.expression → expression_steps.step e p ≡ Some more → IsModest p → GoesOn old p new → IsArguing ts w a arguments more new
   goes_on_known w a arguments e more p old new wrap k s led modest g = record {
     wrap_is = wrap;
     aimed = record {
-      led = led_kept ts a.led old new k.led g.sections g.rules g.stays.source g.stays.left g.stays.cost;
+      led = arrow_kept ts a.led old new k.led g.sections g.rules g.stays.source g.stays.left g.stays.cost;
       symbols = subst (KnowsSymbols (symbols_behind a.led)) (sym g.symbols) k.symbols;
       name_is = ap (λ v. v.now) g.stays.name ∙ k.name_is;
       updates_are = ap (λ v. map term_of v.items) g.stays.updates ∙ k.updates_are;
@@ -145,7 +145,7 @@ module _ (ts : Tokens) (next : Option Piece) where
 
   -- the state after a piece within an argument that doesn't end before it
   pub argument_leads : (w : Wrap) (a : Aimed) (arguments : List Sum) (e : expression.Front) (p : inner.Piece) (old new : Draft) (result : Option ParserState) → a.wrap ≡ wrap_of w → KnowsAimed ts a arguments old
-      → Stands (names_with a.led arguments) e (names_in old.rule.variables) old.rule.expression → (ends_expression e (Some (In p)) ≡ true → expression_steps.finish e ≡ None) → IsModest p
+      → RepresentsExpression (names_with a.led arguments) e (names_in old.rule.variables) old.rule.expression → (ends_expression e (Some (In p)) ≡ true → expression_steps.finish e ≡ None) → IsModest p
       → Takes (goes_on_with e p) (places.InRight (rights.Arguing w)) old p result new → LeadsTo ts next (argument_step a arguments e (expression_steps.step e p) p) result new
   argument_leads w a arguments e p old new result wrap k s stops modest t = go (expression_steps.step e p) refl t
     where
@@ -176,7 +176,7 @@ module _ (ts : Tokens) (next : Option Piece) where
       → names_in old.rule.variables ≡ names_with a.led arguments → IsFresh old.rule.expression → AfterRight old new → IsHeaded ts (record { led = a.led; target = target }) new
   headed_known a arguments target old new t k names fresh h = record {
     headed = record {
-      led = led_kept ts a.led old new k.led h.stays.sections h.stays.rules h.source h.left h.stays.cost;
+      led = arrow_kept ts a.led old new k.led h.stays.sections h.stays.rules h.source h.left h.stays.cost;
       symbols = subst (λ (r : RightTerm). KnowsSymbols (with_right (symbols_behind a.led) r) new.symbols) (sym t) symbols;
       target_is = h.target ∙ (ap (λ n. position_of n (names_in old.symbols.names)) k.name_is ∙ (ap (position_of a.name) k.symbols.names ∙ (number_stays (symbols_behind a.led) a.name (length arguments)
           ∙ ap (λ (r : RightTerm). number_of (with_right (symbols_behind a.led) r) r.name) (sym t))));
@@ -211,7 +211,7 @@ module _ (ts : Tokens) (next : Option Piece) where
       count = sym (length-terms term_of old.rule.updates.items) ∙ (ap length k.updates_are ∙ (updates_count (arrow_names a.led.left a.led.cost) arguments ∙ ap (λ (r : RightTerm). length r.arguments) (sym t)))
 
   right_ends : (w : Wrap) (a : Aimed) (arguments : List Sum) (old new : Draft) → a.wrap ≡ wrap_of w → KnowsAimed ts a arguments old → names_in old.rule.variables ≡ names_with a.led arguments → IsFresh old.rule.expression
-      → AfterRight old new → LeadsTo ts next (Some (right_shut a arguments)) (Some (behind_wrap w)) new
+      → AfterRight old new → LeadsTo ts next (Some (right_closed a arguments)) (Some (behind_wrap w)) new
   right_ends wraps.InCom a arguments old new e k names fresh h =
       let headed = headed_known a arguments (Marked (record { name = a.name; arguments = arguments })) old new refl k names fresh h in
       rw e (a.led, (record { name = a.name; arguments = arguments }, (refl, (headed, right_differs a arguments (Marked (record { name = a.name; arguments = arguments })) old new refl k h headed))))
@@ -223,7 +223,7 @@ module _ (ts : Tokens) (next : Option Piece) where
   pub opened_right_ends : (w : Wrap) (p : Piece) (f : Front) (old new : Draft) → RightPartEnded ts (Some p) (rights.RightOpened w) old f → tests.closes p ≡ true → AfterRight old new → LeadsTo ts next (step f p) (Some (behind_wrap w)) new
   opened_right_ends w p f old new k c h = rw k.1.0 (go p c)
     where
-      go : (p : Piece) → tests.closes p ≡ true → LeadsTo ts next (step (fronts.RightOpened k.0) p) (Some (behind_wrap w)) new
+      go : (p : Piece) → tests.closes p ≡ true → LeadsTo ts next (step (grammar_states.RightOpened k.0) p) (Some (behind_wrap w)) new
       go (In inner.Close) c = right_ends w k.0 [] old new k.1.1.wrap_is k.1.1.aimed k.1.1.names_are k.1.1.expression h
       go (In _) c = cc
       go _ c = cc
@@ -235,7 +235,7 @@ module _ (ts : Tokens) (next : Option Piece) where
       known : IsArgued ts (Some p) w k.0 k.1.0 k.1.1.0 k.1.1.1.0 old
       known = k.1.1.1.1.1
 
-      go : (p : Piece) → tests.closes p ≡ true → ends_expression k.1.1.0 (Some p) ≡ true → LeadsTo ts next (step (fronts.Arguing k.0 k.1.0 k.1.1.0) p) (Some (behind_wrap w)) new
+      go : (p : Piece) → tests.closes p ≡ true → ends_expression k.1.1.0 (Some p) ≡ true → LeadsTo ts next (step (grammar_states.Arguing k.0 k.1.0 k.1.1.0) p) (Some (behind_wrap w)) new
       go (In inner.Close) c ends = stopped (expression_steps.step k.1.1.0 inner.Close) ends
         where
           stopped : (o : Option expression.Front) → not (is_front o) ≡ true → LeadsTo ts next (argument_step k.0 k.1.0 k.1.1.0 o inner.Close) (Some (behind_wrap w)) new
@@ -256,7 +256,7 @@ module _ (ts : Tokens) (next : Option Piece) where
       stopped inner.Close c None n = cc
       stopped q c None n = rw known.finish_is tt
 
-      go : (p : Piece) → tests.closes p ≡ false → ends_expression k.1.1.0 (Some p) ≡ true → LeadsTo ts next (step (fronts.Arguing k.0 k.1.0 k.1.1.0) p) (if tests.parts p then Some (places.InRight (rights.Arguing w)) else None) d
+      go : (p : Piece) → tests.closes p ≡ false → ends_expression k.1.1.0 (Some p) ≡ true → LeadsTo ts next (step (grammar_states.Arguing k.0 k.1.0 k.1.1.0) p) (if tests.parts p then Some (places.InRight (rights.Arguing w)) else None) d
       go (In q) c ends = stopped q c (expression_steps.step k.1.1.0 q) ends
       go Comma c ends = rw known.finish_is (
         k.0,
@@ -269,7 +269,7 @@ module _ (ts : Tokens) (next : Option Piece) where
               record {
                 wrap_is = known.wrap_is;
                 aimed = known.aimed;
-                expression = subst (λ (b : List Name). Stands b expression.beginning (names_in d.rule.variables) d.rule.expression) known.names_are (fresh_stands (names_in d.rule.variables) d.rule.expression known.expression);
+                expression = subst (λ (b : List Name). RepresentsExpression b expression.beginning (names_in d.rule.variables) d.rule.expression) known.names_are (fresh_stands (names_in d.rule.variables) d.rule.expression known.expression);
               },
             ),
           ),
@@ -284,7 +284,7 @@ module _ (ts : Tokens) (next : Option Piece) where
       known : IsHeaded ts (record { led = k.0; target = Marked k.1.0 }) old
       known = k.1.1.1.0
 
-      go : (p : Piece) → tests.closes p ≡ true → LeadsTo ts next (step (fronts.TargetClosed k.0 k.1.0) p) (Some (places.InTail tails.Targeted)) (record old { rule = record old.rule { differs = false } })
+      go : (p : Piece) → tests.closes p ≡ true → LeadsTo ts next (step (grammar_states.TargetClosed k.0 k.1.0) p) (Some (places.InTail tails.Targeted)) (record old { rule = record old.rule { differs = false } })
       go (In inner.Close) c = (
         record { led = k.0; target = Marked k.1.0 },
         (
@@ -292,7 +292,7 @@ module _ (ts : Tokens) (next : Option Piece) where
           (
             record {
               headed = record {
-                led = led_kept ts k.0 old (record old { rule = record old.rule { differs = false } }) known.headed.led refl refl refl refl refl;
+                led = arrow_kept ts k.0 old (record old { rule = record old.rule { differs = false } }) known.headed.led refl refl refl refl refl;
                 symbols = known.headed.symbols;
                 target_is = known.headed.target_is;
                 updates_are = known.headed.updates_are;
@@ -312,7 +312,7 @@ module _ (ts : Tokens) (next : Option Piece) where
   pub com_stops : (p : Piece) (f : Front) (d : Draft) → RightPartEnded ts (Some p) rights.TargetClosed d f → tests.closes p ≡ false → LeadsTo ts next (step f p) None d
   com_stops p f d k c = rw k.1.1.0 (go p c)
     where
-      go : (p : Piece) → tests.closes p ≡ false → LeadsTo ts next (step (fronts.TargetClosed k.0 k.1.0) p) None d
+      go : (p : Piece) → tests.closes p ≡ false → LeadsTo ts next (step (grammar_states.TargetClosed k.0 k.1.0) p) None d
       go (In inner.Close) c = cc
       go (In _) c = tt
       go _ c = tt

@@ -14,12 +14,12 @@ use Rattle.its_text.specs.expr_text.FrontNames.{token_count}
 use Rattle.its_text.specs.Pieces.{Piece, In}
 use Rattle.its_text.specs.Kinds.{ManyTargets, Limit, LongName, TooManyArguments}
 use Rattle.its_text.specs.Numbering.{arrow_names}
-use Rattle.its_text.specs.Fronts as fronts
-use Rattle.its_text.specs.Fronts.{Front, Led, Aimed}
+use Rattle.its_text.specs.Fronts as grammar_states
+use Rattle.its_text.specs.Fronts.{Front, ArrowRead, Aimed}
 use Rattle.its_text.specs.FrontNames.{names_with}
-use Rattle.its_text.specs.FrontFaults.{Tokens, fault_if, long_name, is_open, begins}
-use Rattle.its_text.specs.FrontFaults.{targets_again, targets_many, passes_arguments, token_faults}
-use Rattle.its_text.specs.FrontFaults.{next_faults}
+use Rattle.its_text.specs.StateFaults.{Tokens, fault_if, long_name, is_open, begins}
+use Rattle.its_text.specs.StateFaults.{targets_again, targets_many, passes_arguments, token_faults}
+use Rattle.its_text.specs.StateFaults.{next_faults}
 use Rattle.its_reader.specs.Places.{RightPartEnded, IsArguing}
 use Rattle.its_reader.specs.FaultTests.{names_one, names_many, begins_full, right_faults, IsDigital}
 use Rattle.its_reader.specs.declared.parser_state.Wrap.{Wrap}
@@ -48,26 +48,26 @@ finished_begun e s h = go e.outer e.level e.operand h
     go (l ∷ outer) level o h = cc
 
 module _ (ts : Tokens) (at : ℕ) (next behind : Option Piece) (d : Draft) (f : Front) where
-  many_is : (l : Led) (next : Option Piece) → targets_many (fronts.Arrowed l) next behind ≡ (names_many next && is_open behind)
+  many_is : (l : ArrowRead) (next : Option Piece) → targets_many (grammar_states.Arrowed l) next behind ≡ (names_many next && is_open behind)
   many_is l None = refl
   many_is l (Some (In (inner.Word name))) = refl
   many_is l (Some (In _)) = refl
   many_is l (Some _) = refl
 
-  many_within : (l : Led) (next : Option Piece) → targets_many (fronts.ComOpened l) next behind ≡ (names_many next && is_open behind)
+  many_within : (l : ArrowRead) (next : Option Piece) → targets_many (grammar_states.ComOpened l) next behind ≡ (names_many next && is_open behind)
   many_within l None = refl
   many_within l (Some (In (inner.Word name))) = refl
   many_within l (Some (In _)) = refl
   many_within l (Some _) = refl
 
-  again_is : (l : Led) (next : Option Piece) → targets_again (fronts.ComOpened l) next behind ≡ (names_one next && is_open behind)
+  again_is : (l : ArrowRead) (next : Option Piece) → targets_again (grammar_states.ComOpened l) next behind ≡ (names_one next && is_open behind)
   again_is l None = refl
   again_is l (Some (In (inner.Word name))) = refl
   again_is l (Some (In _)) = refl
   again_is l (Some _) = refl
 
   -- an argument that continues
-  arguing_full : (w : Wrap) (a : Aimed) (arguments : List Sum) (e : expression.Front) → IsArguing ts w a arguments e d → passes_arguments (fronts.Arguing a arguments e) next ≡ begins_full d.rule next
+  arguing_full : (w : Wrap) (a : Aimed) (arguments : List Sum) (e : expression.Front) → IsArguing ts w a arguments e d → passes_arguments (grammar_states.Arguing a arguments e) next ≡ begins_full d.rule next
   arguing_full w a arguments e k =
       ap (λ n. (n == 0) && nat_le place_limit (length arguments) && begins next) (sym k.expression.tokens_are)
       ∙ ap (λ n. (d.rule.expression.tokens == 0) && nat_le place_limit n && begins next) (sym count)
@@ -82,13 +82,13 @@ module _ (ts : Tokens) (at : ℕ) (next behind : Option Piece) (d : Draft) (f : 
   right_next rights.ComOpened k digital = rw (k.1.0, again_is k.0 next, many_within k.0 next) (simp append-nil)
   right_next (rights.TargetNamed w) k digital = rw k.1.0 (simp append-nil)
   right_next (rights.RightOpened w) k digital = rw k.1.0 (ap (λ xs. fault_if (long_name next) (Limit LongName) at ++ xs)
-      (going_is at (record { names = names_with k.0.led []; front = expression.beginning; leads_atom = false }) d.rule d.rule.expression false behind (first_stands ts w k.0 d k.1.1) next digital (λ p name e h. refl)))
-  right_next (rights.Arguing w) k digital = rw (k.1.1.1.0, arguing_full w k.0 k.1.0 k.1.1.0 k.1.1.1.1.0) (ap (λ xs. xs ++ fault_if (long_name next) (Limit LongName) at ++ token_faults at (Some (record { names = names_with k.0.led k.1.0; front = k.1.1.0; leads_atom = false })) next behind) (append-nil (fault_if (begins_full d.rule next) (Limit TooManyArguments) at))
+      (going_is at (record { names = names_with k.0.led []; grammar_state = expression.beginning; leads_atom = false }) d.rule d.rule.expression false behind (first_stands ts w k.0 d k.1.1) next digital (λ p name e h. refl)))
+  right_next (rights.Arguing w) k digital = rw (k.1.1.1.0, arguing_full w k.0 k.1.0 k.1.1.0 k.1.1.1.1.0) (ap (λ xs. xs ++ fault_if (long_name next) (Limit LongName) at ++ token_faults at (Some (record { names = names_with k.0.led k.1.0; grammar_state = k.1.1.0; leads_atom = false })) next behind) (append-nil (fault_if (begins_full d.rule next) (Limit TooManyArguments) at))
       ∙ ap (λ xs. fault_if (begins_full d.rule next) (Limit TooManyArguments) at ++ fault_if (long_name next) (Limit LongName) at ++ xs)
-      (going_is at (record { names = names_with k.0.led k.1.0; front = k.1.1.0; leads_atom = false }) d.rule d.rule.expression false behind k.1.1.1.1.0.expression next digital (λ p name e h. refl)))
+      (going_is at (record { names = names_with k.0.led k.1.0; grammar_state = k.1.1.0; leads_atom = false }) d.rule d.rule.expression false behind k.1.1.1.1.0.expression next digital (λ p name e h. refl)))
   right_next (rights.Argued w) k digital = rw (
     k.1.1.1.1.0,
     finished_begun k.1.1.0 k.1.1.1.0 k.1.1.1.1.1.finish_is,
-    ended_going at behind k.1.1.0 (record { names = names_with k.0.led k.1.0; front = k.1.1.0; leads_atom = false }) next refl k.1.1.1.1.1.ends,
+    ended_going at behind k.1.1.0 (record { names = names_with k.0.led k.1.0; grammar_state = k.1.1.0; leads_atom = false }) next refl k.1.1.1.1.1.ends,
   ) (simp append-nil)
   right_next rights.TargetClosed k digital = rw k.1.1.0 (simp append-nil)

@@ -6,26 +6,26 @@ use Rattle.expr_reader.proofs.Standing.{fresh_stands}
 use Rattle.its_reader.specs.Places.{behind_wrap}
 use Rattle.its_reader.specs.StateSteps.{AfterRight, RightLeads, Targets, TakesPiece, GoTogether, IsModestPiece}
 use Rattle.its_text.specs.expr_text.TermFronts.{goes_on_from}
-use Rattle.expr_reader.specs.Views.{front_of}
+use Rattle.expr_reader.specs.Views.{grammar_state_of}
 use Rattle.expr_reader.proofs.Endings.{goes_on_is}
 use Rattle.its_reader.specs.declared.parser_state.TargetState.{TargetState}
 use Rattle.its_reader.proofs.LeftLaws.{leads_together}
 use Rattle.its_text.specs.expr_text.Pieces as inner
 use Rattle.expr_reader.specs.Variables.{names_in}
-use Rattle.expr_reader.specs.Standing.{Stands}
+use Rattle.expr_reader.specs.Standing.{RepresentsExpression}
 use Rattle.its_text.specs.expr_text.Trees.{Sum}
 use Rattle.its_text.specs.expr_text.Fronts as expression
 use Rattle.its_text.specs.expr_text.Steps as expression_steps
 use Rattle.its_text.specs.expr_text.FrontNames.{is_front, goes_on_with}
 use Rattle.its_text.specs.FrontNames.{names_with}
-use Rattle.its_text.specs.FrontFaults.{ends_expression}
+use Rattle.its_text.specs.StateFaults.{ends_expression}
 use Rattle.its_text.specs.Steps.{argument_step}
 use Rattle.its_reader.specs.Places.{IsArguing}
 use Rattle.its_reader.specs.StateSteps.{Takes}
 use Rattle.its_text.specs.Pieces.{Piece, In, Comma}
-use Rattle.its_text.specs.Fronts as fronts
+use Rattle.its_text.specs.Fronts as grammar_states
 use Rattle.its_text.specs.Fronts.{Front, Aimed}
-use Rattle.its_text.specs.FrontFaults.{Tokens}
+use Rattle.its_text.specs.StateFaults.{Tokens}
 use Rattle.its_text.specs.Steps.{step}
 use Rattle.its_reader.specs.Tests as tests
 use Rattle.its_reader.specs.Places.{RightPartEnded, LeadsTo, IsAimed}
@@ -89,8 +89,8 @@ argument_together w a arguments e p old new result stops t = go (expression_step
         rw (none, t.0) tt
 
 -- the code takes the pieces that continue the written expression
-pub takes_written : (within : ParserState) (before : List Name) (e : expression.Front) (p : inner.Piece) (old new : Draft) (result : Option ParserState) → Stands before e (names_in old.rule.variables) old.rule.expression
-    → Takes (goes_on_from (front_of old.rule.expression).outer (front_of old.rule.expression).operand p) within old p result new → Takes (goes_on_with e p) within old p result new
+pub takes_written : (within : ParserState) (before : List Name) (e : expression.Front) (p : inner.Piece) (old new : Draft) (result : Option ParserState) → RepresentsExpression before e (names_in old.rule.variables) old.rule.expression
+    → Takes (goes_on_from (grammar_state_of old.rule.expression).outer (grammar_state_of old.rule.expression).operand p) within old p result new → Takes (goes_on_with e p) within old p result new
 takes_written within before e p old new result s t = subst (λ (v : Bool). Takes v within old p result new) (goes_on_is before e (names_in old.rule.variables) old.rule.expression p s) t
 
 -- in an argument that continues, the code steps as the written state does
@@ -100,22 +100,22 @@ arguing_promise w p old new result t = record {
   each = λ ts next f k modest. rw k.1.1.1.0 (each ts next p t modest k.0 k.1.0 k.1.1.0 k.1.1.1.1.0 k.1.1.1.1.1);
 }
   where
-    together : (p : Piece) → TakesPiece (places.InRight (rights.Arguing w)) old p result new → (a : Aimed) (arguments : List Sum) (e : expression.Front) → Stands (names_with a.led arguments) e (names_in old.rule.variables) old.rule.expression
-        → (ends_expression e (Some p) ≡ true → expression_steps.finish e ≡ None) → GoTogether (step (fronts.Arguing a arguments e) p) result
+    together : (p : Piece) → TakesPiece (places.InRight (rights.Arguing w)) old p result new → (a : Aimed) (arguments : List Sum) (e : expression.Front) → RepresentsExpression (names_with a.led arguments) e (names_in old.rule.variables) old.rule.expression
+        → (ends_expression e (Some p) ≡ true → expression_steps.finish e ≡ None) → GoTogether (step (grammar_states.Arguing a arguments e) p) result
     together (In q) t a arguments e s stops = argument_together w a arguments e q old new result stops (takes_written (places.InRight (rights.Arguing w)) (names_with a.led arguments) e q old new result s t)
     together Comma t a arguments e s stops = rw (stops refl, t.0) tt
     together _ t a arguments e s stops = rw t.0 tt
 
     each : (ts : Tokens) (next : Option Piece) (p : Piece) → TakesPiece (places.InRight (rights.Arguing w)) old p result new → IsModestPiece p → (a : Aimed) (arguments : List Sum) (e : expression.Front) → IsArguing ts w a arguments e old
-        → (ends_expression e (Some p) ≡ true → expression_steps.finish e ≡ None) → LeadsTo ts next (step (fronts.Arguing a arguments e) p) result new
+        → (ends_expression e (Some p) ≡ true → expression_steps.finish e ≡ None) → LeadsTo ts next (step (grammar_states.Arguing a arguments e) p) result new
     each ts next (In q) t modest a arguments e k stops =
         argument_leads ts next w a arguments e q old new result k.wrap_is k.aimed k.expression stops modest (takes_written (places.InRight (rights.Arguing w)) (names_with a.led arguments) e q old new result k.expression t)
     each ts next Comma t modest a arguments e k stops = rw (stops refl, t.0) tt
     each ts next _ t modest a arguments e k stops = rw t.0 tt
 
 -- nothing of an argument has been read
-pub first_stands : (ts : Tokens) (w : Wrap) (a : Aimed) (d : Draft) → IsAimed ts w a d → Stands (names_with a.led []) expression.beginning (names_in d.rule.variables) d.rule.expression
-first_stands ts w a d k = subst (λ (b : List Name). Stands b expression.beginning (names_in d.rule.variables) d.rule.expression) k.names_are (fresh_stands (names_in d.rule.variables) d.rule.expression k.expression)
+pub first_stands : (ts : Tokens) (w : Wrap) (a : Aimed) (d : Draft) → IsAimed ts w a d → RepresentsExpression (names_with a.led []) expression.beginning (names_in d.rule.variables) d.rule.expression
+first_stands ts w a d k = subst (λ (b : List Name). RepresentsExpression b expression.beginning (names_in d.rule.variables) d.rule.expression) k.names_are (fresh_stands (names_in d.rule.variables) d.rule.expression k.expression)
 
 -- after the opening bracket of the target, where none closes it at once the code steps as the written state does
 pub opened_right_promise : (w : Wrap) (p : Piece) (old new : Draft) (result : Option ParserState) → tests.closes p ≡ false → TakesPiece (places.InRight (rights.Arguing w)) old p result new → RightLeads (rights.RightOpened w) old p result new
@@ -124,12 +124,12 @@ opened_right_promise w p old new result c t = record {
   each = λ ts next f k modest. rw k.1.0 (each ts next p c t modest k.0 k.1.1);
 }
   where
-    together : (p : Piece) → tests.closes p ≡ false → TakesPiece (places.InRight (rights.Arguing w)) old p result new → (a : Aimed) → Stands (names_with a.led []) expression.beginning (names_in old.rule.variables) old.rule.expression → GoTogether (step (fronts.RightOpened a) p) result
+    together : (p : Piece) → tests.closes p ≡ false → TakesPiece (places.InRight (rights.Arguing w)) old p result new → (a : Aimed) → RepresentsExpression (names_with a.led []) expression.beginning (names_in old.rule.variables) old.rule.expression → GoTogether (step (grammar_states.RightOpened a) p) result
     together (In inner.Close) c t a s = cc
     together (In q) c t a s = argument_together w a [] expression.beginning q old new result (λ h. refl) (takes_written (places.InRight (rights.Arguing w)) (names_with a.led []) expression.beginning q old new result s t)
     together _ c t a s = rw t.0 tt
 
-    each : (ts : Tokens) (next : Option Piece) (p : Piece) → tests.closes p ≡ false → TakesPiece (places.InRight (rights.Arguing w)) old p result new → IsModestPiece p → (a : Aimed) → IsAimed ts w a old → LeadsTo ts next (step (fronts.RightOpened a) p) result new
+    each : (ts : Tokens) (next : Option Piece) (p : Piece) → tests.closes p ≡ false → TakesPiece (places.InRight (rights.Arguing w)) old p result new → IsModestPiece p → (a : Aimed) → IsAimed ts w a old → LeadsTo ts next (step (grammar_states.RightOpened a) p) result new
     each ts next (In inner.Close) c t modest a k = cc
     each ts next (In q) c t modest a k =
         argument_leads ts next w a [] expression.beginning q old new result k.wrap_is k.aimed (first_stands ts w a old k) (λ h. refl) modest (takes_written (places.InRight (rights.Arguing w)) (names_with a.led []) expression.beginning q old new result (first_stands ts w a old k) t)

@@ -9,10 +9,10 @@ use Rattle.its_text.specs.expr_text.Pieces as inner
 use Rattle.its_text.specs.Pieces.{Piece, In, Remark}
 use Rattle.its_text.specs.Numbering.{rules_of}
 use Rattle.its_text.specs.Written.{WrittenRule, Section, Goal, Start, Variables, Comment, pieces_behind}
-use Rattle.its_text.specs.Fronts as fronts
-use Rattle.its_text.specs.Fronts.{Front, front_pieces}
+use Rattle.its_text.specs.Fronts as grammar_states
+use Rattle.its_text.specs.Fronts.{Front, pieces_read}
 use Rattle.its_text.specs.Answers.{at_index}
-use Rattle.its_text.specs.FrontFaults.{Tokens}
+use Rattle.its_text.specs.StateFaults.{Tokens}
 use Rattle.its_text.specs.Steps.{step}
 use Rattle.its_reader.specs.Tests as tests
 use Rattle.its_reader.specs.Standing.{KnowsBetween, KnowsSections, KnowsLast, KnowsRules, KnowsSymbols, IsFreshRule}
@@ -31,7 +31,7 @@ module _ (ts : Tokens) (next : Option Piece) where
   pub between_leads : (p : Piece) (f : Front) (d : Draft) → InSections ts sections.Between d f → LeadsTo ts next (step f p) (if tests.opens p then Some (places.InSections sections.Opened) else None) d
   between_leads p f d k = rw k.1.0 (go p)
     where
-      go : (p : Piece) → LeadsTo ts next (step (fronts.Between k.0) p) (if tests.opens p then Some (places.InSections sections.Opened) else None) d
+      go : (p : Piece) → LeadsTo ts next (step (grammar_states.Between k.0) p) (if tests.opens p then Some (places.InSections sections.Opened) else None) d
       go (In inner.Open) = (k.0, (refl, k.1.1))
       go (In _) = tt
       go _ = tt
@@ -40,11 +40,11 @@ module _ (ts : Tokens) (next : Option Piece) where
   pub goal_named_leads : (p : Piece) (f : Front) (d : Draft) → InSections ts sections.GoalNamed d f → LeadsTo ts next (step f p) (if tests.says (codes "COMPLEXITY") p then Some (places.InSections sections.GoalRead) else None) d
   goal_named_leads p f d k = rw k.1.0 (go p)
     where
-      word : (v : Bool) → LeadsTo ts next (if v then Some (fronts.GoalRead k.0) else None) (if v then Some (places.InSections sections.GoalRead) else None) d
+      word : (v : Bool) → LeadsTo ts next (if v then Some (grammar_states.GoalRead k.0) else None) (if v then Some (places.InSections sections.GoalRead) else None) d
       word true = (k.0, (refl, k.1.1))
       word false = tt
 
-      go : (p : Piece) → LeadsTo ts next (step (fronts.GoalNamed k.0) p) (if tests.says (codes "COMPLEXITY") p then Some (places.InSections sections.GoalRead) else None) d
+      go : (p : Piece) → LeadsTo ts next (step (grammar_states.GoalNamed k.0) p) (if tests.says (codes "COMPLEXITY") p then Some (places.InSections sections.GoalRead) else None) d
       go (In (inner.Word name)) = word (is_same name (codes "COMPLEXITY"))
       go (In _) = tt
       go _ = tt
@@ -53,7 +53,7 @@ module _ (ts : Tokens) (next : Option Piece) where
   pub start_named_leads : (p : Piece) (f : Front) (d : Draft) → InSections ts sections.StartNamed d f → LeadsTo ts next (step f p) (if tests.opens p then Some (places.InSections sections.StartOpened) else None) d
   start_named_leads p f d k = rw k.1.0 (go p)
     where
-      go : (p : Piece) → LeadsTo ts next (step (fronts.StartNamed k.0) p) (if tests.opens p then Some (places.InSections sections.StartOpened) else None) d
+      go : (p : Piece) → LeadsTo ts next (step (grammar_states.StartNamed k.0) p) (if tests.opens p then Some (places.InSections sections.StartOpened) else None) d
       go (In inner.Open) = (k.0, (refl, k.1.1))
       go (In _) = tt
       go _ = tt
@@ -62,11 +62,11 @@ module _ (ts : Tokens) (next : Option Piece) where
   pub start_opened_leads : (p : Piece) (f : Front) (d : Draft) → InSections ts sections.StartOpened d f → LeadsTo ts next (step f p) (if tests.says (codes "FUNCTIONSYMBOLS") p then Some (places.InSections sections.StartListed) else None) d
   start_opened_leads p f d k = rw k.1.0 (go p)
     where
-      word : (v : Bool) → LeadsTo ts next (if v then Some (fronts.StartListed k.0) else None) (if v then Some (places.InSections sections.StartListed) else None) d
+      word : (v : Bool) → LeadsTo ts next (if v then Some (grammar_states.StartListed k.0) else None) (if v then Some (places.InSections sections.StartListed) else None) d
       word true = (k.0, (refl, k.1.1))
       word false = tt
 
-      go : (p : Piece) → LeadsTo ts next (step (fronts.StartOpened k.0) p) (if tests.says (codes "FUNCTIONSYMBOLS") p then Some (places.InSections sections.StartListed) else None) d
+      go : (p : Piece) → LeadsTo ts next (step (grammar_states.StartOpened k.0) p) (if tests.says (codes "FUNCTIONSYMBOLS") p then Some (places.InSections sections.StartListed) else None) d
       go (In (inner.Word name)) = word (is_same name (codes "FUNCTIONSYMBOLS"))
       go (In _) = tt
       go _ = tt
@@ -75,7 +75,7 @@ module _ (ts : Tokens) (next : Option Piece) where
   pub start_said_leads : (p : Piece) (f : Front) (d : Draft) → InSections ts sections.StartRead d f → LeadsTo ts next (step f p) (if tests.closes p then Some (places.InSections sections.StartClosed) else None) d
   start_said_leads p f d k = rw k.1.1.0 (go p)
     where
-      go : (p : Piece) → LeadsTo ts next (step (fronts.StartRead k.0 k.1.0) p) (if tests.closes p then Some (places.InSections sections.StartClosed) else None) d
+      go : (p : Piece) → LeadsTo ts next (step (grammar_states.StartRead k.0 k.1.0) p) (if tests.closes p then Some (places.InSections sections.StartClosed) else None) d
       go (In inner.Close) = (k.0, (k.1.0, (refl, k.1.1.1)))
       go (In _) = tt
       go _ = tt
@@ -84,7 +84,7 @@ module _ (ts : Tokens) (next : Option Piece) where
   pub start_closed_leads : (p : Piece) (f : Front) (d : Draft) → InSections ts sections.StartClosed d f → LeadsTo ts next (step f p) (if tests.closes p then Some (places.InSections sections.Between) else None) d
   start_closed_leads p f d k = rw k.1.1.0 (go p)
     where
-      go : (p : Piece) → LeadsTo ts next (step (fronts.StartClosed k.0 k.1.0) p) (if tests.closes p then Some (places.InSections sections.Between) else None) d
+      go : (p : Piece) → LeadsTo ts next (step (grammar_states.StartClosed k.0 k.1.0) p) (if tests.closes p then Some (places.InSections sections.Between) else None) d
       go (In inner.Close) = (Start k.1.0 ∷ k.0, (refl, k.1.1.1))
       go (In _) = tt
       go _ = tt
@@ -97,7 +97,7 @@ module _ (ts : Tokens) (next : Option Piece) where
   pub comment_leads : (p : Piece) (f : Front) (d : Draft) → InSections ts sections.CommentNamed d f → LeadsTo ts next (step f p) (if tests.remarks p then Some (places.InSections sections.Between) else None) d
   comment_leads p f d k = rw k.1.0 (go p)
     where
-      go : (p : Piece) → LeadsTo ts next (step (fronts.CommentNamed k.0) p) (if tests.remarks p then Some (places.InSections sections.Between) else None) d
+      go : (p : Piece) → LeadsTo ts next (step (grammar_states.CommentNamed k.0) p) (if tests.remarks p then Some (places.InSections sections.Between) else None) d
       go (Remark bytes) = (Comment bytes ∷ k.0, (refl, with_comment k.0 bytes d k.1.1))
       go (In _) = tt
       go _ = tt
@@ -107,7 +107,7 @@ module _ (ts : Tokens) (next : Option Piece) where
       → new ≡ record old { sections = record old.sections { goal = true } } → LeadsTo ts next (step f p) (Some (places.InSections sections.Between)) new
   goal_ends p f old new k h e = rw (k.1.0, e) (go p h)
     where
-      go : (p : Piece) → tests.closes p ≡ true → LeadsTo ts next (step (fronts.GoalRead k.0) p) (Some (places.InSections sections.Between)) (record old { sections = record old.sections { goal = true } })
+      go : (p : Piece) → tests.closes p ≡ true → LeadsTo ts next (step (grammar_states.GoalRead k.0) p) (Some (places.InSections sections.Between)) (record old { sections = record old.sections { goal = true } })
       go (In inner.Close) h = (Goal ∷ k.0, (refl, record { sections = record { goal = refl; variables = k.1.1.sections.variables; rules = k.1.1.sections.rules; start = k.1.1.sections.start }; last = last (rules_of k.0) k.1.1.last }))
         where
           last : (o : Option (List WrittenRule)) → KnowsLast o old → KnowsLast o (record old { sections = record old.sections { goal = true } })
@@ -120,7 +120,7 @@ module _ (ts : Tokens) (next : Option Piece) where
   pub goal_goes_on : (p : Piece) (f : Front) (d : Draft) → InSections ts sections.GoalRead d f → tests.closes p ≡ false → LeadsTo ts next (step f p) None d
   goal_goes_on p f d k h = rw k.1.0 (go p h)
     where
-      go : (p : Piece) → tests.closes p ≡ false → LeadsTo ts next (step (fronts.GoalRead k.0) p) None d
+      go : (p : Piece) → tests.closes p ≡ false → LeadsTo ts next (step (grammar_states.GoalRead k.0) p) None d
       go (In inner.Close) h = cc
       go (In _) h = tt
       go _ h = tt
@@ -134,15 +134,15 @@ module _ (ts : Tokens) (next : Option Piece) where
   }
 
   -- the start symbol is named
-  pub start_ends : (p : Piece) (f : Front) (old new : Draft) (s : Started) → InSections ts sections.StartListed old f → tests.word p ≡ Some s.name → s.at ≡ at_index ts (length (front_pieces f))
+  pub start_ends : (p : Piece) (f : Front) (old new : Draft) (s : Started) → InSections ts sections.StartListed old f → tests.word p ≡ Some s.name → s.at ≡ at_index ts (length (pieces_read f))
       → started_of new.sections.start ≡ Some s → new.sections.goal ≡ old.sections.goal → new.sections.variables ≡ old.sections.variables → new.sections.rules ≡ old.sections.rules
       → new.symbols ≡ old.symbols → new.rules ≡ old.rules → LeadsTo ts next (step f p) (Some (places.InSections sections.StartRead)) new
   start_ends p f old new s k h at e g v r a b = rw k.1.0 (go p h)
     where
       stands : s.at ≡ at_index ts (length (pieces_behind k.0) + 4)
-      stands = at ∙ ap (λ (g : Front). at_index ts (length (front_pieces g))) k.1.0 ∙ ap (at_index ts) (omega arith)
+      stands = at ∙ ap (λ (g : Front). at_index ts (length (pieces_read g))) k.1.0 ∙ ap (at_index ts) (omega arith)
 
-      go : (p : Piece) → tests.word p ≡ Some s.name → LeadsTo ts next (step (fronts.StartListed k.0) p) (Some (places.InSections sections.StartRead)) new
+      go : (p : Piece) → tests.word p ≡ Some s.name → LeadsTo ts next (step (grammar_states.StartListed k.0) p) (Some (places.InSections sections.StartRead)) new
       go (In (inner.Word name)) h = (
         k.0,
         (
@@ -168,7 +168,7 @@ module _ (ts : Tokens) (next : Option Piece) where
   pub start_goes_on : (p : Piece) (f : Front) (d : Draft) → InSections ts sections.StartListed d f → tests.word p ≡ None → LeadsTo ts next (step f p) None d
   start_goes_on p f d k h = rw k.1.0 (go p h)
     where
-      go : (p : Piece) → tests.word p ≡ None → LeadsTo ts next (step (fronts.StartListed k.0) p) None d
+      go : (p : Piece) → tests.word p ≡ None → LeadsTo ts next (step (grammar_states.StartListed k.0) p) None d
       go (In (inner.Word name)) h = cc
       go (In _) h = tt
       go _ h = tt
@@ -178,7 +178,7 @@ module _ (ts : Tokens) (next : Option Piece) where
       → new ≡ record old { sections = record old.sections { variables = true } } → LeadsTo ts next (step f p) (Some (places.InSections sections.Between)) new
   variables_end p f old new k h e = rw (k.1.1.0, e) (go p h)
     where
-      go : (p : Piece) → tests.closes p ≡ true → LeadsTo ts next (step (fronts.Listing k.0 k.1.0) p) (Some (places.InSections sections.Between)) (record old { sections = record old.sections { variables = true } })
+      go : (p : Piece) → tests.closes p ≡ true → LeadsTo ts next (step (grammar_states.Listing k.0 k.1.0) p) (Some (places.InSections sections.Between)) (record old { sections = record old.sections { variables = true } })
       go (In inner.Close) h = (
         Variables k.1.0 ∷ k.0,
         (
@@ -196,7 +196,7 @@ module _ (ts : Tokens) (next : Option Piece) where
   pub variables_go_on : (p : Piece) (f : Front) (d : Draft) (name : Name) → InSections ts sections.Listing d f → tests.word p ≡ Some name → LeadsTo ts next (step f p) (Some (places.InSections sections.Listing)) d
   variables_go_on p f d name k h = rw k.1.1.0 (go p h)
     where
-      go : (p : Piece) → tests.word p ≡ Some name → LeadsTo ts next (step (fronts.Listing k.0 k.1.0) p) (Some (places.InSections sections.Listing)) d
+      go : (p : Piece) → tests.word p ≡ Some name → LeadsTo ts next (step (grammar_states.Listing k.0 k.1.0) p) (Some (places.InSections sections.Listing)) d
       go (In (inner.Word n)) h = (k.0, (n ∷ k.1.0, (refl, k.1.1.1)))
       go (In _) h = cc
       go _ h = cc
@@ -205,7 +205,7 @@ module _ (ts : Tokens) (next : Option Piece) where
   pub variables_stop : (p : Piece) (f : Front) (d : Draft) → InSections ts sections.Listing d f → tests.closes p ≡ false → tests.word p ≡ None → LeadsTo ts next (step f p) None d
   variables_stop p f d k c h = rw k.1.1.0 (go p c h)
     where
-      go : (p : Piece) → tests.closes p ≡ false → tests.word p ≡ None → LeadsTo ts next (step (fronts.Listing k.0 k.1.0) p) None d
+      go : (p : Piece) → tests.closes p ≡ false → tests.word p ≡ None → LeadsTo ts next (step (grammar_states.Listing k.0 k.1.0) p) None d
       go (In (inner.Word n)) c h = cc
       go (In inner.Close) c h = cc
       go (In _) c h = tt
@@ -215,7 +215,7 @@ module _ (ts : Tokens) (next : Option Piece) where
   pub goal_begins : (p : Piece) (f : Front) (d : Draft) → InSections ts sections.Opened d f → tests.says (codes "GOAL") p ≡ true → LeadsTo ts next (step f p) (Some (places.InSections sections.GoalNamed)) d
   goal_begins p f d k h = rw k.1.0 (go p h)
     where
-      go : (p : Piece) → tests.says (codes "GOAL") p ≡ true → LeadsTo ts next (step (fronts.Opened k.0) p) (Some (places.InSections sections.GoalNamed)) d
+      go : (p : Piece) → tests.says (codes "GOAL") p ≡ true → LeadsTo ts next (step (grammar_states.Opened k.0) p) (Some (places.InSections sections.GoalNamed)) d
       go (In (inner.Word name)) h = rw h (k.0, (refl, k.1.1))
       go (In _) h = cc
       go _ h = cc
@@ -224,7 +224,7 @@ module _ (ts : Tokens) (next : Option Piece) where
   pub start_begins : (p : Piece) (f : Front) (d : Draft) → InSections ts sections.Opened d f → tests.says (codes "GOAL") p ≡ false → tests.says (codes "STARTTERM") p ≡ true → LeadsTo ts next (step f p) (Some (places.InSections sections.StartNamed)) d
   start_begins p f d k n h = rw k.1.0 (go p n h)
     where
-      go : (p : Piece) → tests.says (codes "GOAL") p ≡ false → tests.says (codes "STARTTERM") p ≡ true → LeadsTo ts next (step (fronts.Opened k.0) p) (Some (places.InSections sections.StartNamed)) d
+      go : (p : Piece) → tests.says (codes "GOAL") p ≡ false → tests.says (codes "STARTTERM") p ≡ true → LeadsTo ts next (step (grammar_states.Opened k.0) p) (Some (places.InSections sections.StartNamed)) d
       go (In (inner.Word name)) n h = rw (n, h) (k.0, (refl, k.1.1))
       go (In _) n h = cc
       go _ n h = cc
@@ -233,7 +233,7 @@ module _ (ts : Tokens) (next : Option Piece) where
   pub variables_begin : (p : Piece) (f : Front) (d : Draft) → InSections ts sections.Opened d f → tests.says (codes "GOAL") p ≡ false → tests.says (codes "STARTTERM") p ≡ false → tests.says (codes "VAR") p ≡ true → LeadsTo ts next (step f p) (Some (places.InSections sections.Listing)) d
   variables_begin p f d k n m h = rw k.1.0 (go p n m h)
     where
-      go : (p : Piece) → tests.says (codes "GOAL") p ≡ false → tests.says (codes "STARTTERM") p ≡ false → tests.says (codes "VAR") p ≡ true → LeadsTo ts next (step (fronts.Opened k.0) p) (Some (places.InSections sections.Listing)) d
+      go : (p : Piece) → tests.says (codes "GOAL") p ≡ false → tests.says (codes "STARTTERM") p ≡ false → tests.says (codes "VAR") p ≡ true → LeadsTo ts next (step (grammar_states.Opened k.0) p) (Some (places.InSections sections.Listing)) d
       go (In (inner.Word name)) n m h = rw (n, m, h) (k.0, ([], (refl, k.1.1)))
       go (In _) n m h = cc
       go _ n m h = cc
@@ -243,7 +243,7 @@ module _ (ts : Tokens) (next : Option Piece) where
       → new.sections ≡ old.sections → KnowsRules [] new → IsFreshRule new.rule → LeadsTo ts next (step f p) (Some (places.InLeft lefts.AfterRule)) new
   rules_begin p f old new k n m o h s r fresh = rw k.1.0 (go p n m o h)
     where
-      go : (p : Piece) → tests.says (codes "GOAL") p ≡ false → tests.says (codes "STARTTERM") p ≡ false → tests.says (codes "VAR") p ≡ false → tests.says (codes "RULES") p ≡ true → LeadsTo ts next (step (fronts.Opened k.0) p) (Some (places.InLeft lefts.AfterRule)) new
+      go : (p : Piece) → tests.says (codes "GOAL") p ≡ false → tests.says (codes "STARTTERM") p ≡ false → tests.says (codes "VAR") p ≡ false → tests.says (codes "RULES") p ≡ true → LeadsTo ts next (step (grammar_states.Opened k.0) p) (Some (places.InLeft lefts.AfterRule)) new
       go (In (inner.Word name)) n m o h = rw (n, m, o, h) (record { sections = k.0; rules = [] }, (refl, (record { sections = subst (KnowsSections ts k.0) (sym s) k.1.1.sections; rules = r }, fresh)))
       go (In _) n m o h = cc
       go _ n m o h = cc
@@ -253,12 +253,12 @@ module _ (ts : Tokens) (next : Option Piece) where
       → LeadsTo ts next (step f p) (if tests.says (codes "COMMENT") p then Some (places.InSections sections.CommentNamed) else None) d
   comment_begins p f d k n m o q = rw k.1.0 (go p n m o q)
     where
-      word : (v : Bool) → LeadsTo ts next (if v then Some (fronts.CommentNamed k.0) else None) (if v then Some (places.InSections sections.CommentNamed) else None) d
+      word : (v : Bool) → LeadsTo ts next (if v then Some (grammar_states.CommentNamed k.0) else None) (if v then Some (places.InSections sections.CommentNamed) else None) d
       word true = (k.0, (refl, k.1.1))
       word false = tt
 
       go : (p : Piece) → tests.says (codes "GOAL") p ≡ false → tests.says (codes "STARTTERM") p ≡ false → tests.says (codes "VAR") p ≡ false → tests.says (codes "RULES") p ≡ false
-          → LeadsTo ts next (step (fronts.Opened k.0) p) (if tests.says (codes "COMMENT") p then Some (places.InSections sections.CommentNamed) else None) d
+          → LeadsTo ts next (step (grammar_states.Opened k.0) p) (if tests.says (codes "COMMENT") p then Some (places.InSections sections.CommentNamed) else None) d
       go (In (inner.Word name)) n m o q = rw (n, m, o, q) (word (is_same name (codes "COMMENT")))
       go (In _) n m o q = tt
       go _ n m o q = tt

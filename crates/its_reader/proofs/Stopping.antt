@@ -22,10 +22,10 @@ use Rattle.its_text.specs.FrontNames.{names_with, headed_names}
 use Rattle.its_text.specs.Kinds.{Kind, kind_number, ArityDiffers}
 use Rattle.its_text.specs.Grammar.{programs}
 use Rattle.its_text.specs.Steps.{step, finish}
-use Rattle.its_text.specs.FrontFaults as shown
-use Rattle.its_text.specs.FrontFaults.{Tokens, FaultList, fault_if, last_byte, next_piece, piece_behind}
-use Rattle.its_text.specs.FrontFaults.{expansion_faults, argument_faults, right_side_faults, ends_expression}
-use Rattle.its_text.specs.FrontFaults.{atom_faults, ended_faults, next_faults, last_faults}
+use Rattle.its_text.specs.StateFaults as shown
+use Rattle.its_text.specs.StateFaults.{Tokens, FaultList, fault_if, last_byte, next_piece, piece_behind}
+use Rattle.its_text.specs.StateFaults.{expansion_faults, argument_faults, right_side_faults, ends_expression}
+use Rattle.its_text.specs.StateFaults.{atom_faults, ended_faults, next_faults, last_faults}
 use Rattle.its_text.proofs.Positions.{stands, split, among_at, next_stands, last_at}
 
 -- a fault at a later position is not before another
@@ -83,14 +83,14 @@ ordered (t ∷ ts) a b n h o = ((let p = o.0 in omega (arith, h, p)), o.1, o.2)
 -- a fault before the last byte that was read is the answer
 pub answer_before : (rest : Tokens) (n : ℕ) (done : Tokens) (f : Front) (x : Fault Kind) → x.at < last_byte done → AreInOrder (last_byte done + 1) rest n → run programs n (Going (Some x) done f) rest ≡ Refused x
 answer_before [] n done f x h o =
-    ap (λ b. ended programs b (finish f) (off_at programs n f [])) (stays_among x (shown.front_faults n done f []) (none_of x _ (λ y a. state y (stands n done f [] y a))))
+    ap (λ b. ended programs b (finish f) (off_at programs n f [])) (stays_among x (shown.faults_of_state n done f []) (none_of x _ (λ y a. state y (stands n done f [] y a))))
     ∙ ended_stays n x (off_at programs n f []) (finish f) (later x (off_at programs n f []) (omega (arith, h, o)))
   where
     state : (y : Fault Kind) → (y.at ≡ last_byte done) ⊎ (y.at ≡ n) → is_before programs y x ≡ false
     state y (inl e) = later x y (omega (arith, h, e))
     state y (inr e) = later x y (omega (arith, h, o, e))
 answer_before (t ∷ rest) n done f x h o =
-    ap (λ b. run programs n (further programs b done t (step f t.piece) (off_at programs n f (t ∷ rest))) rest) (stays_among x (shown.front_faults n done f (t ∷ rest)) (none_of x _ (λ y a. state y (stands n done f (t ∷ rest) y a))))
+    ap (λ b. run programs n (further programs b done t (step f t.piece) (off_at programs n f (t ∷ rest))) rest) (stays_among x (shown.faults_of_state n done f (t ∷ rest)) (none_of x _ (λ y a. state y (stands n done f (t ∷ rest) y a))))
     ∙ further_stays n x (off_at programs n f (t ∷ rest)) done t rest (step f t.piece) (later x (off_at programs n f (t ∷ rest)) (let p = o.0 in omega (arith, h, p)))
     (λ g e. answer_before rest n (t ∷ done) g x (let p = o.0 in let q = o.1 in omega (arith, h, p, q)) (let q = o.1 in ordered rest t.upto (t.upto - 1 + 1) n (omega (arith, q)) o.2))
   where
@@ -160,7 +160,7 @@ pub answer_here : (rest : Tokens) (n : ℕ) (done : Tokens) (f : Front) (x : Fau
 answer_here rest n done f x h o least = go rest o least
   where
     state : (rest : Tokens) → last_byte done < next_at n rest → ((y : Fault Kind) → Among y (last_faults (last_byte done) f (next_piece rest)) → kind_number x.kind ≤ kind_number y.kind)
-        → (y : Fault Kind) → Among y (shown.front_faults n done f rest) → is_before programs y x ≡ false
+        → (y : Fault Kind) → Among y (shown.faults_of_state n done f rest) → is_before programs y x ≡ false
     state rest o least y a = either (split y (last_faults (last_byte done) f (next_piece rest)) (next_faults (next_at n rest) f (next_piece rest) (piece_behind rest)) a)
       where
         either : (Among y (last_faults (last_byte done) f (next_piece rest))) ⊎ (Among y (next_faults (next_at n rest) f (next_piece rest) (piece_behind rest))) → is_before programs y x ≡ false
@@ -169,10 +169,10 @@ answer_here rest n done f x h o least = go rest o least
 
     go : (rest : Tokens) → AreInOrder (last_byte done + 1) rest n → ((y : Fault Kind) → Among y (last_faults (last_byte done) f (next_piece rest)) → kind_number x.kind ≤ kind_number y.kind) → run programs n (Going (Some x) done f) rest ≡ Refused x
     go [] o least =
-        ap (λ b. ended programs b (finish f) (off_at programs n f [])) (stays_among x (shown.front_faults n done f []) (none_of x _ (state [] (omega (arith, o)) least)))
+        ap (λ b. ended programs b (finish f) (off_at programs n f [])) (stays_among x (shown.faults_of_state n done f []) (none_of x _ (state [] (omega (arith, o)) least)))
         ∙ ended_stays n x (off_at programs n f []) (finish f) (later x (off_at programs n f []) (omega (arith, h, o)))
     go (t ∷ rest) o least =
         let p = o.0 in let q = o.1 in
-        ap (λ b. run programs n (further programs b done t (step f t.piece) (off_at programs n f (t ∷ rest))) rest) (stays_among x (shown.front_faults n done f (t ∷ rest)) (none_of x _ (state (t ∷ rest) (omega (arith, p)) least)))
+        ap (λ b. run programs n (further programs b done t (step f t.piece) (off_at programs n f (t ∷ rest))) rest) (stays_among x (shown.faults_of_state n done f (t ∷ rest)) (none_of x _ (state (t ∷ rest) (omega (arith, p)) least)))
         ∙ further_stays n x (off_at programs n f (t ∷ rest)) done t rest (step f t.piece) (later x (off_at programs n f (t ∷ rest)) (omega (arith, h, p)))
         (λ g e. answer_before rest n (t ∷ done) g x (omega (arith, h, p, q)) (ordered rest t.upto (t.upto - 1 + 1) n (omega (arith, q)) o.2))

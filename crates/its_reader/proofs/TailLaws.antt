@@ -8,13 +8,13 @@ use Rattle.its_text.specs.expr_text.GuardFronts.{LeftSide, Conjoined, NoAtoms, J
 use Rattle.its_text.specs.expr_text.Terms.{with_sum}
 use Rattle.its_text.proofs.expr_text.Stability.{extended, sum_extends}
 use Rattle.expr_reader.specs.Variables.{names_in}
-use Rattle.expr_reader.specs.GuardStanding.{atoms_in, atoms_before}
+use Rattle.expr_reader.specs.GuardRepresentation.{atoms_in, atoms_before}
 use Rattle.expr_reader.specs.declared.guard.GuardReader.{GuardReader}
 use Rattle.its_text.specs.Written.{Guard, NoGuard, BehindMark, InSquares}
 use Rattle.its_text.specs.Numbering.{left_names, arrow_names, term_in, with_guard, rule_names, rule_numbered}
 use Rattle.its_text.specs.Fronts.{Headed, rule_with, ruling_with}
 use Rattle.its_text.specs.FrontNames.{headed_names}
-use Rattle.its_text.specs.FrontFaults.{Tokens}
+use Rattle.its_text.specs.StateFaults.{Tokens}
 use Rattle.its_reader.specs.Standing.{KnowsSections, KnowsSymbols, KnowsRuling, limited_rule, rules_so_far}
 use Rattle.its_reader.specs.Standing.{symbols_headed}
 use Rattle.its_reader.specs.Places.{IsHeaded}
@@ -74,7 +74,7 @@ nothing_before (JointAfter atoms joint) ns r e a = cc
 module _ (ts : Tokens) (h : Headed) (d : Draft) (k : IsHeaded ts h d) where
   -- the rule ends without a guard
   no_guard_known : atoms_in d.rule.guard ≡ []
-  no_guard_known = let w = k.guard [] in nothing_before w.conjoined [] d.rule.guard w.front_is w.atoms_are
+  no_guard_known = let w = k.guard [] in nothing_before w.conjoined [] d.rule.guard w.state_is_represented w.atoms_are
 
   -- a rule whose target has been read is whole without a guard
   pub whole_bare : KnowsWhole ts h NoGuard d

@@ -24,27 +24,27 @@ use Rattle.its_text.specs.expr_text.FrontNames.{token_count, goes_on_with, is_fr
 use Rattle.expr_reader.specs.Variables.{names_in}
 use Rattle.expr_reader.specs.Faults.{ends_before}
 use Rattle.expr_reader.specs.GuardParts.{is_read, is_wanting}
-use Rattle.expr_reader.specs.GuardStanding as standing
-use Rattle.expr_reader.specs.GuardStanding.{atoms_in, atoms_of, atoms_before, limited_atom, IsWanting, IsInLeft, IsOpen}
-use Rattle.expr_reader.specs.GuardStanding.{IsEnded, IsPartEnded, part_ended_none, part_ended_left, part_ended_right, part_ended_end}
-use Rattle.expr_reader.specs.GuardStanding.{joined_only}
-use Rattle.expr_reader.specs.Standing.{Stands}
+use Rattle.expr_reader.specs.GuardRepresentation as standing
+use Rattle.expr_reader.specs.GuardRepresentation.{atoms_in, atoms_of, atoms_before, limited_atom, IsWanting, IsInLeft, IsOpen}
+use Rattle.expr_reader.specs.GuardRepresentation.{IsEnded, IsPartEnded, part_ended_none, part_ended_left, part_ended_right, part_ended_end}
+use Rattle.expr_reader.specs.GuardRepresentation.{joined_only}
+use Rattle.expr_reader.specs.Standing.{RepresentsExpression}
 use Rattle.expr_reader.specs.declared.guard.GuardReader.{GuardReader}
 use Rattle.expr_reader.proofs.Standing.{fresh_stands}
 use Rattle.its_text.specs.Pieces.{Piece, In}
 use Rattle.its_text.specs.Written.{NoGuard}
 use Rattle.its_text.specs.Numbering.{left_names, atoms_of_cost}
 use Rattle.its_text.specs.Kinds.{Limit, TooManyRules, TooManyAtoms, LongName}
-use Rattle.its_text.specs.Fronts as fronts
-use Rattle.its_text.specs.Fronts.{Front, Led, Headed, rule_with}
+use Rattle.its_text.specs.Fronts as grammar_states
+use Rattle.its_text.specs.Fronts.{Front, ArrowRead, Headed, rule_with}
 use Rattle.its_text.specs.FrontNames.{headed_names}
 use Rattle.its_text.specs.Steps.{guard_named}
-use Rattle.its_text.specs.FrontFaults as shown
-use Rattle.its_text.specs.FrontFaults.{Tokens, OpenExpression, fault_if, long_name, is_word, is_open, begins, are_full}
-use Rattle.its_text.specs.FrontFaults.{can_end, ends_expression, is_full, open_expression_in, is_truth, is_left_side}
-use Rattle.its_text.specs.FrontFaults.{token_faults, next_faults}
+use Rattle.its_text.specs.StateFaults as shown
+use Rattle.its_text.specs.StateFaults.{Tokens, OpenExpression, fault_if, long_name, is_word, is_open, begins, are_full}
+use Rattle.its_text.specs.StateFaults.{can_end, ends_expression, is_full, open_expression_in, is_truth, is_left_side}
+use Rattle.its_text.specs.StateFaults.{token_faults, next_faults}
 use Rattle.its_reader.specs.Tests.{inner_next}
-use Rattle.its_reader.specs.Standing.{KnowsLed, cost_of}
+use Rattle.its_reader.specs.Standing.{KnowsArrow, cost_of}
 use Rattle.its_reader.specs.Places.{TailPartEnded, IsGuard, IsHeaded}
 use Rattle.its_reader.specs.FaultTests.{IsDigital, truth_in, step_faults, atom_faults, atoms_fill, atoms_full}
 use Rattle.its_reader.specs.FaultTests.{rule_faults}
@@ -165,14 +165,14 @@ module _ (ts : Tokens) (at : ℕ) (next behind : Option Piece) (d : Draft) (digi
   guarded_shows fences.Square h g = refl
 
   -- a name after `:|:` that begins an atom has the faults of the guard
-  word_shows : (h : Headed) (name : Name) (next : Option Piece) → next_faults at (fronts.WordRead h name) next behind ≡ next_faults at (fronts.MarkGuarding h (guard_named name)) next behind
+  word_shows : (h : Headed) (name : Name) (next : Option Piece) → next_faults at (grammar_states.WordRead h name) next behind ≡ next_faults at (grammar_states.MarkGuarding h (guard_named name)) next behind
   word_shows h name None = refl
   word_shows h name (Some (In (inner.Word n))) = refl
   word_shows h name (Some (In _)) = refl
   word_shows h name (Some _) = refl
 
   -- the word of the atom that always holds
-  truth_shows : (g : OpenExpression) → is_wanting d.rule.guard.state ≡ (g.leads_atom && (token_count g.front == 0))
+  truth_shows : (g : OpenExpression) → is_wanting d.rule.guard.state ≡ (g.leads_atom && (token_count g.grammar_state == 0))
       → (p : inner.Piece) (name : Name) → next ≡ Some (In p) → p ≡ inner.Word name → truth_in d.rule.guard (inner_next next) (inner_next behind) ≡ is_truth g name behind
   truth_shows g w p name e is =
       ap (λ o. truth_in d.rule.guard (inner_next o) (inner_next behind)) e
@@ -180,17 +180,17 @@ module _ (ts : Tokens) (at : ℕ) (next behind : Option Piece) (d : Draft) (digi
       ∙ (ap (λ v. is_wanting d.rule.guard.state && truth_worded name && not v) (operating_is behind) ∙ ap (λ v. v && truth_worded name && not (shown.is_operating behind)) w))
 
   -- an atom
-  atom_shows : (names : List Name) (g : GuardFront) → Stands (before_expression names g) (expression_in g) (names_in d.rule.variables) d.rule.guard.expression
+  atom_shows : (names : List Name) (g : GuardFront) → RepresentsExpression (before_expression names g) (expression_in g) (names_in d.rule.variables) d.rule.guard.expression
       → is_wanting d.rule.guard.state ≡ (is_left_side g && (token_count (expression_in g) == 0))
       → token_faults at (open_expression_in names g) next behind ≡ step_faults d.rule d.rule.guard.expression (truth_in d.rule.guard (inner_next next) (inner_next behind)) at (inner_next next)
   atom_shows names g s w = going_is at now d.rule d.rule.guard.expression (truth_in d.rule.guard (inner_next next) (inner_next behind)) behind s next digital (truth_shows now w)
     where
       now : OpenExpression
-      now = record { names = before_expression names g; front = expression_in g; leads_atom = is_left_side g }
+      now = record { names = before_expression names g; grammar_state = expression_in g; leads_atom = is_left_side g }
 
   -- within an atom
   unread_shows : (fence : GuardOpening) (h : Headed) (g : GuardFront) → rules_shown fence h g next ≡ false → is_full (atoms_of_cost h.led.cost) g && begins next ≡ atoms_full d.rule next → is_read d.rule.guard.state ≡ false
-      → Stands (before_expression (headed_names h) g) (expression_in g) (names_in d.rule.variables) d.rule.guard.expression → is_wanting d.rule.guard.state ≡ (is_left_side g && (token_count (expression_in g) == 0))
+      → RepresentsExpression (before_expression (headed_names h) g) (expression_in g) (names_in d.rule.variables) d.rule.guard.expression → is_wanting d.rule.guard.state ≡ (is_left_side g && (token_count (expression_in g) == 0))
       → next_faults at (guarded fence h g) next behind ≡ guard_faults (is_read d.rule.guard.state) fence d at next behind
   unread_shows fence h g rules full read s w =
       guarded_shows fence h g
@@ -223,16 +223,16 @@ module _ (ts : Tokens) (at : ℕ) (next behind : Option Piece) (d : Draft) (digi
       ∙ ap (λ m. nat_le atom_limit (n + m) && begins next) (ap cost_atoms same ∙ cost_counted names cost)))
 
   -- an atom must follow
-  wanting_full : (l : Led) (names : List Name) (c : Conjoined) → KnowsLed ts l d → atoms_in d.rule.guard ≡ atoms_before names c → is_wanting d.rule.guard.state ≡ true → is_full (atoms_of_cost l.cost) (LeftSide c beginning) && begins next ≡ atoms_full d.rule next
+  wanting_full : (l : ArrowRead) (names : List Name) (c : Conjoined) → KnowsArrow ts l d → atoms_in d.rule.guard ≡ atoms_before names c → is_wanting d.rule.guard.state ≡ true → is_full (atoms_of_cost l.cost) (LeftSide c beginning) && begins next ≡ atoms_full d.rule next
   wanting_full l names NoAtoms k a w = few_beside (begins next) l.cost ∙ counted 0 l.cost (left_names l.left) (sym (length-terms atom_of d.rule.guard.atoms.items) ∙ ap length a) k.cost_is w
   wanting_full l names (JointAfter atoms joint) k a w = counted (count_of atoms) l.cost (left_names l.left) (as_many_atoms names atoms d.rule.guard a) k.cost_is w
 
-  wanting_shows : (fence : GuardOpening) (h : Headed) (g : GuardFront) → KnowsLed ts h.led d → IsWanting (headed_names h) g (names_in d.rule.variables) d.rule.guard → next_faults at (guarded fence h g) next behind ≡ guard_faults (is_read d.rule.guard.state) fence d at next behind
+  wanting_shows : (fence : GuardOpening) (h : Headed) (g : GuardFront) → KnowsArrow ts h.led d → IsWanting (headed_names h) g (names_in d.rule.variables) d.rule.guard → next_faults at (guarded fence h g) next behind ≡ guard_faults (is_read d.rule.guard.state) fence d at next behind
   wanting_shows fence h g led k =
-      subst (λ g. next_faults at (guarded fence h g) next behind ≡ guard_faults (is_read d.rule.guard.state) fence d at next behind) (sym k.front_is)
+      subst (λ g. next_faults at (guarded fence h g) next behind ≡ guard_faults (is_read d.rule.guard.state) fence d at next behind) (sym k.state_is_represented)
       (unread_shows fence h (LeftSide k.conjoined beginning) (no_rule fence h (LeftSide k.conjoined beginning) (λ a b. refl))
       (wanting_full h.led (names_in d.rule.variables) k.conjoined led k.atoms_are (ap is_wanting k.state_is)) (ap is_read k.state_is)
-      (subst (λ ns. Stands ns beginning (names_in d.rule.variables) d.rule.guard.expression) k.names_are (fresh_stands (names_in d.rule.variables) d.rule.guard.expression k.expression))
+      (subst (λ ns. RepresentsExpression ns beginning (names_in d.rule.variables) d.rule.guard.expression) k.names_are (fresh_stands (names_in d.rule.variables) d.rule.guard.expression k.expression))
       (ap is_wanting k.state_is))
 
   -- some of a left side
@@ -245,7 +245,7 @@ module _ (ts : Tokens) (at : ℕ) (next behind : Option Piece) (d : Draft) (digi
 
   left_shows : (fence : GuardOpening) (h : Headed) (g : GuardFront) → IsInLeft (inner_next next) (headed_names h) g (names_in d.rule.variables) d.rule.guard → next_faults at (guarded fence h g) next behind ≡ guard_faults (is_read d.rule.guard.state) fence d at next behind
   left_shows fence h g k =
-      subst (λ g. next_faults at (guarded fence h g) next behind ≡ guard_faults (is_read d.rule.guard.state) fence d at next behind) (sym k.front_is)
+      subst (λ g. next_faults at (guarded fence h g) next behind ≡ guard_faults (is_read d.rule.guard.state) fence d at next behind) (sym k.state_is_represented)
       (unread_shows fence h (LeftSide k.conjoined k.read) (no_rule fence h (LeftSide k.conjoined k.read) (λ a b. ap (ended k.conjoined) (k.follows (word_rests next a))))
       (ap (λ v. v && begins next) (begun_full (atoms_of_cost h.led.cost) k.conjoined k.read begun) ∙ sym (ap (λ v. v && atoms_fill d.rule && begins next) wanting)) (ap is_read k.state_is) k.expression
       (wanting ∙ sym begun))
@@ -259,7 +259,7 @@ module _ (ts : Tokens) (at : ℕ) (next behind : Option Piece) (d : Draft) (digi
   -- some of a right side
   right_shows : (fence : GuardOpening) (h : Headed) (g : GuardFront) → IsOpen (inner_next next) (headed_names h) g (names_in d.rule.variables) d.rule.guard → next_faults at (guarded fence h g) next behind ≡ guard_faults (is_read d.rule.guard.state) fence d at next behind
   right_shows fence h g k =
-      subst (λ g. next_faults at (guarded fence h g) next behind ≡ guard_faults (is_read d.rule.guard.state) fence d at next behind) (sym k.right.front_is)
+      subst (λ g. next_faults at (guarded fence h g) next behind ≡ guard_faults (is_read d.rule.guard.state) fence d at next behind) (sym k.right.state_is_represented)
       (unread_shows fence h (RightSide k.right.conjoined k.right.left k.right.sign k.right.read)
       (no_rule fence h (RightSide k.right.conjoined k.right.left k.right.sign k.right.read)
       (λ a b. ap (λ o. ended k.right.conjoined (compared k.right.left k.right.sign o)) (k.goes_on (sym (ends_is k.right.read next) ∙ b))))
@@ -302,7 +302,7 @@ module _ (ts : Tokens) (at : ℕ) (next behind : Option Piece) (d : Draft) (digi
       by fences.Square =
           (λ i. fault_if (full_never (atoms_of_cost h.led.cost) g k.atoms k.finish_is i && begins next) (Limit TooManyAtoms) at ++ fault_if (long_name next) (Limit LongName) at ++ silent i) ∙ append-nil (fault_if (long_name next) (Limit LongName) at)
 
-  part_ended_shows : (fence : GuardOpening) (h : Headed) (g : GuardFront) → KnowsLed ts h.led d → length d.rules.items ≡ length h.led.ruling.rules → IsPartEnded (inner_next next) (headed_names h) g (names_in d.rule.variables) d.rule.guard
+  part_ended_shows : (fence : GuardOpening) (h : Headed) (g : GuardFront) → KnowsArrow ts h.led d → length d.rules.items ≡ length h.led.ruling.rules → IsPartEnded (inner_next next) (headed_names h) g (names_in d.rule.variables) d.rule.guard
       → next_faults at (guarded fence h g) next behind ≡ guard_faults (is_read d.rule.guard.state) fence d at next behind
   part_ended_shows fence h g led rules (part_ended_none k) = wanting_shows fence h g led k
   part_ended_shows fence h g led rules (part_ended_left k) = left_shows fence h g k
@@ -310,10 +310,10 @@ module _ (ts : Tokens) (at : ℕ) (next behind : Option Piece) (d : Draft) (digi
   part_ended_shows fence h g led rules (part_ended_end k) = ended_shows fence h g rules k
 
   -- the state is that of the guard
-  front_shows : (fence : GuardOpening) (h : Headed) (g : GuardFront) (f : Front) → IsGuard next fence h g f → next_faults at f next behind ≡ next_faults at (guarded fence h g) next behind
-  front_shows fences.Square h g f e = ap (λ f. next_faults at f next behind) e
-  front_shows fences.Mark h g f (inl e) = ap (λ f. next_faults at f next behind) e
-  front_shows fences.Mark h g f (inr (name, (e, (is, closed)))) = ap (λ f. next_faults at f next behind) e ∙ (word_shows h name next ∙ ap (λ g. next_faults at (fronts.MarkGuarding h g) next behind) (sym is))
+  state_shows : (fence : GuardOpening) (h : Headed) (g : GuardFront) (f : Front) → IsGuard next fence h g f → next_faults at f next behind ≡ next_faults at (guarded fence h g) next behind
+  state_shows fences.Square h g f e = ap (λ f. next_faults at f next behind) e
+  state_shows fences.Mark h g f (inl e) = ap (λ f. next_faults at f next behind) e
+  state_shows fences.Mark h g f (inr (name, (e, (is, closed)))) = ap (λ f. next_faults at f next behind) e ∙ (word_shows h name next ∙ ap (λ g. next_faults at (grammar_states.MarkGuarding h g) next behind) (sym is))
 
   -- nothing of a guard has been read
   fresh_shows : (h : Headed) → IsHeaded ts h d → fault_if (long_name next) (Limit LongName) at ++ token_faults at (open_expression_in (headed_names h) no_atoms) next behind ≡ atom_faults d.rule at next behind
@@ -322,7 +322,7 @@ module _ (ts : Tokens) (at : ℕ) (next behind : Option Piece) (d : Draft) (digi
       go : IsWanting (headed_names h) no_atoms (headed_names h) d.rule.guard
           → token_faults at (open_expression_in (headed_names h) no_atoms) next behind ≡ step_faults d.rule d.rule.guard.expression (truth_in d.rule.guard (inner_next next) (inner_next behind)) at (inner_next next)
       go w = atom_shows (headed_names h) no_atoms
-          (subst (λ ns. Stands ns beginning (names_in d.rule.variables) d.rule.guard.expression) k.names_are (fresh_stands (names_in d.rule.variables) d.rule.guard.expression w.expression))
+          (subst (λ ns. RepresentsExpression ns beginning (names_in d.rule.variables) d.rule.guard.expression) k.names_are (fresh_stands (names_in d.rule.variables) d.rule.guard.expression w.expression))
           (ap is_wanting w.state_is)
 
   marked_shows : (h : Headed) → IsHeaded ts h d → length d.rules.items ≡ length h.led.ruling.rules → (v w : Bool) → is_word next ≡ v → is_open behind ≡ w
@@ -337,4 +337,4 @@ module _ (ts : Tokens) (at : ℕ) (next behind : Option Piece) (d : Draft) (digi
   tail_next tails.Targeted f k = rw (k.1.0, as_many_rules k.0.led.ruling.rules d k.1.1.0.headed.led.rules_are) (simp append-nil)
   tail_next tails.GuardMarked f k = rw k.1.0 (marked_shows k.0 k.1.1 (as_many_rules k.0.led.ruling.rules d k.1.1.headed.led.rules_are) (is_word next) (is_open behind) refl refl)
   tail_next tails.SquareOpened f k = rw k.1.0 (fresh_shows k.0 k.1.1)
-  tail_next (tails.Guarding fence) f k = front_shows fence k.0 k.1.0 f k.1.1.0 ∙ part_ended_shows fence k.0 k.1.0 k.1.1.1.0.led (as_many_rules k.0.led.ruling.rules d k.1.1.1.0.led.rules_are) k.1.1.1.1.1
+  tail_next (tails.Guarding fence) f k = state_shows fence k.0 k.1.0 f k.1.1.0 ∙ part_ended_shows fence k.0 k.1.0 k.1.1.1.0.led (as_many_rules k.0.led.ruling.rules d k.1.1.1.0.led.rules_are) k.1.1.1.1.1

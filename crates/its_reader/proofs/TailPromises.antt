@@ -9,16 +9,16 @@ use Rattle.its_text.specs.expr_text.GuardFronts.{GuardFront, no_atoms}
 use Rattle.expr_reader.specs.Variables.{names_in}
 use Rattle.expr_reader.specs.Standing.{IsFresh}
 use Rattle.expr_reader.specs.GuardParts.{is_read}
-use Rattle.expr_reader.specs.GuardStanding as standing
-use Rattle.expr_reader.specs.GuardStanding.{limited_atom, IsWanting, IsEnded, IsPartEnded, part_ended_none, joined_only}
+use Rattle.expr_reader.specs.GuardRepresentation as standing
+use Rattle.expr_reader.specs.GuardRepresentation.{limited_atom, IsWanting, IsEnded, IsPartEnded, part_ended_none, joined_only}
 use Rattle.its_text.specs.Pieces.{Piece, In, GuardMark, SquareOpen, SquareClose, open_bracket}
 use Rattle.its_text.specs.Written.{NoGuard, BehindMark, InSquares}
-use Rattle.its_text.specs.Fronts as fronts
+use Rattle.its_text.specs.Fronts as grammar_states
 use Rattle.its_text.specs.Fronts.{Front, Ruling, Headed, ruling_with}
 use Rattle.its_text.specs.FrontNames.{headed_names}
 use Rattle.its_text.specs.Steps.{step, mark_guard_step, guard_ended, guard_named, square_guard_step, square_ended}
-use Rattle.its_text.specs.FrontFaults as shown
-use Rattle.its_text.specs.FrontFaults.{Tokens}
+use Rattle.its_text.specs.StateFaults as shown
+use Rattle.its_text.specs.StateFaults.{Tokens}
 use Rattle.its_reader.specs.Tests as tests
 use Rattle.its_reader.specs.Standing.{KnowsHeaded, KnowsSource}
 use Rattle.its_reader.specs.Places.{TailPartEnded, LeadsTo, IsHeaded, IsSource}
@@ -35,7 +35,7 @@ use Rattle.its_reader.specs.declared.parser_state.ParserState.TheVariants as pla
 use Rattle.its_reader.specs.declared.draft.Draft.{Draft}
 use Rattle.its_reader.proofs.LeftLaws.{leads_together, ruled_stops}
 use Rattle.its_reader.proofs.TailLaws.{whole_rule, whole_bare, whole_marked, whole_squared}
-use Rattle.its_reader.proofs.GuardLaws.{guarded, ended_of, front_step, atom_each, atom_together, headed_stays}
+use Rattle.its_reader.proofs.GuardLaws.{guarded, ended_of, state_step, atom_each, atom_together, headed_stays}
 use Rattle.std.proofs.lemmas.Bool.{or_parts as neither}
 
 -- the state after a piece whatever its number is
@@ -54,7 +54,7 @@ in_tail_state state known old new p behind result e h = subst (λ (q : TailState
 pub targeted_marks : (p : Piece) (behind : Option Piece) (d : Draft) → tests.marks p ≡ true → TailLeads tails.Targeted d p behind (Some (places.InTail tails.GuardMarked)) d
 targeted_marks p behind d m = always_tail tails.Targeted p behind d d _ (λ ts f k. rw k.1.0 (go ts k.0 k.1.1.0 p m))
   where
-    go : (ts : Tokens) (h : Headed) → IsHeaded ts h d → (p : Piece) → tests.marks p ≡ true → LeadsTo ts behind (step (fronts.Targeted h) p) (Some (places.InTail tails.GuardMarked)) d
+    go : (ts : Tokens) (h : Headed) → IsHeaded ts h d → (p : Piece) → tests.marks p ≡ true → LeadsTo ts behind (step (grammar_states.Targeted h) p) (Some (places.InTail tails.GuardMarked)) d
     go ts h k GuardMark m = (h, (refl, k))
     go ts h k _ m = cc
 
@@ -62,12 +62,12 @@ targeted_marks p behind d m = always_tail tails.Targeted p behind d d _ (λ ts f
 pub targeted_squares : (p : Piece) (behind : Option Piece) (d : Draft) → tests.opens_square p ≡ true → TailLeads tails.Targeted d p behind (Some (places.InTail tails.SquareOpened)) d
 targeted_squares p behind d m = always_tail tails.Targeted p behind d d _ (λ ts f k. rw k.1.0 (go ts k.0 k.1.1.0 p m))
   where
-    go : (ts : Tokens) (h : Headed) → IsHeaded ts h d → (p : Piece) → tests.opens_square p ≡ true → LeadsTo ts behind (step (fronts.Targeted h) p) (Some (places.InTail tails.SquareOpened)) d
+    go : (ts : Tokens) (h : Headed) → IsHeaded ts h d → (p : Piece) → tests.opens_square p ≡ true → LeadsTo ts behind (step (grammar_states.Targeted h) p) (Some (places.InTail tails.SquareOpened)) d
     go ts h k SquareOpen m = (h, (refl, k))
     go ts h k _ m = cc
 
 -- the piece after a rule without a guard
-targeted_step : (h : Headed) (p : Piece) → tests.marks p ≡ false → tests.opens_square p ≡ false → step (fronts.Targeted h) p ≡ step (fronts.AfterRule (ruling_with h NoGuard)) p
+targeted_step : (h : Headed) (p : Piece) → tests.marks p ≡ false → tests.opens_square p ≡ false → step (grammar_states.Targeted h) p ≡ step (grammar_states.AfterRule (ruling_with h NoGuard)) p
 targeted_step h GuardMark m s = cc
 targeted_step h SquareOpen m s = cc
 targeted_step h (In _) m s = refl
@@ -93,29 +93,29 @@ closed_is (Some _) e = refl
 
 -- a name after `:|:` begins a rule before an opening bracket
 module _ (ts : Tokens) (behind : Option Piece) (h : Headed) (name : Name) (new : Draft) where
-  source_read : behind ≡ Some open_bracket → LeadsTo ts behind (Some (fronts.SourceNamed (ruling_with h (BehindMark None)) name)) (Some (places.InLeft lefts.SourceNamed)) new
-      → LeadsTo ts behind (Some (fronts.WordRead h name)) (Some (places.InLeft lefts.SourceNamed)) new
+  source_read : behind ≡ Some open_bracket → LeadsTo ts behind (Some (grammar_states.SourceNamed (ruling_with h (BehindMark None)) name)) (Some (places.InLeft lefts.SourceNamed)) new
+      → LeadsTo ts behind (Some (grammar_states.WordRead h name)) (Some (places.InLeft lefts.SourceNamed)) new
   source_read next k = go k.0 k.1.0 k.1.1.0 k.1.1.1
     where
-      go : (r : Ruling) (n : Name) → IsSource behind r n (fronts.SourceNamed (ruling_with h (BehindMark None)) name) → KnowsSource ts r n [] new
-          → LeadsTo ts behind (Some (fronts.WordRead h name)) (Some (places.InLeft lefts.SourceNamed)) new
+      go : (r : Ruling) (n : Name) → IsSource behind r n (grammar_states.SourceNamed (ruling_with h (BehindMark None)) name) → KnowsSource ts r n [] new
+          → LeadsTo ts behind (Some (grammar_states.WordRead h name)) (Some (places.InLeft lefts.SourceNamed)) new
       go r n (inl e) known =
           let ruling : ruling_with h (BehindMark None) ≡ r = cc in
           let same : name ≡ n = cc in
-          (r, (n, (inr (h, (ap (fronts.WordRead h) same, (sym ruling, next))), known)))
+          (r, (n, (inr (h, (ap (grammar_states.WordRead h) same, (sym ruling, next))), known)))
       go r n (inr (g, (e, more))) known = cc
 
 -- a part that ends before a rule, or before the end of the section, directly after `:|:`
 pub marked_ends : (p : Piece) (behind : Option Piece) (old new : Draft) (result : Option ParserState) → tests.closes p || (tests.names p && tests.is_open behind) ≡ true → WholeLeads old p result new → TailLeads tails.GuardMarked old p behind result new
 marked_ends p behind old new result c w = always_tail tails.GuardMarked p behind old new result (λ ts f k. rw k.1.0 (go ts k.0 k.1.1 p c w))
   where
-    go : (ts : Tokens) (h : Headed) → IsHeaded ts h old → (p : Piece) → tests.closes p || (tests.names p && tests.is_open behind) ≡ true → WholeLeads old p result new → LeadsTo ts behind (step (fronts.GuardMarked h) p) result new
+    go : (ts : Tokens) (h : Headed) → IsHeaded ts h old → (p : Piece) → tests.closes p || (tests.names p && tests.is_open behind) ≡ true → WholeLeads old p result new → LeadsTo ts behind (step (grammar_states.GuardMarked h) p) result new
     go ts h k (In inner.Close) c w = w.each ts behind h (BehindMark None) (whole_marked ts h old k)
     go ts h k (In (inner.Word name)) c w =
         let is : result ≡ Some (places.InLeft lefts.SourceNamed) = w.sourced name refl in
-        subst (λ (o : Option ParserState). LeadsTo ts behind (Some (fronts.WordRead h name)) o new) (sym is)
+        subst (λ (o : Option ParserState). LeadsTo ts behind (Some (grammar_states.WordRead h name)) o new) (sym is)
         (source_read ts behind h name new (open_is behind c)
-        (subst (λ (o : Option ParserState). LeadsTo ts behind (Some (fronts.SourceNamed (ruling_with h (BehindMark None)) name)) o new) is (w.each ts behind h (BehindMark None) (whole_marked ts h old k))))
+        (subst (λ (o : Option ParserState). LeadsTo ts behind (Some (grammar_states.SourceNamed (ruling_with h (BehindMark None)) name)) o new) is (w.each ts behind h (BehindMark None) (whole_marked ts h old k))))
     go ts h k (In _) c w = cc
     go ts h k _ c w = cc
 
@@ -127,7 +127,7 @@ unread_at : (ts : Tokens) (h : Headed) (d : Draft) (p : Piece) → IsHeaded ts h
 unread_at ts h d p k = ap (λ state. not (is_read state) || tests.joins p) (k.guard (headed_names h)).state_is
 
 -- an atom begins after `:|:`
-mark_step : (h : Headed) (p : Piece) → tests.closes p ≡ false → tests.names p ≡ false → step (fronts.GuardMarked h) p ≡ step (guarded fences.Mark h no_atoms) p
+mark_step : (h : Headed) (p : Piece) → tests.closes p ≡ false → tests.names p ≡ false → step (grammar_states.GuardMarked h) p ≡ step (guarded fences.Mark h no_atoms) p
 mark_step h (In inner.Close) c n = cc
 mark_step h (In (inner.Word name)) c n = cc
 mark_step h (In _) c n = refl
@@ -135,12 +135,12 @@ mark_step h _ c n = refl
 
 module _ (ts : Tokens) (behind : Option Piece) (old new : Draft) (result : Option ParserState) (h : Headed) (k : IsHeaded ts h old) where
   -- it begins with a name
-  named_leads : (name : Name) → tests.is_open behind ≡ false → AtomTakes fences.Mark old (In (inner.Word name)) behind result new → LeadsTo ts behind (Some (fronts.WordRead h name)) result new
+  named_leads : (name : Name) → tests.is_open behind ≡ false → AtomTakes fences.Mark old (In (inner.Word name)) behind result new → LeadsTo ts behind (Some (grammar_states.WordRead h name)) result new
   named_leads name closed a = go a.takes.by.0 a.takes.by.1.0 (a.takes.by.1.1.each (headed_names h) no_atoms (nothing_read ts h old (Some (inner.Word name)) k) tt)
     where
       go : (taken : Bool) → result ≡ guarding_if taken fences.Mark
           → standing.LeadsTo taken (tests.inner_next behind) (headed_names h) (Some (guard_named name)) (names_in old.rule.variables) old.rule.guard (names_in new.rule.variables) new.rule.guard
-          → LeadsTo ts behind (Some (fronts.WordRead h name)) result new
+          → LeadsTo ts behind (Some (grammar_states.WordRead h name)) result new
       go false e l = absurd l
       go true e l = rw e (
         h,
@@ -153,20 +153,20 @@ module _ (ts : Tokens) (behind : Option Piece) (old new : Draft) (result : Optio
         ),
       )
 
-  other_leads : (p : Piece) → tests.closes p ≡ false → tests.names p ≡ false → AtomTakes fences.Mark old p behind result new → IsModestPiece p → LeadsTo ts behind (step (fronts.GuardMarked h) p) result new
+  other_leads : (p : Piece) → tests.closes p ≡ false → tests.names p ≡ false → AtomTakes fences.Mark old p behind result new → IsModestPiece p → LeadsTo ts behind (step (grammar_states.GuardMarked h) p) result new
   other_leads p c n a modest = subst (λ o. LeadsTo ts behind o result new) (sym (mark_step h p c n))
       (atom_each ts h fences.Mark behind result old new no_atoms p a k.headed k.expression (nothing_read ts h old (tests.inner_in p) k) (unread_at ts h old p k) modest)
 
-  other_together : (p : Piece) → tests.closes p ≡ false → tests.names p ≡ false → AtomTakes fences.Mark old p behind result new → GoTogether (step (fronts.GuardMarked h) p) result
+  other_together : (p : Piece) → tests.closes p ≡ false → tests.names p ≡ false → AtomTakes fences.Mark old p behind result new → GoTogether (step (grammar_states.GuardMarked h) p) result
   other_together p c n a = subst (λ o. GoTogether o result) (sym (mark_step h p c n))
       (atom_together ts h fences.Mark behind result old new no_atoms p a k.headed k.expression (nothing_read ts h old (tests.inner_in p) k) (unread_at ts h old p k))
 
-  marked_each : (p : Piece) → tests.closes p || (tests.names p && tests.is_open behind) ≡ false → AtomTakes fences.Mark old p behind result new → IsModestPiece p → LeadsTo ts behind (step (fronts.GuardMarked h) p) result new
+  marked_each : (p : Piece) → tests.closes p || (tests.names p && tests.is_open behind) ≡ false → AtomTakes fences.Mark old p behind result new → IsModestPiece p → LeadsTo ts behind (step (grammar_states.GuardMarked h) p) result new
   marked_each (In (inner.Word name)) c a modest = named_leads name c a
   marked_each p c a modest = other_leads p (neither (tests.closes p) (tests.names p && tests.is_open behind) c).0 refl a modest
 
-  marked_together : (p : Piece) → tests.closes p || (tests.names p && tests.is_open behind) ≡ false → AtomTakes fences.Mark old p behind result new → GoTogether (step (fronts.GuardMarked h) p) result
-  marked_together (In (inner.Word name)) c a = leads_together ts behind (Some (fronts.WordRead h name)) result new (named_leads name c a)
+  marked_together : (p : Piece) → tests.closes p || (tests.names p && tests.is_open behind) ≡ false → AtomTakes fences.Mark old p behind result new → GoTogether (step (grammar_states.GuardMarked h) p) result
+  marked_together (In (inner.Word name)) c a = leads_together ts behind (Some (grammar_states.WordRead h name)) result new (named_leads name c a)
   marked_together p c a = other_together p (neither (tests.closes p) (tests.names p && tests.is_open behind) c).0 refl a
 
 -- directly after `:|:` an atom begins where no rule begins and the section doesn't end
@@ -178,7 +178,7 @@ marked_goes_on p behind old new result c a = record {
 }
 
 -- an atom begins after `[`
-square_step : (h : Headed) (p : Piece) → tests.closes_square p ≡ false → step (fronts.SquareOpened h) p ≡ step (guarded fences.Square h no_atoms) p
+square_step : (h : Headed) (p : Piece) → tests.closes_square p ≡ false → step (grammar_states.SquareOpened h) p ≡ step (guarded fences.Square h no_atoms) p
 square_step h SquareClose c = cc
 square_step h (In _) c = refl
 square_step h _ c = refl
@@ -196,7 +196,7 @@ square_goes_on p behind old new result c a = record {
 pub square_closes : (p : Piece) (behind : Option Piece) (old new : Draft) → tests.closes_square p ≡ true → RuleEnds old new → TailLeads tails.SquareOpened old p behind (Some (places.InLeft lefts.AfterRule)) new
 square_closes p behind old new c e = always_tail tails.SquareOpened p behind old new _ (λ ts f k. rw k.1.0 (go ts k.0 k.1.1 p c))
   where
-    go : (ts : Tokens) (h : Headed) → IsHeaded ts h old → (p : Piece) → tests.closes_square p ≡ true → LeadsTo ts behind (step (fronts.SquareOpened h) p) (Some (places.InLeft lefts.AfterRule)) new
+    go : (ts : Tokens) (h : Headed) → IsHeaded ts h old → (p : Piece) → tests.closes_square p ≡ true → LeadsTo ts behind (step (grammar_states.SquareOpened h) p) (Some (places.InLeft lefts.AfterRule)) new
     go ts h k SquareClose c = (ruling_with h (InSquares None), (refl, (whole_rule ts h (InSquares None) old new (whole_squared ts h old k) e, e.fresh)))
     go ts h k (In _) c = cc
     go ts h k _ c = cc
@@ -205,9 +205,9 @@ square_closes p behind old new c e = always_tail tails.SquareOpened p behind old
 pub atom_goes_on : (fence : GuardOpening) (p : Piece) (behind : Option Piece) (old new : Draft) (result : Option ParserState) → not (is_read old.rule.guard.state) || tests.joins p ≡ true → AtomTakes fence old p behind result new
     → TailLeads (tails.Guarding fence) old p behind result new
 atom_goes_on fence p behind old new result still a = record {
-  together = λ ts f k. subst (λ o. GoTogether o result) (sym (front_step fence k.0 k.1.0 f p k.1.1.0))
+  together = λ ts f k. subst (λ o. GoTogether o result) (sym (state_step fence k.0 k.1.0 f p k.1.1.0))
       (atom_together ts k.0 fence behind result old new k.1.0 p a k.1.1.1.0 k.1.1.1.1.0 k.1.1.1.1.1 still);
-  each = λ ts f k modest. subst (λ o. LeadsTo ts behind o result new) (sym (front_step fence k.0 k.1.0 f p k.1.1.0))
+  each = λ ts f k modest. subst (λ o. LeadsTo ts behind o result new) (sym (state_step fence k.0 k.1.0 f p k.1.1.0))
       (atom_each ts k.0 fence behind result old new k.1.0 p a k.1.1.1.0 k.1.1.1.1.0 k.1.1.1.1.1 still modest);
 }
 
@@ -229,13 +229,13 @@ module _ (ts : Tokens) (h : Headed) (g : GuardFront) (old : Draft) (headed : Kno
 
   -- after an atom that ends the guard a rule begins, or the section ends
   mark_ends : (p : Piece) (at : IsEnded (tests.inner_in p) (headed_names h) g (names_in old.rule.variables) old.rule.guard) → tests.joins p ≡ false
-      → step (fronts.MarkGuarding h g) p ≡ step (fronts.AfterRule (ruling_with h (BehindMark (Some at.atoms)))) p
+      → step (grammar_states.MarkGuarding h g) p ≡ step (grammar_states.AfterRule (ruling_with h (BehindMark (Some at.atoms)))) p
   mark_ends (In q) at j =
       ap (λ o. mark_guard_step h g o q) (at.joins q refl ∙ not_joined (guards.finish g) q j) ∙ ap (λ o. guard_ended h o q) at.finish_is
   mark_ends _ at j = refl
 
   square_stops : (p : Piece) (at : IsEnded (tests.inner_in p) (headed_names h) g (names_in old.rule.variables) old.rule.guard) → tests.joins p ≡ false → tests.closes_square p ≡ false
-      → step (fronts.SquareGuarding h g) p ≡ None
+      → step (grammar_states.SquareGuarding h g) p ≡ None
   square_stops (In q) at j c = ap (square_guard_step h) (at.joins q refl ∙ not_joined (guards.finish g) q j)
   square_stops SquareClose at j c = cc
   square_stops _ at j c = refl
@@ -245,7 +245,7 @@ guard_ends : (p : Piece) (behind : Option Piece) (old new : Draft) (result : Opt
 guard_ends p behind old new result still w = always_tail (tails.Guarding fences.Mark) p behind old new result (λ ts f k.
     let shut = read_here (is_read old.rule.guard.state) (tests.joins p) still in
     let at = ended_of (headed_names k.0) (names_in old.rule.variables) old.rule.guard (tests.inner_in p) k.1.0 k.1.1.1.1.1 shut.0 in
-    subst (λ o. LeadsTo ts behind o result new) (sym (front_step fences.Mark k.0 k.1.0 f p k.1.1.0 ∙ mark_ends ts k.0 k.1.0 old k.1.1.1.0 p at shut.1))
+    subst (λ o. LeadsTo ts behind o result new) (sym (state_step fences.Mark k.0 k.1.0 f p k.1.1.0 ∙ mark_ends ts k.0 k.1.0 old k.1.1.1.0 p at shut.1))
     (w.each ts behind k.0 (BehindMark (Some at.atoms)) (atoms_known ts k.0 k.1.0 old k.1.1.1.0 (tests.inner_in p) at)))
 
 guard_closes : (p : Piece) (behind : Option Piece) (old new : Draft) → not (is_read old.rule.guard.state) || tests.joins p ≡ false → tests.closes_square p ≡ true → RuleEnds old new
@@ -253,11 +253,11 @@ guard_closes : (p : Piece) (behind : Option Piece) (old new : Draft) → not (is
 guard_closes p behind old new still c e = always_tail (tails.Guarding fences.Square) p behind old new (Some (places.InLeft lefts.AfterRule)) (λ ts f k.
     let shut = read_here (is_read old.rule.guard.state) (tests.joins p) still in
     let at = ended_of (headed_names k.0) (names_in old.rule.variables) old.rule.guard (tests.inner_in p) k.1.0 k.1.1.1.1.1 shut.0 in
-    subst (λ o. LeadsTo ts behind o (Some (places.InLeft lefts.AfterRule)) new) (sym (front_step fences.Square k.0 k.1.0 f p k.1.1.0))
+    subst (λ o. LeadsTo ts behind o (Some (places.InLeft lefts.AfterRule)) new) (sym (state_step fences.Square k.0 k.1.0 f p k.1.1.0))
     (go ts k.0 k.1.0 (tests.inner_in p) at (squares_known ts k.0 k.1.0 old k.1.1.1.0 (tests.inner_in p) at) p c))
   where
     go : (ts : Tokens) (h : Headed) (g : GuardFront) (next : Option inner.Piece) (at : IsEnded next (headed_names h) g (names_in old.rule.variables) old.rule.guard) → KnowsWhole ts h (InSquares (Some at.atoms)) old
-        → (p : Piece) → tests.closes_square p ≡ true → LeadsTo ts behind (step (fronts.SquareGuarding h g) p) (Some (places.InLeft lefts.AfterRule)) new
+        → (p : Piece) → tests.closes_square p ≡ true → LeadsTo ts behind (step (grammar_states.SquareGuarding h g) p) (Some (places.InLeft lefts.AfterRule)) new
     go ts h g next at whole SquareClose c =
         subst (λ o. LeadsTo ts behind o (Some (places.InLeft lefts.AfterRule)) new) (sym (ap (square_ended h) at.finish_is))
         (ruling_with h (InSquares (Some at.atoms)), (refl, (whole_rule ts h (InSquares (Some at.atoms)) old new whole e, e.fresh)))
@@ -268,7 +268,7 @@ guard_stops : (p : Piece) (behind : Option Piece) (old : Draft) → not (is_read
 guard_stops p behind old still c = always_tail (tails.Guarding fences.Square) p behind old old None (λ ts f k.
     let shut = read_here (is_read old.rule.guard.state) (tests.joins p) still in
     let at = ended_of (headed_names k.0) (names_in old.rule.variables) old.rule.guard (tests.inner_in p) k.1.0 k.1.1.1.1.1 shut.0 in
-    subst (λ o. LeadsTo ts behind o None old) (sym (front_step fences.Square k.0 k.1.0 f p k.1.1.0 ∙ square_stops ts k.0 k.1.0 old k.1.1.1.0 p at shut.1 c)) tt)
+    subst (λ o. LeadsTo ts behind o None old) (sym (state_step fences.Square k.0 k.1.0 f p k.1.1.0 ∙ square_stops ts k.0 k.1.0 old k.1.1.1.0 p at shut.1 c)) tt)
 
 -- after an atom a piece that is no conjunction sign is taken as one that follows a guard
 pub behind_atoms : (fence : GuardOpening) (p : Piece) (behind : Option Piece) (old new : Draft) (result : Option ParserState) → not (is_read old.rule.guard.state) || tests.joins p ≡ false → GuardIsEnded fence old p result new

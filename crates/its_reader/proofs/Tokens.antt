@@ -8,7 +8,7 @@ use Rattle.text_core.proofs.Lexing.{tokens_in-first}
 use Rattle.its_text.specs.expr_text.Pieces as inner
 use Rattle.its_text.specs.Pieces.{Piece, In}
 use Rattle.its_text.specs.Lexing.{Mode, Outside, AtKeyword, Within, InComment, behind_keyword, mode_behind, lexeme_in}
-use Rattle.its_text.specs.Lexing.{lexer, closing_at, closing_by, bend_of, Bend, Opening, Closing, Neither, one_more}
+use Rattle.its_text.specs.Lexing.{lexer, closing_at, closing_by, bracket_sort_of, BracketSort, Opening, Closing, Neither, one_more}
 use Rattle.its_text.proofs.LexingLaws.{lexes_within}
 use Rattle.its_reader.specs.declared.mode.Mode as code
 use Rattle.its_reader.specs.declared.mode.Mode.TheVariants as modes
@@ -46,13 +46,13 @@ pub record ClosesWithin (o : Option ℕ) (n : ℕ) : Type 0 where
 -- the bytes up to the bracket that closes a comment are some, and no more than there are
 pub closing_within : (bytes : List ℕ) (depth : ℕ) → ClosesWithin (closing_at bytes depth) (length bytes)
 closing_within [] depth = record { each = λ len e. cc }
-closing_within (b ∷ bytes) depth = go (bend_of b) depth (λ d. closing_within bytes d)
+closing_within (b ∷ bytes) depth = go (bracket_sort_of b) depth (λ d. closing_within bytes d)
   where
     more : (o : Option ℕ) → ClosesWithin o (length bytes) → ClosesWithin (one_more o) (length (b ∷ bytes))
     more None h = record { each = λ len e. cc }
     more (Some n) h = record { each = λ len e. let k = h.each n refl in let same : suc n ≡ len = cc in (let p = k.0 in omega (arith, p, same), let p = k.1 in omega (arith, p, same)) }
 
-    go : (bend : Bend) (depth : ℕ) → ((d : ℕ) → ClosesWithin (closing_at bytes d) (length bytes)) → ClosesWithin (closing_by bend (closing_at bytes) depth) (length (b ∷ bytes))
+    go : (bracket_sort : BracketSort) (depth : ℕ) → ((d : ℕ) → ClosesWithin (closing_at bytes d) (length bytes)) → ClosesWithin (closing_by bracket_sort (closing_at bytes) depth) (length (b ∷ bytes))
     go Opening depth ih = more (closing_at bytes (suc depth)) (ih (suc depth))
     go Closing zero ih = record { each = λ len e. let same : 1 ≡ len = cc in (omega (arith, same), omega (arith, same)) }
     go Closing (suc depth) ih = more (closing_at bytes depth) (ih depth)

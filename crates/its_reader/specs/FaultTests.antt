@@ -11,20 +11,20 @@ use Rattle.its_model.specs.Valid.{cost_atoms}
 use Rattle.its_text.specs.expr_text.Pieces as inner
 use Rattle.its_text.specs.expr_text.Terms.{number_of}
 use Rattle.its_text.specs.expr_text.TermFronts.{goes_on_from}
-use Rattle.expr_reader.specs.Views.{front_of}
+use Rattle.expr_reader.specs.Views.{grammar_state_of}
 use Rattle.expr_reader.specs.declared.expression.Expression.{Expression}
 use Rattle.text_core.specs.Names.{is_same, is_among}
 use Rattle.expr_reader.specs.Variables.{names_in}
 use Rattle.expr_reader.specs.GuardParts.{is_wanting, is_read, names_truth}
-use Rattle.expr_reader.specs.GuardStanding.{is_operating}
+use Rattle.expr_reader.specs.GuardRepresentation.{is_operating}
 use Rattle.expr_reader.specs.declared.guard.GuardReader.{GuardReader}
 use Rattle.its_text.specs.Pieces.{Piece, In, Disjoining, Strange}
 use Rattle.its_text.specs.Numbering.{is_com}
 use Rattle.its_text.specs.Kinds.{Kind, NotAscii, Syntax, RepeatedSection, ManyTargets, LeftNotVariable, LeftRepeated}
 use Rattle.its_text.specs.Kinds.{Disjunction, NumberTooLarge, Limit, TooManyRules, TooManyArguments, TooManyVariables}
 use Rattle.its_text.specs.Kinds.{TooManyTokens, TooManyAtoms, LongName}
-use Rattle.its_text.specs.FrontFaults.{FaultList, fault_if, long_name, is_word, is_open, begins, is_operator}
-use Rattle.its_text.specs.FrontFaults.{is_no_name}
+use Rattle.its_text.specs.StateFaults.{FaultList, fault_if, long_name, is_word, is_open, begins, is_operator}
+use Rattle.its_text.specs.StateFaults.{is_no_name}
 use Rattle.its_reader.specs.Tests as tests
 use Rattle.its_reader.specs.declared.draft.Sections.{Sections}
 use Rattle.its_reader.specs.declared.draft.RuleDraft.{RuleDraft}
@@ -128,8 +128,8 @@ piece_faults r tokens truth at p =
 
 abbrev pub step_faults : RuleDraft → Expression → Bool → ℕ → Option inner.Piece → FaultList
 step_faults r e truth at None = []
-step_faults r e truth at (Some p) = if goes_on_from (front_of e).outer
-    (front_of e).operand p then piece_faults r e.tokens truth at p else []
+step_faults r e truth at (Some p) = if goes_on_from (grammar_state_of e).outer
+    (grammar_state_of e).operand p then piece_faults r e.tokens truth at p else []
 
 -- a literal holds digits
 abbrev pub IsDigital : Option Piece → Type 0

@@ -9,8 +9,8 @@ pub mod TokenSteps
 pub mod TailSteps
 pub mod PartEnds
 pub mod Finishing
--- the machinery of the functions inside and of the proofs
+-- The definitions for the inner functions and the proofs.
 pub mod Places
 pub mod Reading
--- the crates below, which callers name through this one
+-- The crates below, which callers name through this one.
 pub use Rattle.its_text.specs as its_text

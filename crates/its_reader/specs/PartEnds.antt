@@ -8,10 +8,10 @@ use Rattle.its_text.specs.expr_text.Pieces as inner
 use Rattle.expr_reader.specs.declared.expression.Expression.{Expression}
 use Rattle.expr_reader.specs.GuardParts.{can_end, goes_on}
 use Rattle.expr_reader.specs.Standing.{Ends, Clears}
-use Rattle.expr_reader.specs.GuardStanding as standing
+use Rattle.expr_reader.specs.GuardRepresentation as standing
 use Rattle.its_text.specs.Pieces.{Piece}
 use Rattle.its_text.specs.Kinds.{ArityDiffers}
-use Rattle.its_text.specs.FrontFaults.{FaultList, fault_if, expansion_faults}
+use Rattle.its_text.specs.StateFaults.{FaultList, fault_if, expansion_faults}
 use Rattle.its_reader.specs.Tests.{inner_next}
 use Rattle.its_reader.specs.Faults.{maybe_kind}
 use Rattle.its_reader.specs.FaultTests.{is_costing}
@@ -121,7 +121,7 @@ pub record RightEndsPart (state : TargetState) (old : RuleDraft) (next : Option 
   pub by : RightEndsPartBy (wrap_of_argument state) state old next now refusal new
 
 -- in a guard
-pub record GuardStands (state : TailState) (old : RuleDraft) (next : Option Piece) (now : ParserState)
+pub record RepresentsGuard (state : TailState) (old : RuleDraft) (next : Option Piece) (now : ParserState)
     (refusal : Option Kind) (new : RuleDraft) : Type 0 where
   pub fault : Option polynomials.Fault
   pub now_is : now ≡ places.InTail state
@@ -132,7 +132,7 @@ pub record GuardStands (state : TailState) (old : RuleDraft) (next : Option Piec
 
 -- after a target
 abbrev pub TailEndsPartBy : Bool → TailState → RuleDraft → Option Piece → ParserState → Option Kind → RuleDraft → Type 0
-TailEndsPartBy true state old next now refusal new = GuardStands state old next now refusal new
+TailEndsPartBy true state old next now refusal new = RepresentsGuard state old next now refusal new
 TailEndsPartBy false state old next now refusal new = IsStill (places.InTail state) (λ at. fault_if
     (closes_target state && old.differs) ArityDiffers at) old now refusal new
 

@@ -8,17 +8,17 @@ use Rattle.its_text.specs.expr_text.GuardFronts as guards
 use Rattle.its_text.specs.expr_text.GuardFronts.{GuardFront}
 use Rattle.expr_reader.specs.Variables.{names_in}
 use Rattle.expr_reader.specs.Standing as expressions
-use Rattle.expr_reader.specs.GuardStanding.{IsWanting, Reads, IsPartEnded}
+use Rattle.expr_reader.specs.GuardRepresentation.{IsWanting, Reads, IsPartEnded}
 use Rattle.its_text.specs.Pieces.{Piece, open_bracket}
 use Rattle.its_text.specs.Written.{Section, Start, LeftTerm, RightTerm, Marked, BehindMark}
-use Rattle.its_text.specs.Fronts as fronts
-use Rattle.its_text.specs.Fronts.{Front, Ruling, Led, Aimed, Headed, ruling_with}
+use Rattle.its_text.specs.Fronts as grammar_states
+use Rattle.its_text.specs.Fronts.{Front, Ruling, ArrowRead, Aimed, Headed, ruling_with}
 use Rattle.its_text.specs.Steps.{guard_named}
-use Rattle.its_text.specs.FrontFaults.{Tokens, other_arity, is_open, ends_expression, bare_differs}
+use Rattle.its_text.specs.StateFaults.{Tokens, other_arity, is_open, ends_expression, bare_differs}
 use Rattle.its_text.specs.Numbering.{with_right, left_names, arrow_names}
-use Rattle.its_text.specs.FrontNames.{symbols_led, symbols_behind, names_with, headed_names}
+use Rattle.its_text.specs.FrontNames.{symbols_of_arrow, symbols_behind, names_with, headed_names}
 use Rattle.its_reader.specs.Tests.{inner_next}
-use Rattle.its_reader.specs.Standing.{KnowsBetween, KnowsRuling, KnowsSource, KnowsSymbols, KnowsLed, KnowsLeft}
+use Rattle.its_reader.specs.Standing.{KnowsBetween, KnowsRuling, KnowsSource, KnowsSymbols, KnowsArrow, KnowsLeft}
 use Rattle.its_reader.specs.Standing.{KnowsAimed, KnowsHeaded, IsFreshRule, without_cost}
 use Rattle.its_reader.specs.declared.draft.Draft.{Draft}
 use Rattle.its_reader.specs.declared.parser_state.Wrap.{Wrap}
@@ -40,48 +40,48 @@ use Rattle.its_reader.specs.declared.parser_state.ParserState.TheVariants as pla
 
 -- outside rules
 abbrev pub InSections : Tokens → SectionState → Draft → Front → Type 0
-InSections ts sections.Between d f = (ss : List Section) × ((f ≡ fronts.Between ss) × KnowsBetween ts ss d)
-InSections ts sections.Opened d f = (ss : List Section) × ((f ≡ fronts.Opened ss) × KnowsBetween ts ss d)
-InSections ts sections.GoalNamed d f = (ss : List Section) × ((f ≡ fronts.GoalNamed ss) × KnowsBetween ts ss d)
-InSections ts sections.GoalRead d f = (ss : List Section) × ((f ≡ fronts.GoalRead ss) × KnowsBetween ts ss d)
-InSections ts sections.StartNamed d f = (ss : List Section) × ((f ≡ fronts.StartNamed ss) × KnowsBetween ts ss d)
-InSections ts sections.StartOpened d f = (ss : List Section) × ((f ≡ fronts.StartOpened ss) × KnowsBetween ts ss d)
-InSections ts sections.StartListed d f = (ss : List Section) × ((f ≡ fronts.StartListed ss) × KnowsBetween ts ss d)
-InSections ts sections.StartRead d f = (ss : List Section) × ((name : Name) × ((f ≡ fronts.StartRead ss name)
+InSections ts sections.Between d f = (ss : List Section) × ((f ≡ grammar_states.Between ss) × KnowsBetween ts ss d)
+InSections ts sections.Opened d f = (ss : List Section) × ((f ≡ grammar_states.Opened ss) × KnowsBetween ts ss d)
+InSections ts sections.GoalNamed d f = (ss : List Section) × ((f ≡ grammar_states.GoalNamed ss) × KnowsBetween ts ss d)
+InSections ts sections.GoalRead d f = (ss : List Section) × ((f ≡ grammar_states.GoalRead ss) × KnowsBetween ts ss d)
+InSections ts sections.StartNamed d f = (ss : List Section) × ((f ≡ grammar_states.StartNamed ss) × KnowsBetween ts ss d)
+InSections ts sections.StartOpened d f = (ss : List Section) × ((f ≡ grammar_states.StartOpened ss) × KnowsBetween ts ss d)
+InSections ts sections.StartListed d f = (ss : List Section) × ((f ≡ grammar_states.StartListed ss) × KnowsBetween ts ss d)
+InSections ts sections.StartRead d f = (ss : List Section) × ((name : Name) × ((f ≡ grammar_states.StartRead ss name)
     × KnowsBetween ts (Start name ∷ ss) d))
-InSections ts sections.StartClosed d f = (ss : List Section) × ((name : Name) × ((f ≡ fronts.StartClosed ss name)
+InSections ts sections.StartClosed d f = (ss : List Section) × ((name : Name) × ((f ≡ grammar_states.StartClosed ss name)
     × KnowsBetween ts (Start name ∷ ss) d))
-InSections ts sections.Listing d f = (ss : List Section) × ((names : List Name) × ((f ≡ fronts.Listing ss names)
+InSections ts sections.Listing d f = (ss : List Section) × ((names : List Name) × ((f ≡ grammar_states.Listing ss names)
     × KnowsBetween ts ss d))
-InSections ts sections.CommentNamed d f = (ss : List Section) × ((f ≡ fronts.CommentNamed ss) × KnowsBetween ts ss d)
+InSections ts sections.CommentNamed d f = (ss : List Section) × ((f ≡ grammar_states.CommentNamed ss) × KnowsBetween ts ss d)
 
 -- a rule's source has been read; after `:|:` that is decided by an opening bracket as the next piece
 abbrev pub IsSource : Option Piece → Ruling → Name → Front → Type 0
-IsSource next r name f = (f ≡ fronts.SourceNamed r name) ⊎ ((h : Headed) × ((f ≡ fronts.WordRead h name)
+IsSource next r name f = (f ≡ grammar_states.SourceNamed r name) ⊎ ((h : Headed) × ((f ≡ grammar_states.WordRead h name)
     × ((r ≡ ruling_with h (BehindMark None)) × (next ≡ Some open_bracket))))
 
 -- from the beginning of a rule to the end of its left term
 abbrev pub InLeft : Tokens → Option Piece → SourceState → Draft → Front → Type 0
-InLeft ts next lefts.AfterRule d f = (r : Ruling) × ((f ≡ fronts.AfterRule r) × (KnowsRuling ts r d × IsFreshRule d.rule))
+InLeft ts next lefts.AfterRule d f = (r : Ruling) × ((f ≡ grammar_states.AfterRule r) × (KnowsRuling ts r d × IsFreshRule d.rule))
 InLeft ts next lefts.SourceNamed d f = (r : Ruling) × ((name : Name) × (IsSource next r name f
     × KnowsSource ts r name [] d))
-InLeft ts next lefts.LeftOpened d f = (r : Ruling) × ((name : Name) × ((f ≡ fronts.LeftOpened r name)
+InLeft ts next lefts.LeftOpened d f = (r : Ruling) × ((name : Name) × ((f ≡ grammar_states.LeftOpened r name)
     × KnowsSource ts r name [] d))
 InLeft ts next lefts.LeftRead d f = (r : Ruling) × ((name : Name) × ((a : Name) × ((earlier : List Name)
-    × ((f ≡ fronts.LeftRead r name a earlier) × KnowsSource ts r name (a ∷ earlier) d))))
+    × ((f ≡ grammar_states.LeftRead r name a earlier) × KnowsSource ts r name (a ∷ earlier) d))))
 InLeft ts next lefts.LeftParted d f = (r : Ruling) × ((name : Name) × ((a : Name) × ((earlier : List Name)
-    × ((f ≡ fronts.LeftParted r name a earlier) × KnowsSource ts r name (a ∷ earlier) d))))
-InLeft ts next lefts.SourceClosed d f = (r : Ruling) × ((t : LeftTerm) × ((f ≡ fronts.SourceClosed r t)
+    × ((f ≡ grammar_states.LeftParted r name a earlier) × KnowsSource ts r name (a ∷ earlier) d))))
+InLeft ts next lefts.SourceClosed d f = (r : Ruling) × ((t : LeftTerm) × ((f ≡ grammar_states.SourceClosed r t)
     × (KnowsLeft ts (without_cost r t) d
-    × (d.rule.differs ≡ other_arity (symbols_led r t) t.name (length t.arguments)))))
+    × (d.rule.differs ≡ other_arity (symbols_of_arrow r t) t.name (length t.arguments)))))
 
 -- some of a cost has been read
 pub record IsCosting (ts : Tokens) (r : Ruling) (t : LeftTerm) (e : expression.Front) (d : Draft) : Type 0 where
-  pub led : KnowsLed ts (without_cost r t) d
-  pub symbols : KnowsSymbols (symbols_led r t) d.symbols
+  pub led : KnowsArrow ts (without_cost r t) d
+  pub symbols : KnowsSymbols (symbols_of_arrow r t) d.symbols
   pub updates : d.rule.updates.items ≡ []
   pub guard : (before : List Name) → IsWanting before guards.no_atoms before d.rule.guard
-  pub expression : expressions.Stands (left_names t) e (names_in d.rule.variables) d.rule.expression
+  pub expression : expressions.RepresentsExpression (left_names t) e (names_in d.rule.variables) d.rule.expression
 
 -- a cost has ended before the next piece
 pub record IsCosted (ts : Tokens) (next : Option Piece) (r : Ruling) (t : LeftTerm) (e : expression.Front) (c : Sum)
@@ -92,14 +92,14 @@ pub record IsCosted (ts : Tokens) (next : Option Piece) (r : Ruling) (t : LeftTe
 
 -- within the braces of a cost
 abbrev pub InCost : Tokens → CostState → Draft → Front → Type 0
-InCost ts costs.Costing d f = (r : Ruling) × ((t : LeftTerm) × ((e : expression.Front) × ((f ≡ fronts.Costing r t e)
+InCost ts costs.Costing d f = (r : Ruling) × ((t : LeftTerm) × ((e : expression.Front) × ((f ≡ grammar_states.Costing r t e)
     × IsCosting ts r t e d)))
 InCost ts costs.Costed d f = ⊥
 
 -- the form of a target
-abbrev pub wrap_of : Wrap → fronts.Wrap
-wrap_of wraps.InCom = fronts.InCom
-wrap_of wraps.Alone = fronts.Alone
+abbrev pub wrap_of : Wrap → grammar_states.Wrap
+wrap_of wraps.InCom = grammar_states.InCom
+wrap_of wraps.Alone = grammar_states.Alone
 
 -- after the right term
 abbrev pub behind_wrap : Wrap → ParserState
@@ -118,7 +118,7 @@ pub record IsArguing (ts : Tokens) (w : Wrap) (a : Aimed) (arguments : List Sum)
     (d : Draft) : Type 0 where
   pub wrap_is : a.wrap ≡ wrap_of w
   pub aimed : KnowsAimed ts a arguments d
-  pub expression : expressions.Stands (names_with a.led arguments) e (names_in d.rule.variables) d.rule.expression
+  pub expression : expressions.RepresentsExpression (names_with a.led arguments) e (names_in d.rule.variables) d.rule.expression
 
 -- an argument has ended before the next piece
 pub record IsArgued (ts : Tokens) (next : Option Piece) (w : Wrap) (a : Aimed) (arguments : List Sum)
@@ -139,30 +139,30 @@ pub record IsHeaded (ts : Tokens) (h : Headed) (d : Draft) : Type 0 where
 
 -- from the arrow to the end of the target
 abbrev pub InRight : Tokens → Option Piece → TargetState → Draft → Front → Type 0
-InRight ts next rights.Arrowed d f = (l : Led) × ((f ≡ fronts.Arrowed l) × KnowsLeft ts l d)
-InRight ts next rights.ComNamed d f = (l : Led) × ((f ≡ fronts.ComNamed l) × KnowsLeft ts l d)
-InRight ts next rights.ComOpened d f = (l : Led) × ((f ≡ fronts.ComOpened l) × KnowsLeft ts l d)
-InRight ts next (rights.TargetNamed w) d f = (a : Aimed) × ((f ≡ fronts.TargetNamed a) × IsAimed ts w a d)
-InRight ts next (rights.RightOpened w) d f = (a : Aimed) × ((f ≡ fronts.RightOpened a) × IsAimed ts w a d)
+InRight ts next rights.Arrowed d f = (l : ArrowRead) × ((f ≡ grammar_states.Arrowed l) × KnowsLeft ts l d)
+InRight ts next rights.ComNamed d f = (l : ArrowRead) × ((f ≡ grammar_states.ComNamed l) × KnowsLeft ts l d)
+InRight ts next rights.ComOpened d f = (l : ArrowRead) × ((f ≡ grammar_states.ComOpened l) × KnowsLeft ts l d)
+InRight ts next (rights.TargetNamed w) d f = (a : Aimed) × ((f ≡ grammar_states.TargetNamed a) × IsAimed ts w a d)
+InRight ts next (rights.RightOpened w) d f = (a : Aimed) × ((f ≡ grammar_states.RightOpened a) × IsAimed ts w a d)
 InRight ts next (rights.Arguing w) d f = (a : Aimed) × ((arguments : List Sum) × ((e : expression.Front)
-    × ((f ≡ fronts.Arguing a arguments e) × IsArguing ts w a arguments e d)))
+    × ((f ≡ grammar_states.Arguing a arguments e) × IsArguing ts w a arguments e d)))
 InRight ts next (rights.Argued w) d f = ⊥
 InRight ts next rights.TargetClosed d f =
-    (l : Led) × ((t : RightTerm) × ((f ≡ fronts.TargetClosed l t) × (IsHeaded ts (record { led = l; target = Marked t }) d
+    (l : ArrowRead) × ((t : RightTerm) × ((f ≡ grammar_states.TargetClosed l t) × (IsHeaded ts (record { led = l; target = Marked t }) d
     × (d.rule.differs ≡ other_arity (with_right (symbols_behind l) t) t.name (length t.arguments)))))
 
 -- some of a guard has been read; after `:|:` a name begins one if no opening bracket is next
 abbrev pub IsGuard : Option Piece → GuardOpening → Headed → GuardFront → Front → Type 0
-IsGuard next fences.Mark h g f = (f ≡ fronts.MarkGuarding h g) ⊎ ((name : Name) × ((f ≡ fronts.WordRead h name)
+IsGuard next fences.Mark h g f = (f ≡ grammar_states.MarkGuarding h g) ⊎ ((name : Name) × ((f ≡ grammar_states.WordRead h name)
     × ((g ≡ guard_named name) × (is_open next ≡ false))))
-IsGuard next fences.Square h g f = f ≡ fronts.SquareGuarding h g
+IsGuard next fences.Square h g f = f ≡ grammar_states.SquareGuarding h g
 
 -- the state after the target, before parts that end here have been ended
 abbrev pub InTail : Tokens → Option Piece → TailState → Draft → Front → Type 0
-InTail ts next tails.Targeted d f = (h : Headed) × ((f ≡ fronts.Targeted h) × (IsHeaded ts h d
+InTail ts next tails.Targeted d f = (h : Headed) × ((f ≡ grammar_states.Targeted h) × (IsHeaded ts h d
     × (d.rule.differs ≡ bare_differs h.led h.target)))
-InTail ts next tails.GuardMarked d f = (h : Headed) × ((f ≡ fronts.GuardMarked h) × IsHeaded ts h d)
-InTail ts next tails.SquareOpened d f = (h : Headed) × ((f ≡ fronts.SquareOpened h) × IsHeaded ts h d)
+InTail ts next tails.GuardMarked d f = (h : Headed) × ((f ≡ grammar_states.GuardMarked h) × IsHeaded ts h d)
+InTail ts next tails.SquareOpened d f = (h : Headed) × ((f ≡ grammar_states.SquareOpened h) × IsHeaded ts h d)
 InTail ts next (tails.Guarding fence) d f =
     (h : Headed) × ((g : GuardFront) × (IsGuard next fence h g f × (KnowsHeaded ts h d
     × (expressions.IsFresh d.rule.expression
@@ -181,29 +181,29 @@ TailPartEnded ts next (tails.Guarding fence) d f =
 -- a cost that doesn't end before the next piece, and one that has ended
 abbrev pub CostPartEnded : Tokens → Option Piece → CostState → Draft → Front → Type 0
 CostPartEnded ts next costs.Costing d f =
-    (r : Ruling) × ((t : LeftTerm) × ((e : expression.Front) × ((f ≡ fronts.Costing r t e)
+    (r : Ruling) × ((t : LeftTerm) × ((e : expression.Front) × ((f ≡ grammar_states.Costing r t e)
     × (IsCosting ts r t e d × (ends_expression e next ≡ true → expression_steps.finish e ≡ None)))))
 CostPartEnded ts next costs.Costed d f =
-    (r : Ruling) × ((t : LeftTerm) × ((e : expression.Front) × ((c : Sum) × ((f ≡ fronts.Costing r t e)
+    (r : Ruling) × ((t : LeftTerm) × ((e : expression.Front) × ((c : Sum) × ((f ≡ grammar_states.Costing r t e)
     × IsCosted ts next r t e c d))))
 
 -- an argument that doesn't end before the next piece, and one that has ended
 abbrev pub RightPartEnded : Tokens → Option Piece → TargetState → Draft → Front → Type 0
 RightPartEnded ts next (rights.Arguing w) d f =
-    (a : Aimed) × ((arguments : List Sum) × ((e : expression.Front) × ((f ≡ fronts.Arguing a arguments e)
+    (a : Aimed) × ((arguments : List Sum) × ((e : expression.Front) × ((f ≡ grammar_states.Arguing a arguments e)
     × (IsArguing ts w a arguments e d × (ends_expression e next ≡ true → expression_steps.finish e ≡ None)))))
 RightPartEnded ts next (rights.Argued w) d f =
     (a : Aimed) × ((arguments : List Sum) × ((e : expression.Front) × ((s : Sum)
-    × ((f ≡ fronts.Arguing a arguments e) × IsArgued ts next w a arguments e s d))))
+    × ((f ≡ grammar_states.Arguing a arguments e) × IsArgued ts next w a arguments e s d))))
 RightPartEnded ts next state d f = InRight ts next state d f
 
 -- the code's state represents a written state, before and after parts that end here have been ended
-abbrev pub StandsAt : Tokens → Option Piece → ParserState → Draft → Front → Type 0
-StandsAt ts next (places.InSections state) d f = InSections ts state d f
-StandsAt ts next (places.InLeft state) d f = InLeft ts next state d f
-StandsAt ts next (places.InCost state) d f = InCost ts state d f
-StandsAt ts next (places.InRight state) d f = InRight ts next state d f
-StandsAt ts next (places.InTail state) d f = InTail ts next state d f
+abbrev pub RepresentsAt : Tokens → Option Piece → ParserState → Draft → Front → Type 0
+RepresentsAt ts next (places.InSections state) d f = InSections ts state d f
+RepresentsAt ts next (places.InLeft state) d f = InLeft ts next state d f
+RepresentsAt ts next (places.InCost state) d f = InCost ts state d f
+RepresentsAt ts next (places.InRight state) d f = InRight ts next state d f
+RepresentsAt ts next (places.InTail state) d f = InTail ts next state d f
 
 abbrev pub PartEndedAt : Tokens → Option Piece → ParserState → Draft → Front → Type 0
 PartEndedAt ts next (places.InSections state) d f = InSections ts state d f
@@ -217,4 +217,4 @@ abbrev pub LeadsTo : Tokens → Option Piece → Option Front → Option ParserS
 LeadsTo ts next None None d = ⊤
 LeadsTo ts next None (Some state) d = ⊥
 LeadsTo ts next (Some g) None d = ⊥
-LeadsTo ts next (Some g) (Some state) d = StandsAt ts next state d g
+LeadsTo ts next (Some g) (Some state) d = RepresentsAt ts next state d g

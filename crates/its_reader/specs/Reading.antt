@@ -7,9 +7,9 @@ use Rattle.its_text.specs.Kinds.{Kind}
 use Rattle.its_text.specs.Lexing.{tokens_of}
 use Rattle.its_text.specs.Fronts.{Front}
 use Rattle.its_text.specs.Grammar.{programs}
-use Rattle.its_text.specs.FrontFaults.{Tokens, last_byte, next_piece}
+use Rattle.its_text.specs.StateFaults.{Tokens, last_byte, next_piece}
 use Rattle.its_reader.specs.FaultTests.{IsDigital}
-use Rattle.its_reader.specs.Places.{StandsAt}
+use Rattle.its_reader.specs.Places.{RepresentsAt}
 use Rattle.its_reader.specs.declared.draft.Draft.{Draft}
 use Rattle.its_reader.specs.declared.parser_state.ParserState.{ParserState}
 
@@ -27,12 +27,12 @@ AreDigital (t ∷ rest) = IsDigital (Some t.piece) × AreDigital rest
 pub record IsReading (bytes : List ℕ) (state : ParserState) (last : ℕ) (best : Option (Fault Kind)) (d : Draft)
     (rest : Tokens) : Type 0 where
   pub done : Tokens
-  pub front : Front
+  pub grammar_state : Front
   pub whole : onto done rest ≡ tokens_of bytes
-  pub led : reached programs (pieces done) ≡ Some front
+  pub led : reached programs (pieces done) ≡ Some grammar_state
   pub last_is : last ≡ last_byte done
   pub ordered : AreInOrder (after done) rest (length bytes)
   pub digital : AreDigital rest
   pub pending : answer programs (length bytes) (tokens_of bytes) ≡ run programs (length bytes)
-      (Going best done front) rest
-  pub stands : StandsAt (tokens_of bytes) (next_piece rest) state d front
+      (Going best done grammar_state) rest
+  pub stands : RepresentsAt (tokens_of bytes) (next_piece rest) state d grammar_state

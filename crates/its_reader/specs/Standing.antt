@@ -10,7 +10,7 @@ use Rattle.its_text.specs.expr_text.Terms.{with_sum, sum_term}
 use Rattle.its_text.specs.expr_text.TermFronts.{limited}
 use Rattle.expr_reader.specs.Variables.{names_in}
 use Rattle.expr_reader.specs.Standing.{IsFresh}
-use Rattle.expr_reader.specs.GuardStanding.{IsWanting, limited_atom}
+use Rattle.expr_reader.specs.GuardRepresentation.{IsWanting, limited_atom}
 use Rattle.its_text.specs.expr_text.GuardFronts.{no_atoms}
 use Rattle.poly_terms.specs.Views.{term_of}
 use Rattle.its_text.specs.Fronts.{Aimed, Headed}
@@ -18,9 +18,9 @@ use Rattle.its_text.specs.Written.{LeftTerm, WrittenRule, Section, Goal, Start, 
 use Rattle.its_text.specs.Written.{pieces_behind}
 use Rattle.its_text.specs.Numbering.{names_of, symbols_of, with_right, number_of, left_names, arrow_names, with_sums}
 use Rattle.its_text.specs.Numbering.{term_in, rules_of, rule_numbered}
-use Rattle.its_text.specs.Fronts.{Ruling, Led}
+use Rattle.its_text.specs.Fronts.{Ruling, ArrowRead}
 use Rattle.its_text.specs.Answers.{at_index}
-use Rattle.its_text.specs.FrontFaults.{Tokens, has, is_goal, is_variables, is_rules}
+use Rattle.its_text.specs.StateFaults.{Tokens, has, is_goal, is_variables, is_rules}
 use Rattle.its_text.specs.FrontNames.{symbols_behind}
 use Rattle.its_reader.specs.declared.draft.Start as code
 use Rattle.its_reader.specs.declared.draft.Sections.{Sections}
@@ -122,15 +122,15 @@ cost_of names None = None
 cost_of names (Some c) = Some (limited (sum_term (with_sum names c) c))
 
 -- the left term and its arrow have been read
-pub record KnowsLed (ts : Tokens) (l : Led) (d : Draft) : Type 0 where
+pub record KnowsArrow (ts : Tokens) (l : ArrowRead) (d : Draft) : Type 0 where
   pub sections : KnowsSections ts l.ruling.sections d.sections
   pub rules_are : map rule_of d.rules.items ≡ rules_so_far l.ruling.rules
   pub source_is : d.rule.source ≡ number_of (symbols_behind l) l.left.name
   pub left_is : d.rule.left ≡ length l.left.arguments
   pub cost_is : option_map term_of d.rule.cost ≡ cost_of (left_names l.left) l.cost
 
-pub record KnowsLeft (ts : Tokens) (l : Led) (d : Draft) : Type 0 where
-  pub led : KnowsLed ts l d
+pub record KnowsLeft (ts : Tokens) (l : ArrowRead) (d : Draft) : Type 0 where
+  pub led : KnowsArrow ts l d
   pub symbols : KnowsSymbols (symbols_behind l) d.symbols
   pub names_are : names_in d.rule.variables ≡ arrow_names l.left l.cost
   pub updates : d.rule.updates.items ≡ []
@@ -138,7 +138,7 @@ pub record KnowsLeft (ts : Tokens) (l : Led) (d : Draft) : Type 0 where
   pub guard : (before : List Name) → IsWanting before no_atoms before d.rule.guard
 
 -- a left term whose arrow has no cost
-abbrev pub without_cost : Ruling → LeftTerm → Led
+abbrev pub without_cost : Ruling → LeftTerm → ArrowRead
 without_cost r t = record { ruling = r; left = t; cost = None }
 
 -- right arguments by numbers, each over the variables once it is read
@@ -148,7 +148,7 @@ updates_of names (s ∷ earlier) = updates_of names earlier ++ limited (sum_term
 
 -- the right term is being read: its name, and arguments so far
 pub record KnowsAimed (ts : Tokens) (a : Aimed) (arguments : List Sum) (d : Draft) : Type 0 where
-  pub led : KnowsLed ts a.led d
+  pub led : KnowsArrow ts a.led d
   pub symbols : KnowsSymbols (symbols_behind a.led) d.symbols
   pub name_is : d.rule.name.now ≡ a.name
   pub updates_are : map term_of d.rule.updates.items ≡ updates_of (arrow_names a.led.left a.led.cost) arguments
@@ -160,7 +160,7 @@ symbols_headed h = with_right (symbols_behind h.led) (term_in h.target)
 
 -- the target has been read
 pub record KnowsHeaded (ts : Tokens) (h : Headed) (d : Draft) : Type 0 where
-  pub led : KnowsLed ts h.led d
+  pub led : KnowsArrow ts h.led d
   pub symbols : KnowsSymbols (symbols_headed h) d.symbols
   pub target_is : d.rule.target ≡ number_of (symbols_headed h) (term_in h.target).name
   pub updates_are : map term_of d.rule.updates.items ≡ updates_of

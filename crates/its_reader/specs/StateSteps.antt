@@ -5,7 +5,7 @@ use Rattle.model.specs.Programs.{Name}
 use Rattle.text_core.specs.Names.{is_among, position_of}
 use Rattle.its_text.specs.expr_text.Terms.{with_name}
 use Rattle.expr_reader.specs.Variables.{names_in}
-use Rattle.its_text.specs.Fronts as fronts
+use Rattle.its_text.specs.Fronts as grammar_states
 use Rattle.its_text.specs.Fronts.{Ruling}
 use Rattle.its_reader.specs.Tests as tests
 use Rattle.its_reader.specs.Standing.{KnowsRuling, IsFreshRule}
@@ -18,13 +18,13 @@ use Rattle.its_reader.specs.declared.draft.RuleDraft.{RuleDraft}
 use Rattle.its_text.specs.expr_text.Pieces as inner
 use Rattle.its_text.specs.expr_text.TermFronts.{goes_on_from}
 use Rattle.expr_reader.specs.Standing.{Leads}
-use Rattle.expr_reader.specs.Views.{front_of}
+use Rattle.expr_reader.specs.Views.{grammar_state_of}
 use Rattle.its_text.specs.Pieces.{Piece, In}
 use Rattle.expr_reader.specs.Standing.{IsModest}
-use Rattle.its_text.specs.Fronts.{Front, front_pieces}
+use Rattle.its_text.specs.Fronts.{Front, pieces_read}
 use Rattle.its_text.specs.Answers.{at_index}
 use Rattle.its_text.specs.Steps.{step}
-use Rattle.its_text.specs.FrontFaults.{Tokens}
+use Rattle.its_text.specs.StateFaults.{Tokens}
 use Rattle.its_reader.specs.Places.{InSections, InLeft, CostPartEnded, RightPartEnded, TailPartEnded, LeadsTo}
 use Rattle.its_reader.specs.declared.draft.Draft.{Draft}
 use Rattle.its_reader.specs.declared.parser_state.SectionState.{SectionState}
@@ -43,7 +43,7 @@ pub record SectionLeads (state : SectionState) (old : Draft) (p : Piece) (result
 pub record StartLeads (state : SectionState) (old : Draft) (p : Piece) (at : ℕ) (result : Option ParserState)
     (new : Draft) : Type 0 where
   pub each : (ts : Tokens) (next : Option Piece) (f : Front) → InSections ts state old f
-      → at ≡ at_index ts (length (front_pieces f)) → LeadsTo ts next (step f p) result new
+      → at ≡ at_index ts (length (pieces_read f)) → LeadsTo ts next (step f p) result new
 
 -- no left argument is named again by a piece
 abbrev pub IsNew : List Name → Option Name → Type 0
@@ -66,7 +66,7 @@ pub record LeftLeads (state : SourceState) (old : Draft) (p : Piece) (result : O
 -- between rules
 pub record RuleLeads (old : Draft) (p : Piece) (result : Option ParserState) (new : Draft) : Type 0 where
   pub each : (ts : Tokens) (next : Option Piece) (r : Ruling) → KnowsRuling ts r old → IsFreshRule old.rule
-      → LeadsTo ts next (step (fronts.AfterRule r) p) result new
+      → LeadsTo ts next (step (grammar_states.AfterRule r) p) result new
 
 -- the parts of a draft that are unchanged while an argument is read
 pub record StaysAround (old new : Draft) : Type 0 where
@@ -190,8 +190,8 @@ Takes true within old p result new = (result ≡ Some within) × GoesOn old p ne
 Takes false within old p result new = (result ≡ None) × (new ≡ old)
 
 abbrev pub TakesPiece : ParserState → Draft → Piece → Option ParserState → Draft → Type 0
-TakesPiece within old (In p) result new = Takes (goes_on_from (front_of old.rule.expression).outer
-    (front_of old.rule.expression).operand p) within old p result new
+TakesPiece within old (In p) result new = Takes (goes_on_from (grammar_state_of old.rule.expression).outer
+    (grammar_state_of old.rule.expression).operand p) within old p result new
 TakesPiece within old _ result new = (result ≡ None) × (new ≡ old)
 
 pub record ExpressionTakes (within : ParserState) (old : Draft) (p : Piece) (result : Option ParserState)

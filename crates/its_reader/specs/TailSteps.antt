@@ -12,17 +12,17 @@ use Rattle.its_text.specs.expr_text.Pieces as inner
 use Rattle.its_text.specs.expr_text.Terms.{number_of}
 use Rattle.its_text.specs.expr_text.TermFronts.{goes_on_from}
 use Rattle.expr_reader.specs.Variables.{names_in}
-use Rattle.expr_reader.specs.Views.{front_of}
+use Rattle.expr_reader.specs.Views.{grammar_state_of}
 use Rattle.expr_reader.specs.GuardParts.{is_read}
-use Rattle.expr_reader.specs.GuardStanding.{atoms_in, limited_atom, Takes}
+use Rattle.expr_reader.specs.GuardRepresentation.{atoms_in, limited_atom, Takes}
 use Rattle.expr_reader.specs.declared.guard.GuardReader.{GuardReader}
 use Rattle.its_text.specs.Pieces.{Piece}
 use Rattle.its_text.specs.Written.{Guard}
 use Rattle.its_text.specs.Numbering.{rule_names, guard_terms}
-use Rattle.its_text.specs.Fronts as fronts
+use Rattle.its_text.specs.Fronts as grammar_states
 use Rattle.its_text.specs.Fronts.{Headed, rule_with, ruling_with}
 use Rattle.its_text.specs.Steps.{step}
-use Rattle.its_text.specs.FrontFaults.{Tokens}
+use Rattle.its_text.specs.StateFaults.{Tokens}
 use Rattle.its_reader.specs.Tests as tests
 use Rattle.its_reader.specs.Standing.{KnowsHeaded, IsFreshRule}
 use Rattle.its_reader.specs.Places.{LeadsTo}
@@ -64,7 +64,7 @@ pub record RuleEnds (old new : Draft) : Type 0 where
 -- a whole rule ends before a piece, which continues the rules; a name begins another rule
 pub record WholeLeads (old : Draft) (p : Piece) (result : Option ParserState) (new : Draft) : Type 0 where
   pub each : (ts : Tokens) (next : Option Piece) (h : Headed) (guard : Guard) → KnowsWhole ts h guard old
-      → LeadsTo ts next (step (fronts.AfterRule (ruling_with h guard)) p) result new
+      → LeadsTo ts next (step (grammar_states.AfterRule (ruling_with h guard)) p) result new
   pub sourced : (name : Name) → tests.word p ≡ Some name → result ≡ Some (places.InLeft lefts.SourceNamed)
 
 -- a literal is within the limit on coefficients
@@ -82,7 +82,7 @@ is_modest (inner.Joining joint) = true
 
 -- a piece continues the expression of an atom
 abbrev pub goes_on_in : GuardReader → inner.Piece → Bool
-goes_on_in r p = not (is_read r.state) && goes_on_from (front_of r.expression).outer (front_of r.expression).operand p
+goes_on_in r p = not (is_read r.state) && goes_on_from (grammar_state_of r.expression).outer (grammar_state_of r.expression).operand p
 
 -- the place within a guard, where a test passes
 abbrev pub guarding_if : Bool → GuardOpening → Option ParserState

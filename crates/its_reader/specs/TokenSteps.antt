@@ -12,18 +12,18 @@ use Rattle.its_text.specs.expr_text.Pieces as inner
 use Rattle.its_model.specs.declared.program.Program as code
 use Rattle.its_text.specs.Pieces.{Piece, In}
 use Rattle.its_text.specs.Kinds.{Kind, kind_number}
-use Rattle.its_text.specs.Fronts.{Front, front_pieces}
+use Rattle.its_text.specs.Fronts.{Front, pieces_read}
 use Rattle.its_text.specs.Steps.{step}
 use Rattle.its_text.specs.Grammar.{programs}
 use Rattle.its_text.specs.Answers.{at_index, verdict, whole}
 use Rattle.its_text.specs.Lexing.{tokens_of}
 use Rattle.its_text.specs.Written.{Section}
 use Rattle.its_text.specs.Numbering.{start_of, rules_of}
-use Rattle.its_text.specs.FrontFaults.{Tokens, next_piece, piece_behind, last_byte, front_faults, last_faults}
-use Rattle.its_text.specs.FrontFaults.{left_wanted}
+use Rattle.its_text.specs.StateFaults.{Tokens, next_piece, piece_behind, last_byte, faults_of_state, last_faults}
+use Rattle.its_text.specs.StateFaults.{left_wanted}
 use Rattle.its_reader.specs.FaultTests.{IsDigital, wants_left, break_kind_in}
 use Rattle.its_reader.specs.Tests as tests
-use Rattle.its_reader.specs.Places.{StandsAt, PartEndedAt, LeadsTo}
+use Rattle.its_reader.specs.Places.{RepresentsAt, PartEndedAt, LeadsTo}
 use Rattle.its_reader.specs.Standing.{KnowsBetween}
 use Rattle.its_reader.specs.Faults.{fault_of, maybe_fault, Says}
 use Rattle.its_reader.specs.StateSteps.{GoTogether, IsModestPiece}
@@ -37,17 +37,17 @@ use Rattle.its_reader.specs.declared.reading.TokenStep.TheVariants as turns
 -- the part that ends before the next piece is ended, and the faults at the last byte read are found
 pub record EndsPart (state : ParserState) (old : Draft) (next : Option Piece) (now : ParserState) (found : ℕ
     → List (Fault Kind)) (new : Draft) : Type 0 where
-  pub part_ended : (ts : Tokens) (f : Front) → StandsAt ts next state old f → PartEndedAt ts next now new f
-  pub found_is : (ts : Tokens) (at : ℕ) (f : Front) → StandsAt ts next state old f → found at ≡ last_faults at f next
+  pub part_ended : (ts : Tokens) (f : Front) → RepresentsAt ts next state old f → PartEndedAt ts next now new f
+  pub found_is : (ts : Tokens) (at : ℕ) (f : Front) → RepresentsAt ts next state old f → found at ≡ last_faults at f next
 
 -- the fault so far is the first of the one before and all that is shown here
 pub record Judges (state : ParserState) (last : ℕ) (best : Option (Fault Kind)) (old : Draft) (next behind : Option Piece)
     (at : ℕ) (now : ParserState) (first : Option (Fault Kind)) (new : Draft) : Type 0 where
-  pub part_ended : (ts : Tokens) (f : Front) → StandsAt ts next state old f → PartEndedAt ts next now new f
-  pub first_fault_ahead : (ts : Tokens) (n : ℕ) (done rest : Tokens) (f : Front) → StandsAt ts next state old f
+  pub part_ended : (ts : Tokens) (f : Front) → RepresentsAt ts next state old f → PartEndedAt ts next now new f
+  pub first_fault_ahead : (ts : Tokens) (n : ℕ) (done rest : Tokens) (f : Front) → RepresentsAt ts next state old f
       → next_piece rest ≡ next → piece_behind rest ≡ behind
       → next_at n rest ≡ at → last_byte done ≡ last → IsDigital next
-      → first ≡ first_among programs best (front_faults n done f rest)
+      → first ≡ first_among programs best (faults_of_state n done f rest)
 
 -- no left argument is named again
 abbrev pub AllowsName : Option (List Name) → Option Name → Type 0
@@ -58,9 +58,9 @@ AllowsName _ _ = ⊤
 pub record Advances (state : ParserState) (old : Draft) (t : Token Piece) (behind : Option Piece) (result : Option ParserState)
     (new : Draft) : Type 0 where
   pub together : (ts : Tokens) (f : Front) → PartEndedAt ts (Some t.piece) state old f
-      → t.at ≡ at_index ts (length (front_pieces f)) → GoTogether (step f t.piece) result
+      → t.at ≡ at_index ts (length (pieces_read f)) → GoTogether (step f t.piece) result
   pub each : (ts : Tokens) (f : Front) → PartEndedAt ts (Some t.piece) state old f
-      → t.at ≡ at_index ts (length (front_pieces f)) → AllowsName (left_wanted f) (tests.word t.piece)
+      → t.at ≡ at_index ts (length (pieces_read f)) → AllowsName (left_wanted f) (tests.word t.piece)
       → IsModestPiece t.piece
       → LeadsTo ts behind (step f t.piece) result new
 

@@ -2,7 +2,7 @@
 
 ghost use Rattle.std.specs.Prelude.{◌≡◌};
 ghost use Rattle.expr_reader.specs.Views.{piece_of as inner_plain};
-ghost use Rattle.its_text.specs.FrontFaults.{is_no_name as plain_no_name};
+ghost use Rattle.its_text.specs.StateFaults.{is_no_name as plain_no_name};
 ghost use Rattle.its_reader.specs.Faults.{kind_of};
 ghost use Rattle.its_reader.specs.FaultTests.{break_kind_in, wants_left};
 ghost use Rattle.its_reader.specs.Views.{piece_of as plain_of};

@@ -1,7 +1,7 @@
 //! What has been read of a program so far.
 
 ghost use Rattle.std.specs.Prelude.{◌≡◌, []};
-ghost use Rattle.its_text.specs.FrontFaults.{Tokens};
+ghost use Rattle.its_text.specs.StateFaults.{Tokens};
 ghost use Rattle.its_reader.specs.Standing.{KnowsRules, KnowsBetween, IsFreshRule};
 
 use crate::symbols::Symbols;

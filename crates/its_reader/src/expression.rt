@@ -3,7 +3,7 @@
 ghost use Rattle.std.specs.Prelude.{◌≡◌, not, ℕ, IfOk, OnOk};
 ghost use Rattle.poly_terms.specs.Faults.{first_fault};
 ghost use Rattle.poly_terms.specs.Views.{term_of};
-ghost use Rattle.its_text.specs.FrontFaults.{expansion_faults};
+ghost use Rattle.its_text.specs.StateFaults.{expansion_faults};
 ghost use Rattle.expr_reader.specs.Variables.{names_in};
 ghost use Rattle.expr_reader.specs.Standing.{Leads};
 ghost use Rattle.expr_reader.specs.Faults.{fault_of as unexpanded_of};

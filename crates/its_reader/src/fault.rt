@@ -4,7 +4,7 @@ ghost use Rattle.std.specs.Prelude.{◌≡◌, Some};
 ghost use Rattle.text_core.specs.Reading.{is_before as plain_before, first_of as plain_first, first_among};
 ghost use Rattle.its_text.specs.Grammar.{programs};
 ghost use Rattle.its_text.specs.Kinds as kinds;
-ghost use Rattle.its_text.specs.FrontFaults.{fault_if, expansion_kind};
+ghost use Rattle.its_text.specs.StateFaults.{fault_if, expansion_kind};
 ghost use Rattle.expr_reader.specs.Faults.{kind_of as unexpanded_of};
 ghost use Rattle.its_reader.specs.Faults.{limit_of, kind_of, fault_of, maybe_fault, maybe_kind, fault_in};
 

@@ -10,7 +10,7 @@ ghost use Rattle.its_reader.specs.Faults.{maybe_fault};
 ghost use Rattle.its_reader.specs.Tests.{inner_next};
 ghost use Rattle.its_reader.specs.Views.{maybe_of};
 ghost use Rattle.its_text.specs.Numbering.{is_com as plain_com};
-ghost use Rattle.its_text.specs.FrontFaults.{begins, is_open as is_open_next};
+ghost use Rattle.its_text.specs.StateFaults.{begins, is_open as is_open_next};
 ghost use Rattle.its_reader.specs.Views.{words_of};
 ghost use Rattle.its_reader.specs.FaultTests.{is_large_row, passes as plain_passes, piece_faults, step_faults};
 ghost use Rattle.its_reader.specs.FaultTests.{right_faults};

@@ -5,7 +5,7 @@ ghost use Rattle.model.specs.Limits.{rule_limit};
 ghost use Rattle.text_core.specs.Reading.{first_among};
 ghost use Rattle.expr_reader.specs.GuardParts.{piece_in, is_wanting};
 ghost use Rattle.its_text.specs.Grammar.{programs};
-ghost use Rattle.its_text.specs.FrontFaults.{begins, is_word as is_word_next, is_open as is_open_next};
+ghost use Rattle.its_text.specs.StateFaults.{begins, is_word as is_word_next, is_open as is_open_next};
 ghost use Rattle.its_reader.specs.Views.{maybe_of};
 ghost use Rattle.its_reader.specs.Faults.{maybe_fault};
 ghost use Rattle.its_reader.specs.Tests.{inner_next};

@@ -2,13 +2,13 @@
 
 ghost use Rattle.std.specs.Prelude.{◌≡◌, ◌&&◌, ℕ, IfOk};
 ghost use Rattle.its_text.specs.Kinds as kinds;
-ghost use Rattle.its_text.specs.FrontFaults.{fault_if};
+ghost use Rattle.its_text.specs.StateFaults.{fault_if};
 ghost use Rattle.expr_reader.specs.GuardParts.{piece_in};
 ghost use Rattle.its_reader.specs.Views.{maybe_of};
 ghost use Rattle.its_reader.specs.Faults.{maybe_kind};
 ghost use Rattle.its_reader.specs.TokenSteps.{EndsPart};
 ghost use Rattle.its_reader.specs.PartEnds.{closes_left, AfterArgument, ArgumentIsPartEnded, RightEndsPart};
-ghost use Rattle.its_reader.specs.PartEnds.{GuardStands, TailEndsPart};
+ghost use Rattle.its_reader.specs.PartEnds.{RepresentsGuard, TailEndsPart};
 ghost use Rattle.its_reader.specs.Tests.{inner_next};
 
 use crate::draft::{Draft, RuleDraft};
@@ -169,7 +169,7 @@ impl<'a> RuleDraft<'a> {
         state: TailState,
         next: Option<Piece<'a>>,
     ) -> Result<PartEnd, Memory>
-        ensures { IfOk result (λ part_ended. GuardStands state self.old
+        ensures { IfOk result (λ part_ended. RepresentsGuard state self.old
             (maybe_of next.entry) part_ended.state part_ended.refusal self.new) }
     {
         let fault = self.guard.end_part(alloc, inner_of(next))?;

@@ -5,7 +5,7 @@ ghost use Rattle.its_reader.specs.Views.{piece_of as plain_of, maybe_of, words_o
 ghost use Rattle.its_reader.specs.Tests as tests;
 ghost use Rattle.its_reader.specs.Tests.{inner_in, inner_next};
 ghost use Rattle.expr_reader.specs.GuardParts.{piece_in};
-ghost use Rattle.its_text.specs.FrontFaults.{begins, is_operator as is_operator_next};
+ghost use Rattle.its_text.specs.StateFaults.{begins, is_operator as is_operator_next};
 
 use expr_reader::Piece as Inner;
 

@@ -7,7 +7,7 @@ ghost use Rattle.its_reader.specs.StateSteps.{TailLeads};
 ghost use Rattle.its_reader.specs.TailSteps.{WholeLeads, GuardIsEnded, SquareEnds, AtomTakes, TakesMaybe, TakesPiece};
 ghost use Rattle.its_reader.specs.TailSteps.{StaysInGuard, guarding_if as plain_guarding, goes_on_in};
 ghost use Rattle.expr_reader.specs.GuardParts.{is_read, piece_in};
-ghost use Rattle.expr_reader.specs.GuardStanding.{Takes};
+ghost use Rattle.expr_reader.specs.GuardRepresentation.{Takes};
 ghost use Rattle.expr_reader.specs.Variables.{names_in};
 ghost use Rattle.expr_reader.specs.Views.{piece_of as inner_plain};
 

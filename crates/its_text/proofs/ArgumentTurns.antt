@@ -1,5 +1,5 @@
--- Along each step what is read is within the limits exactly if it was before, and the state is quiet: within the
--- arguments of a right term, and after it.
+-- Each step within or after the arguments of a right term keeps the limits: what was read is within them after the step
+-- exactly if it was before and the state is quiet (it shows no fault at the next token).
 use Rattle.std.proofs.Common.{◌≡◌, false, not, ◌↔◌, List, [], ◌∷◌, length, Option, Some, None, refl, ap, sym, subst}
 use Rattle.std.proofs.Common.{arith}
 use Rattle.expr_text.specs.model.Limits.{place_limit}
@@ -14,19 +14,19 @@ use Rattle.expr_text.proofs.FrontSteps.{token_ended, ended_there, names_ended}
 use Rattle.its_text.specs.Pieces.{Piece, In, Comma}
 use Rattle.its_text.specs.Written.{RightTerm, Target, Marked, Bare}
 use Rattle.its_text.specs.Numbering.{term_in, arrow_names, with_right}
-use Rattle.its_text.specs.Fronts.{Led, Wrap, InCom, Alone, Aimed, RightOpened, Arguing, TargetClosed}
+use Rattle.its_text.specs.Fronts.{ArrowRead, Wrap, InCom, Alone, Aimed, RightOpened, Arguing, TargetClosed}
 use Rattle.its_text.specs.Steps.{shut_by, behind_comma, behind_argument, argument_step, behind_open, step}
 use Rattle.its_text.specs.FrontNames.{symbols_behind, names_with}
-use Rattle.its_text.specs.FrontFaults.{bare_differs}
+use Rattle.its_text.specs.StateFaults.{bare_differs}
 use Rattle.its_text.proofs.ValidRules.{sums_are_read}
 use Rattle.its_text.proofs.RoomLaws.{contrary, passes_not, and_false, arity_same, arguments_stay}
-use Rattle.its_text.proofs.KeptFronts.{first, IsAimedKept, HasRight, HasTargetArity, IsTargetKept, IsArguingKept}
-use Rattle.its_text.proofs.KeptFronts.{IsGoingQuiet, IsArgumentExpanded, IsArgumentQuiet, IsKept}
+use Rattle.its_text.proofs.KeptStates.{first, IsAimedKept, HasRight, HasTargetArity, IsTargetKept, IsArguingKept}
+use Rattle.its_text.proofs.KeptStates.{IsGoingQuiet, IsArgumentExpanded, IsArgumentQuiet, IsKept}
 use Rattle.its_text.proofs.SectionTurns.{Turns}
 use Rattle.its_text.proofs.ExpressionRoom.{goes_on, goes_off, room_for_token, plain_going, room_for_piece, room_for_one}
 use Rattle.its_text.proofs.ExpressionRoom.{some_begun}
 
--- a step within an argument that continues it
+-- A step that continues an argument keeps the limits exactly if the state is quiet.
 pub argument_goes_on : (a : Aimed) (arguments : List Sum) (e f : expression.Front) (p : inner.Piece)
     (behind : Option Piece) → expression_steps.step e p ≡ Some f
     → IsArguingKept a arguments f ↔ (IsArguingKept a arguments e × IsArgumentQuiet a arguments e (Some (In p)) behind)
@@ -58,7 +58,7 @@ argument_goes_on a arguments e f p behind same =
           },
     )
 
--- an argument that must follow
+-- The state in which an argument must follow is within the limits exactly if the earlier arguments are.
 pub argument_wanted : (a : Aimed) (arguments : List Sum) → IsArguingKept a arguments expression.beginning
     ↔ HasRight a.led (record { name = a.name; arguments = arguments })
 argument_wanted a arguments = (
@@ -91,7 +91,8 @@ no_argument a = (
   },
 )
 
--- an argument ends
+-- The state after the end of an argument is within the limits exactly if the one before is and the argument can be
+-- expanded.
 pub argument_ends : (a : Aimed) (arguments : List Sum) (e : expression.Front) (s : Sum)
     → expression_steps.finish e ≡ Some s
     → HasRight a.led (record { name = a.name; arguments = s ∷ arguments })
@@ -129,12 +130,12 @@ argument_ends a arguments e s same =
           },
     )
 
--- a right term that has been closed
-pub shut_kept : (l : Led) (wrap : Wrap) (t : RightTerm) (ps : List Piece) → IsKept (shut_by l wrap t) ps ↔ HasRight l t
-shut_kept l InCom t ps = (λ h. h, λ h. h)
-shut_kept l Alone t ps = (λ h. h, λ h. h)
+-- The state after a right term is within the limits exactly if the term is.
+pub closed_kept : (l : ArrowRead) (wrap : Wrap) (t : RightTerm) (ps : List Piece) → IsKept (shut_by l wrap t) ps ↔ HasRight l t
+closed_kept l InCom t ps = (λ h. h, λ h. h)
+closed_kept l Alone t ps = (λ h. h, λ h. h)
 
--- a step that begins an argument after the bracket of a right term
+-- A step that begins an argument after the bracket of a right term keeps the limits exactly if the state is quiet.
 opened : (a : Aimed) (f : expression.Front) (p : inner.Piece) (ps : List Piece)
     → expression_steps.step expression.beginning p ≡ Some f → Turns (RightOpened a) (In p) ps (Some (Arguing a [] f))
 opened a f p ps same =
@@ -152,7 +153,7 @@ opened_turns a (inner.Digits ds) ps = opened a _ (inner.Digits ds) ps refl
 opened_turns a inner.Open ps = opened a _ inner.Open ps refl
 opened_turns a inner.Minus ps = opened a _ inner.Minus ps refl
 opened_turns a inner.Close ps =
-    let shut = shut_kept a.led a.wrap (record { name = a.name; arguments = [] }) ps in
+    let shut = closed_kept a.led a.wrap (record { name = a.name; arguments = [] }) ps in
     let none = no_argument a in
     (λ h. (none.0 (shut.0 h), λ k. cc), λ h. shut.1 (none.1 h.0))
 opened_turns a inner.Plus ps = tt
@@ -161,18 +162,18 @@ opened_turns a inner.Caret ps = tt
 opened_turns a (inner.Related sign) ps = tt
 opened_turns a (inner.Joining joint) ps = tt
 
--- within an argument
-off_quiet : (a : Aimed) (arguments : List Sum) (e : expression.Front) (p : inner.Piece) (behind : Option Piece)
+-- If a token doesn't continue an argument, the state shows no fault of the expression.
+stop_kind_quiet : (a : Aimed) (arguments : List Sum) (e : expression.Front) (p : inner.Piece) (behind : Option Piece)
     → expression_steps.step e p ≡ None
     → IsGoingQuiet (Some (plain_going (names_with a.led arguments) e)) (Some (In p)) behind
-off_quiet a arguments e p behind same = λ on. contrary (goes_on_with e p) on (goes_off e p same)
+stop_kind_quiet a arguments e p behind same = λ on. contrary (goes_on_with e p) on (goes_off e p same)
 
 argued_by : (a : Aimed) (arguments : List Sum) (e : expression.Front) (p : inner.Piece) (ps : List Piece)
     (o : Option Sum) → expression_steps.finish e ≡ o → expression_steps.step e p ≡ None
     → Turns (Arguing a arguments e) (In p) ps (behind_argument a arguments o p)
 argued_by a arguments e p ps None same off = tt
 argued_by a arguments e inner.Close ps (Some s) same off =
-    let shut = shut_kept a.led a.wrap (record { name = a.name; arguments = s ∷ arguments }) ps in
+    let shut = closed_kept a.led a.wrap (record { name = a.name; arguments = s ∷ arguments }) ps in
     let ends = argument_ends a arguments e s same in (
       λ h.
           let k = ends.0 (shut.0 h) in (
@@ -180,7 +181,7 @@ argued_by a arguments e inner.Close ps (Some s) same off =
             record {
               argument = λ _. subst (IsArgumentExpanded (names_with a.led arguments)) (sym same) k.1;
               few = and_false _;
-              going = off_quiet a arguments e inner.Close (first ps) off;
+              going = stop_kind_quiet a arguments e inner.Close (first ps) off;
             },
           ),
       λ h.
@@ -235,16 +236,16 @@ pub parted_turns : (a : Aimed) (arguments : List Sum) (e : expression.Front) (ps
     → Turns (Arguing a arguments e) Comma ps (behind_comma a arguments (expression_steps.finish e))
 parted_turns a arguments e ps = parted_by a arguments e ps (expression_steps.finish e) refl
 
--- a step after `Com_1(` and its term
-pub right_shut_turns : (l : Led) (t : RightTerm) (ps : List Piece)
+-- A step after `Com_1(` and its term keeps the limits exactly if the state is quiet.
+pub right_closed_turns : (l : ArrowRead) (t : RightTerm) (ps : List Piece)
     → Turns (TargetClosed l t) (In inner.Close) ps (step (TargetClosed l t) (In inner.Close))
-right_shut_turns l t ps =
+right_closed_turns l t ps =
     let same = arity_same (with_right (symbols_behind l) t) t.name (length t.arguments) in
     (λ h. (h.0, same.1 h.1), λ h. (h.0, same.0 h.1))
 
 -- a target's term is within the limits and has its symbol's arity exactly if the target is within the limits and no
 -- arity differs
-pub target_kept : (l : Led) (target : Target) → (HasRight l (term_in target) × HasTargetArity l (term_in target))
+pub target_kept : (l : ArrowRead) (target : Target) → (HasRight l (term_in target) × HasTargetArity l (term_in target))
     ↔ (IsTargetKept l target × (bare_differs l target ≡ false))
 target_kept l (Marked t) = (λ h. (h, refl), λ h. h.0)
 target_kept l (Bare t) =

@@ -15,26 +15,26 @@ use Rattle.its_text.specs.Pieces.{Piece, In, Arrow, CostClose, SquareClose, Rema
 use Rattle.its_text.specs.Written.{LeftTerm, RightTerm, Marked, Bare, NoGuard, BehindMark, InSquares, Section, Goal}
 use Rattle.its_text.specs.Written.{Start}
 use Rattle.its_text.specs.Written.{Variables, Comment}
-use Rattle.its_text.specs.Fronts.{Ruling, Led, Wrap, InCom, Alone, Aimed, Headed, Front, Between, Opened, GoalNamed}
+use Rattle.its_text.specs.Fronts.{Ruling, ArrowRead, Wrap, InCom, Alone, Aimed, Headed, Front, Between, Opened, GoalNamed}
 use Rattle.its_text.specs.Fronts.{GoalRead, StartNamed, StartOpened, StartListed, StartRead, StartClosed, Listing}
 use Rattle.its_text.specs.Fronts.{CommentNamed, AfterRule, SourceNamed, LeftOpened, LeftRead, LeftParted, SourceClosed, Costing}
 use Rattle.its_text.specs.Fronts.{Arrowed, ComNamed, ComOpened, TargetNamed, RightOpened, Arguing, TargetClosed, Targeted}
 use Rattle.its_text.specs.Fronts.{GuardMarked, WordRead, MarkGuarding, SquareOpened, SquareGuarding, ruling_with}
 use Rattle.its_text.specs.Fronts.{section_of}
 use Rattle.its_text.specs.Steps.{behind_argument, argument_step, guard_ended, mark_guard_step, square_guard_step}
-use Rattle.its_text.specs.Steps.{square_ended, shut_by, right_shut, left_shut, behind_left, cost_step, cost_ended, step}
+use Rattle.its_text.specs.Steps.{square_ended, shut_by, right_closed, left_closed, behind_left, cost_step, cost_ended, step}
 use Rattle.its_text.specs.Grammar.{programs}
 use Rattle.its_text.proofs.Ends.{ends}
 
--- pieces lead to a state
+-- These tokens lead to the state.
 abbrev pub At : List Piece → Front → Type 0
 At done f = reached programs done ≡ Some f
 
--- if pieces with one more can be completed, so can they without it
+-- If tokens with one more can be completed, so can they without it.
 back : (p : Piece) (done : List Piece) → IsBeginning programs (p ∷ done) → IsBeginning programs done
 back p done b = (b.0, p ∷ b.1, b.2)
 
--- a step
+-- A step leads from the state of some tokens to that of these and one more.
 pub onward : (done : List Piece) (f g : Front) (p : Piece) → At done f → step f p ≡ Some g → At (p ∷ done) g
 onward done f g p at same = ap (λ o. next step o p) at ∙ same
 
@@ -47,11 +47,11 @@ goal_said_goes ss done at = back close_bracket done (between_goes (Goal ∷ ss) 
 goal_named_goes : (ss : List Section) (done : List Piece) → At done (GoalNamed ss) → IsBeginning programs done
 goal_named_goes ss done at = back (word (codes "COMPLEXITY")) done (goal_said_goes ss ((word (codes "COMPLEXITY")) ∷ done) (onward done (GoalNamed ss) (GoalRead ss) (word (codes "COMPLEXITY")) at refl))
 
-start_shut_goes : (ss : List Section) (name : Name) (done : List Piece) → At done (StartClosed ss name) → IsBeginning programs done
-start_shut_goes ss name done at = back close_bracket done (between_goes (Start name ∷ ss) (close_bracket ∷ done) (onward done (StartClosed ss name) (Between (Start name ∷ ss)) close_bracket at refl))
+start_closed_goes : (ss : List Section) (name : Name) (done : List Piece) → At done (StartClosed ss name) → IsBeginning programs done
+start_closed_goes ss name done at = back close_bracket done (between_goes (Start name ∷ ss) (close_bracket ∷ done) (onward done (StartClosed ss name) (Between (Start name ∷ ss)) close_bracket at refl))
 
 start_said_goes : (ss : List Section) (name : Name) (done : List Piece) → At done (StartRead ss name) → IsBeginning programs done
-start_said_goes ss name done at = back close_bracket done (start_shut_goes ss name (close_bracket ∷ done) (onward done (StartRead ss name) (StartClosed ss name) close_bracket at refl))
+start_said_goes ss name done at = back close_bracket done (start_closed_goes ss name (close_bracket ∷ done) (onward done (StartRead ss name) (StartClosed ss name) close_bracket at refl))
 
 start_listed_goes : (ss : List Section) (done : List Piece) → At done (StartListed ss) → IsBeginning programs done
 start_listed_goes ss done at = back (word (codes "f")) done (start_said_goes ss (codes "f") ((word (codes "f")) ∷ done) (onward done (StartListed ss) (StartRead ss (codes "f")) (word (codes "f")) at refl))
@@ -77,33 +77,33 @@ ruled_goes r done at = back close_bracket done (between_goes (section_of r) (clo
 targeted_goes : (h : Headed) (done : List Piece) → At done (Targeted h) → IsBeginning programs done
 targeted_goes h done at = back close_bracket done (between_goes (section_of (ruling_with h NoGuard)) (close_bracket ∷ done) (onward done (Targeted h) (Between (section_of (ruling_with h NoGuard))) close_bracket at refl))
 
-right_shut_goes : (l : Led) (t : RightTerm) (done : List Piece) → At done (TargetClosed l t) → IsBeginning programs done
-right_shut_goes l t done at = back close_bracket done (targeted_goes (record { led = l; target = Marked t }) (close_bracket ∷ done) (onward done (TargetClosed l t) (Targeted (record { led = l; target = Marked t })) close_bracket at refl))
+right_closed_goes : (l : ArrowRead) (t : RightTerm) (done : List Piece) → At done (TargetClosed l t) → IsBeginning programs done
+right_closed_goes l t done at = back close_bracket done (targeted_goes (record { led = l; target = Marked t }) (close_bracket ∷ done) (onward done (TargetClosed l t) (Targeted (record { led = l; target = Marked t })) close_bracket at refl))
 
-shut_goes : (l : Led) (wrap : Wrap) (t : RightTerm) (done : List Piece) → At done (shut_by l wrap t) → IsBeginning programs done
-shut_goes l InCom t done at = right_shut_goes l t done at
-shut_goes l Alone t done at = targeted_goes (record { led = l; target = Bare t }) done at
+closed_goes : (l : ArrowRead) (wrap : Wrap) (t : RightTerm) (done : List Piece) → At done (shut_by l wrap t) → IsBeginning programs done
+closed_goes l InCom t done at = right_closed_goes l t done at
+closed_goes l Alone t done at = targeted_goes (record { led = l; target = Bare t }) done at
 
 right_opened_goes : (a : Aimed) (done : List Piece) → At done (RightOpened a) → IsBeginning programs done
-right_opened_goes a done at = back close_bracket done (shut_goes a.led a.wrap (record { name = a.name; arguments = [] }) (close_bracket ∷ done) (onward done (RightOpened a) (shut_by a.led a.wrap (record { name = a.name; arguments = [] })) close_bracket at refl))
+right_opened_goes a done at = back close_bracket done (closed_goes a.led a.wrap (record { name = a.name; arguments = [] }) (close_bracket ∷ done) (onward done (RightOpened a) (shut_by a.led a.wrap (record { name = a.name; arguments = [] })) close_bracket at refl))
 
 target_named_goes : (a : Aimed) (done : List Piece) → At done (TargetNamed a) → IsBeginning programs done
 target_named_goes a done at = back open_bracket done (right_opened_goes a (open_bracket ∷ done) (onward done (TargetNamed a) (RightOpened a) open_bracket at refl))
 
-com_opened_goes : (l : Led) (done : List Piece) → At done (ComOpened l) → IsBeginning programs done
+com_opened_goes : (l : ArrowRead) (done : List Piece) → At done (ComOpened l) → IsBeginning programs done
 com_opened_goes l done at = back (word (codes "f")) done (target_named_goes (record { led = l; wrap = InCom; name = codes "f" }) ((word (codes "f")) ∷ done) (onward done (ComOpened l) (TargetNamed (record { led = l; wrap = InCom; name = codes "f" })) (word (codes "f")) at refl))
 
-com_named_goes : (l : Led) (done : List Piece) → At done (ComNamed l) → IsBeginning programs done
+com_named_goes : (l : ArrowRead) (done : List Piece) → At done (ComNamed l) → IsBeginning programs done
 com_named_goes l done at = back open_bracket done (com_opened_goes l (open_bracket ∷ done) (onward done (ComNamed l) (ComOpened l) open_bracket at refl))
 
-arrowed_goes : (l : Led) (done : List Piece) → At done (Arrowed l) → IsBeginning programs done
+arrowed_goes : (l : ArrowRead) (done : List Piece) → At done (Arrowed l) → IsBeginning programs done
 arrowed_goes l done at = back (word (codes "f")) done (target_named_goes (record { led = l; wrap = Alone; name = codes "f" }) ((word (codes "f")) ∷ done) (onward done (Arrowed l) (TargetNamed (record { led = l; wrap = Alone; name = codes "f" })) (word (codes "f")) at refl))
 
-left_shut_goes : (r : Ruling) (t : LeftTerm) (done : List Piece) → At done (SourceClosed r t) → IsBeginning programs done
-left_shut_goes r t done at =
+left_closed_goes : (r : Ruling) (t : LeftTerm) (done : List Piece) → At done (SourceClosed r t) → IsBeginning programs done
+left_closed_goes r t done at =
     back Arrow done (arrowed_goes (record { ruling = r; left = t; cost = None }) (Arrow ∷ done) (onward done (SourceClosed r t) (behind_left r t None) Arrow at refl))
 
--- a cost can be completed, and then its brace closes
+-- A cost can be completed, and its brace can then be closed.
 pub costing_steps : (r : Ruling) (t : LeftTerm) (done : List Piece) (e f : expression.Front) (p : inner.Piece)
     → At done (Costing r t e) → expression_steps.step e p ≡ Some f → At (In p ∷ done) (Costing r t f)
 costing_steps r t done e f p at same = onward done (Costing r t e) (Costing r t f) (In p) at (ap (λ o. cost_step r t o) same)
@@ -120,10 +120,10 @@ costing_goes r t e done at =
     (costing_steps r t) back (costing_ends r t) e done at
 
 left_opened_goes : (r : Ruling) (name : Name) (done : List Piece) → At done (LeftOpened r name) → IsBeginning programs done
-left_opened_goes r name done at = back close_bracket done (left_shut_goes r (record { name = name; arguments = [] }) (close_bracket ∷ done) (onward done (LeftOpened r name) (left_shut r name []) close_bracket at refl))
+left_opened_goes r name done at = back close_bracket done (left_closed_goes r (record { name = name; arguments = [] }) (close_bracket ∷ done) (onward done (LeftOpened r name) (left_closed r name []) close_bracket at refl))
 
 left_read_goes : (r : Ruling) (name a : Name) (earlier : List Name) (done : List Piece) → At done (LeftRead r name a earlier) → IsBeginning programs done
-left_read_goes r name a earlier done at = back close_bracket done (left_shut_goes r (record { name = name; arguments = a ∷ earlier }) (close_bracket ∷ done) (onward done (LeftRead r name a earlier) (left_shut r name (a ∷ earlier)) close_bracket at refl))
+left_read_goes r name a earlier done at = back close_bracket done (left_closed_goes r (record { name = name; arguments = a ∷ earlier }) (close_bracket ∷ done) (onward done (LeftRead r name a earlier) (left_closed r name (a ∷ earlier)) close_bracket at refl))
 
 left_parted_goes : (r : Ruling) (name a : Name) (earlier : List Name) (done : List Piece) → At done (LeftParted r name a earlier) → IsBeginning programs done
 left_parted_goes r name a earlier done at = back (word (codes "f")) done (left_read_goes r name (codes "f") (a ∷ earlier) ((word (codes "f")) ∷ done) (onward done (LeftParted r name a earlier) (LeftRead r name (codes "f") (a ∷ earlier)) (word (codes "f")) at refl))
@@ -140,28 +140,28 @@ word_read_goes h name done at = back open_bracket done (left_opened_goes (ruling
 square_opened_goes : (h : Headed) (done : List Piece) → At done (SquareOpened h) → IsBeginning programs done
 square_opened_goes h done at = back SquareClose done (ruled_goes (ruling_with h (InSquares None)) (SquareClose ∷ done) (onward done (SquareOpened h) (AfterRule (ruling_with h (InSquares None))) SquareClose at refl))
 
--- an argument can be completed, and then the term closes
+-- An argument can be completed, and its term can then be closed.
 arguing_steps : (a : Aimed) (arguments : List Sum) (done : List Piece) (e f : expression.Front) (p : inner.Piece)
     → At done (Arguing a arguments e) → expression_steps.step e p ≡ Some f → At (In p ∷ done) (Arguing a arguments f)
 arguing_steps a arguments done e f p at same = onward done (Arguing a arguments e) (Arguing a arguments f) (In p) at (ap (λ o. argument_step a arguments e o p) same)
 
--- the closing bracket after an argument that can end
+-- The closing bracket can follow an argument that can end.
 pub argument_closes : (a : Aimed) (arguments : List Sum) (e : expression.Front) (s : Sum) → expression_steps.finish e ≡ Some s
-    → step (Arguing a arguments e) close_bracket ≡ Some (right_shut a (s ∷ arguments))
+    → step (Arguing a arguments e) close_bracket ≡ Some (right_closed a (s ∷ arguments))
 argument_closes a arguments e s same = ap (λ o. argument_step a arguments e o inner.Close) (close_ends e s same) ∙ ap (λ o. behind_argument a arguments o inner.Close) same
 
 arguing_ends : (a : Aimed) (arguments : List Sum) (done : List Piece) (e : expression.Front) (s : Sum)
     → At done (Arguing a arguments e) → expression_steps.finish e ≡ Some s → IsBeginning programs done
 arguing_ends a arguments done e s at same =
-    back close_bracket done (shut_goes a.led a.wrap (record { name = a.name; arguments = s ∷ arguments }) (close_bracket ∷ done)
-    (onward done (Arguing a arguments e) (right_shut a (s ∷ arguments)) close_bracket at (argument_closes a arguments e s same)))
+    back close_bracket done (closed_goes a.led a.wrap (record { name = a.name; arguments = s ∷ arguments }) (close_bracket ∷ done)
+    (onward done (Arguing a arguments e) (right_closed a (s ∷ arguments)) close_bracket at (argument_closes a arguments e s same)))
 
 arguing_goes : (a : Aimed) (arguments : List Sum) (e : expression.Front) (done : List Piece) → At done (Arguing a arguments e) → IsBeginning programs done
 arguing_goes a arguments e done at =
     expression_completed In (λ behind f. At behind (Arguing a arguments f)) (λ behind. IsBeginning programs behind)
     (arguing_steps a arguments) back (arguing_ends a arguments) e done at
 
--- so can atoms, and then the section or the square bracket closes
+-- Atoms can be completed, and the section or the square bracket can then be closed.
 mark_steps : (h : Headed) (done : List Piece) (g k : guards.GuardFront) (p : inner.Piece)
     → At done (MarkGuarding h g) → guards.step g p ≡ Some k → At (In p ∷ done) (MarkGuarding h k)
 mark_steps h done g k p at same = onward done (MarkGuarding h g) (MarkGuarding h k) (In p) at (ap (λ o. mark_guard_step h g o p) same)
@@ -189,7 +189,7 @@ square_goes : (h : Headed) (g : guards.GuardFront) (done : List Piece) → At do
 square_goes h g done at =
     guard_completed In (λ behind k. At behind (SquareGuarding h k)) (λ behind. IsBeginning programs behind) (square_steps h) back (square_ends h) g done at
 
--- a text can be completed from each state that pieces lead to
+-- A text can be completed from each state that tokens lead to.
 pub goes_on : (done : List Piece) (f : Front) → reached programs done ≡ Some f → IsBeginning programs done
 goes_on done (Between ss) at = between_goes ss done at
 goes_on done (Opened ss) at = opened_goes ss done at
@@ -199,7 +199,7 @@ goes_on done (StartNamed ss) at = start_named_goes ss done at
 goes_on done (StartOpened ss) at = start_opened_goes ss done at
 goes_on done (StartListed ss) at = start_listed_goes ss done at
 goes_on done (StartRead ss name) at = start_said_goes ss name done at
-goes_on done (StartClosed ss name) at = start_shut_goes ss name done at
+goes_on done (StartClosed ss name) at = start_closed_goes ss name done at
 goes_on done (Listing ss names) at = listing_goes ss names done at
 goes_on done (CommentNamed ss) at = comment_named_goes ss done at
 goes_on done (AfterRule r) at = ruled_goes r done at
@@ -207,7 +207,7 @@ goes_on done (SourceNamed r name) at = source_named_goes r name done at
 goes_on done (LeftOpened r name) at = left_opened_goes r name done at
 goes_on done (LeftRead r name a earlier) at = left_read_goes r name a earlier done at
 goes_on done (LeftParted r name a earlier) at = left_parted_goes r name a earlier done at
-goes_on done (SourceClosed r t) at = left_shut_goes r t done at
+goes_on done (SourceClosed r t) at = left_closed_goes r t done at
 goes_on done (Costing r t e) at = costing_goes r t e done at
 goes_on done (Arrowed l) at = arrowed_goes l done at
 goes_on done (ComNamed l) at = com_named_goes l done at
@@ -215,7 +215,7 @@ goes_on done (ComOpened l) at = com_opened_goes l done at
 goes_on done (TargetNamed a) at = target_named_goes a done at
 goes_on done (RightOpened a) at = right_opened_goes a done at
 goes_on done (Arguing a arguments e) at = arguing_goes a arguments e done at
-goes_on done (TargetClosed l t) at = right_shut_goes l t done at
+goes_on done (TargetClosed l t) at = right_closed_goes l t done at
 goes_on done (Targeted h) at = targeted_goes h done at
 goes_on done (GuardMarked h) at = guard_marked_goes h done at
 goes_on done (WordRead h name) at = word_read_goes h name done at

@@ -1,5 +1,5 @@
--- Along each step what is read is within the limits exactly if it was before, and the state is quiet: after a left
--- term, and within a cost.
+-- Each step after a left term or within a cost keeps the limits: what was read is within them after the step exactly if
+-- it was before and the state is quiet (it shows no fault at the next token).
 use Rattle.std.proofs.Common.{◌≡◌, ◌≤◌, false, ◌↔◌, List, length, Option, Some, None, refl, ap, sym, subst, arith}
 use Rattle.std.proofs.lemmas.List.{length-reverse}
 use Rattle.expr_text.specs.model.Limits.{variable_limit}
@@ -14,19 +14,19 @@ use Rattle.its_text.specs.Written.{LeftTerm}
 use Rattle.its_text.specs.Numbering.{left_names}
 use Rattle.its_text.specs.Fronts.{Ruling, SourceClosed, Costing}
 use Rattle.its_text.specs.Steps.{behind_left, cost_step, cost_ended}
-use Rattle.its_text.specs.FrontNames.{symbols_led}
-use Rattle.its_text.specs.FrontFaults.{other_arity}
+use Rattle.its_text.specs.FrontNames.{symbols_of_arrow}
+use Rattle.its_text.specs.StateFaults.{other_arity}
 use Rattle.its_text.proofs.RoomLaws.{contrary, passes_not, arity_same}
-use Rattle.its_text.proofs.KeptFronts.{first, AreLeft, IsSourceOpen, IsSourceKept, IsCostingKept, IsLedKept}
-use Rattle.its_text.proofs.KeptFronts.{IsArgumentExpanded, IsCostQuiet}
+use Rattle.its_text.proofs.KeptStates.{first, AreLeft, IsSourceOpen, IsSourceKept, IsCostingKept, IsArrowKept}
+use Rattle.its_text.proofs.KeptStates.{IsArgumentExpanded, IsCostQuiet}
 use Rattle.its_text.proofs.SectionTurns.{Turns}
 use Rattle.its_text.proofs.ExpressionRoom.{goes_on, room_for_token, room_for_piece}
 
 -- the left term has as many arguments as its symbol has places
 places_kept : (r : Ruling) (t : LeftTerm) → IsSourceKept r t
-    ↔ (IsSourceOpen r t × (other_arity (symbols_led r t) t.name (length t.arguments) ≡ false))
+    ↔ (IsSourceOpen r t × (other_arity (symbols_of_arrow r t) t.name (length t.arguments) ≡ false))
 places_kept r t =
-    let same = arity_same (symbols_led r t) t.name (length t.arguments) in
+    let same = arity_same (symbols_of_arrow r t) t.name (length t.arguments) in
     (λ h. (h.0, same.1 h.1), λ h. (h.0, same.0 h.1))
 
 -- the variables of a left term are fewer than may be in a rule
@@ -51,7 +51,7 @@ cost_turns r t ps =
       λ h. record { source = places.1 h; tokens = omega arith; variables = few_left t h.0.1 },
     )
 
--- a step within a cost that continues it
+-- A step that continues a cost keeps the limits exactly if the state is quiet.
 cost_goes_on : (r : Ruling) (t : LeftTerm) (e f : expression.Front) (p : inner.Piece) (behind : Option Piece)
     → expression_steps.step e p ≡ Some f
     → IsCostingKept r t f ↔ (IsCostingKept r t e × IsCostQuiet r t e (Some (In p)) behind)
@@ -77,9 +77,9 @@ cost_goes_on r t e f p behind same =
           },
     )
 
--- a cost ends
+-- The state after the end of a cost is within the limits exactly if the one before is and the cost can be expanded.
 cost_ends : (r : Ruling) (t : LeftTerm) (e : expression.Front) (c : Sum) → expression_steps.finish e ≡ Some c
-    → IsLedKept (record { ruling = r; left = t; cost = Some c })
+    → IsArrowKept (record { ruling = r; left = t; cost = Some c })
     ↔ (IsCostingKept r t e × IsArgumentExpanded (left_names t) (Some c))
 cost_ends r t e c same =
     let tokens = token_ended e c same in

@@ -25,7 +25,7 @@ use Rattle.its_text.specs.Numbering.{rules_of}
 use Rattle.its_text.proofs.NamedPieces.{AreNamed}
 use Rattle.std.proofs.lemmas.Bool.{or_parts as neither}
 
--- one more at the end
+-- A predicate that holds of all elements and of one more holds of the list with that one appended.
 pub all_one_more : {X : Type 0} (P : X → Type 0) (xs : List X) (x : X) → AllByRecursion P xs → P x → AllByRecursion P (xs ++ x ∷ [])
 all_one_more P [] x h p = (p, tt)
 all_one_more P (y ∷ xs) x h p = (h.0, all_one_more P xs x h.1 p)
@@ -37,7 +37,7 @@ none_in_reverse m (n ∷ names) h =
     let x = neither (is_same m n) (is_among m names) h in
     ap (is_among m) (reverse-cons n names) ∙ none_of_more m n (reverse names) (none_in_reverse m names x.1) x.0
 
--- names that differ do so in the other order
+-- Distinct names are distinct in reverse.
 pub distinct_reverse : (names : List Name) → AreDistinct names → AreDistinct (reverse names)
 distinct_reverse [] h = tt
 distinct_reverse (n ∷ names) h = subst AreDistinct (sym (reverse-cons n names)) (distinct_one_more (reverse names) n (distinct_reverse names h.1) (none_in_reverse n names h.0))
@@ -47,11 +47,11 @@ pub all_reverse : {X : Type 0} (P : X → Type 0) (xs : List X) → AllByRecursi
 all_reverse P [] h = tt
 all_reverse P (x ∷ xs) h = subst (AllByRecursion P) (sym (reverse-cons x xs)) (all_one_more P (reverse xs) x (all_reverse P xs h.1) h.0)
 
--- names that are names and differ
+-- The names are valid names, and distinct.
 abbrev pub AreGood : List Name → Type 0
 AreGood names = AllByRecursion IsName names × AreDistinct names
 
--- names that are names and differ do so with one more that is read
+-- Valid and distinct names stay so after a valid name is read.
 pub good_with : (names : List Name) (n : Name) → AreGood names → IsName n → AreGood (with_name names n)
 good_with names n g is = go (is_among n names) refl
   where
@@ -60,7 +60,7 @@ good_with names n g is = go (is_among n names) refl
     go false e = (all_one_more IsName names n g.0 is, distinct_one_more names n g.1 e)
 
 mutual
-  -- if the words of an expression after pieces are names, so are those of the pieces
+  -- If the words of an expression and of the tokens before it are names, so are those of the tokens.
   sum_peel : (s : Sum) (before : List Piece) → AreNamed (sum_behind In s before) → AreNamed before
   sum_peel (Alone p) before h = product_peel p before h
   sum_peel (Added s p) before h = sum_peel s before (product_peel p (In inner.Plus ∷ sum_behind In s before) h).1
@@ -81,7 +81,7 @@ mutual
   base_peel (Bracketed s) before h = (sum_peel s (In inner.Open ∷ before) h.1).1
 
 mutual
-  -- the variables once an expression is read
+  -- The variables after an expression are valid and distinct names if those before it are and its words are names.
   sum_good : (s : Sum) (before : List Piece) (names : List Name) → AreGood names → AreNamed (sum_behind In s before) → AreGood (with_sum names s)
   sum_good (Alone p) before names g h = product_good p before names g h
   sum_good (Added s p) before names g h =
@@ -104,7 +104,8 @@ mutual
   base_good (Named n) before names g h = good_with names n g h.0
   base_good (Bracketed s) before names g h = sum_good s (In inner.Open ∷ before) names g h.1
 
--- if the words of atoms after pieces are names, so are those of the pieces, and the variables stay names that differ
+-- If the words of atoms and of the tokens before them are names, so are those of the tokens, and the variables stay
+-- valid and distinct.
 atom_peel : (a : Atom) (before : List Piece) → AreNamed (atom_behind In a before) → AreNamed before
 atom_peel (Always t) before h = h.1
 atom_peel (Compared l sign r) before h = sum_peel l before (sum_peel r (In (inner.Related sign) ∷ sum_behind In l before) h).1
@@ -123,7 +124,8 @@ atoms_good (First a) before names g h = atom_good a before names g h
 atoms_good (Joined atoms joint a) before names g h =
     atom_good a (In (inner.Joining joint) ∷ atoms_behind In atoms before) (with_atoms names atoms) (atoms_good atoms before names g (atom_peel a (In (inner.Joining joint) ∷ atoms_behind In atoms before) h).1) h
 
--- if the words of arguments after pieces are names, so are those of the pieces, and the variables stay such names
+-- If the words of arguments and of the tokens before them are names, so are those of the tokens, and the variables stay
+-- valid and distinct.
 sums_peel : (sums : List Sum) (before : List Piece) → AreNamed (sums_behind sums before) → AreNamed before
 sums_peel [] before h = h
 sums_peel (s ∷ []) before h = sum_peel s before h
@@ -165,7 +167,7 @@ target_named (Marked t) before h =
     record { name = x.name; good = x.good; earlier = x.earlier.1.1 }
 target_named (Bare t) before h = right_named t before h
 
--- an arrow, and the cost that it has
+-- If the words of an arrow, with its cost, and of the tokens before it are names, so are those of the tokens.
 arrow_peel : (cost : Option Sum) (before : List Piece) → AreNamed (arrow_behind cost before) → AreNamed before
 arrow_peel None before h = h.1
 arrow_peel (Some c) before h = (sum_peel c (CostOpen ∷ before) h.1).1
@@ -174,7 +176,8 @@ arrow_good : (cost : Option Sum) (before : List Piece) (names : List Name) → A
 arrow_good None before names g h = g
 arrow_good (Some c) before names g h = sum_good c (CostOpen ∷ before) names g h.1
 
--- if the words of a guard after pieces are names, so are those of the pieces, and its variables are names that differ
+-- If the words of a guard and of the tokens before it are names, so are those of the tokens, and its variables are
+-- valid and distinct.
 pub record GuardNamed (g : Guard) (before : List Piece) : Type 0 where
   pub good : (names : List Name) → AreGood names → AreGood (with_guard names g)
   pub earlier : AreNamed before
@@ -192,7 +195,8 @@ guard_named NoGuard before h = record { good = λ names g. g; earlier = h }
 guard_named (BehindMark o) before h = record { good = λ names g. maybe_good o (GuardMark ∷ before) names g h; earlier = (maybe_peel o (GuardMark ∷ before) h).1 }
 guard_named (InSquares o) before h = record { good = λ names g. maybe_good o (SquareOpen ∷ before) names g h.1; earlier = (maybe_peel o (SquareOpen ∷ before) h.1).1 }
 
--- a rule whose symbols have names, and whose variables are names that differ where its left ones do
+-- The symbols of the rule have valid names, and its variables have valid and distinct names if its left variables are
+-- distinct.
 pub record NamedRule (r : WrittenRule) : Type 0 where
   pub source : IsName r.left.name
   pub target : IsName (term_in r.target).name
@@ -222,7 +226,7 @@ words_peel : (names : List Name) (before : List Piece) → AreNamed (words_behin
 words_peel [] before h = h
 words_peel (a ∷ names) before h = words_peel names before h.1
 
--- the rules of sections, where there are any
+-- The rules of sections, if there are any, have valid names.
 abbrev pub AreRulesNamed : Option (List WrittenRule) → Type 0
 AreRulesNamed None = ⊤
 AreRulesNamed (Some rules) = AllByRecursion NamedRule rules

@@ -1,22 +1,22 @@
--- Where a text can end, its pieces are those of the sections that have been read.
+-- If a text can end, its tokens are those of the sections that have been read.
 use Rattle.std.specs.Prelude.{◌≡◌, List, [], ◌∷◌, Option, Some, None, ⊤, refl}
 use Rattle.std.proofs.Common.{◌∙◌, ap, subst}
 use Rattle.expr_text.specs.text_core.Readers.{onto, next, reached}
 use Rattle.its_text.specs.Pieces.{Piece}
 use Rattle.its_text.specs.Written.{Section}
-use Rattle.its_text.specs.Fronts.{Front, front_pieces}
+use Rattle.its_text.specs.Fronts.{Front, pieces_read}
 use Rattle.its_text.specs.Steps.{step, finish}
 use Rattle.its_text.specs.Grammar.{Writes, programs}
 use Rattle.its_text.proofs.EveryStep.{ended}
 use Rattle.its_text.proofs.StepLaws.{Leads, step_leads}
-use Rattle.its_text.proofs.Shapes.{IsFront, Keeps, step_keeps}
+use Rattle.its_text.proofs.Shapes.{HasRightForm, Keeps, step_keeps}
 
--- a state that pieces lead to is written as they are, and its targets have the right form
+-- A state that tokens lead to is written as these tokens, and its targets have the right form.
 abbrev pub Known : List Piece → Option Front → Type 0
 Known done None = ⊤
-Known done (Some f) = (front_pieces f ≡ done) × IsFront f
+Known done (Some f) = (pieces_read f ≡ done) × HasRightForm f
 
-step_known : (done : List Piece) (f : Front) (p : Piece) (o : Option Front) → front_pieces f ≡ done → Leads (front_pieces f) p o → Keeps o → Known (p ∷ done) o
+step_known : (done : List Piece) (f : Front) (p : Piece) (o : Option Front) → pieces_read f ≡ done → Leads (pieces_read f) p o → Keeps o → Known (p ∷ done) o
 step_known done f p None e l k = tt
 step_known done f p (Some g) e l k = (l ∙ ap (λ before. p ∷ before) e, k)
 
@@ -29,12 +29,12 @@ reached_known [] = (refl, tt)
 reached_known (p ∷ done) = next_known done p (reached programs done) (reached_known done)
 
 -- a state that pieces lead to is written as they are
-pub front_known : (done : List Piece) (f : Front) → reached programs done ≡ Some f → (front_pieces f ≡ done) × IsFront f
-front_known done f at = subst (λ o. Known done o) at (reached_known done)
+pub state_known : (done : List Piece) (f : Front) → reached programs done ≡ Some f → (pieces_read f ≡ done) × HasRightForm f
+state_known done f at = subst (λ o. Known done o) at (reached_known done)
 
 -- the pieces of a text that can end are those of its sections
 pub ends : (done : List Piece) (f : Front) (ss : List Section) → reached programs done ≡ Some f → finish f ≡ Some ss → Writes ss (onto done [])
 ends done f ss at same = record {
-  are = subst IsFront (ended f ss same) (front_known done f at).1;
-  pieces = ap (λ behind. onto behind []) (subst (λ g. front_pieces g ≡ done) (ended f ss same) (front_known done f at).0);
+  are = subst HasRightForm (ended f ss same) (state_known done f at).1;
+  pieces = ap (λ behind. onto behind []) (subst (λ g. pieces_read g ≡ done) (ended f ss same) (state_known done f at).0);
 }

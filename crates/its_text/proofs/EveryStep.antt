@@ -1,4 +1,5 @@
--- A property of each accepting step is one of every step, and a text can end only between sections.
+-- A property of each accepting step and of each rejection is one of every step, and a text can end only between
+-- sections.
 use Rattle.std.proofs.Common.{◌≡◌, List, Option, Some, ap}
 use Rattle.its_text.specs.Pieces.{Piece}
 use Rattle.its_text.specs.Fronts.{Front, Between, Opened, GoalNamed, GoalRead, StartNamed, StartOpened, StartListed}
@@ -10,17 +11,17 @@ use Rattle.its_text.specs.Written.{Section}
 use Rattle.its_text.specs.Steps.{step, finish}
 use Rattle.its_text.proofs.StepCases.{HoldsOfSteps}
 use Rattle.its_text.proofs.SectionCases.{between_case, opened_case, goal_named_case, goal_said_case, start_named_case}
-use Rattle.its_text.proofs.SectionCases.{start_opened_case, start_listed_case, start_said_case, start_shut_case}
+use Rattle.its_text.proofs.SectionCases.{start_opened_case, start_listed_case, start_said_case, start_closed_case}
 use Rattle.its_text.proofs.SectionCases.{listing_case, comment_named_case}
 use Rattle.its_text.proofs.SourceCases.{ruled_case, source_named_case, left_opened_case, left_read_case}
-use Rattle.its_text.proofs.SourceCases.{left_parted_case, left_shut_case, costing_case}
+use Rattle.its_text.proofs.SourceCases.{left_parted_case, left_closed_case, costing_case}
 use Rattle.its_text.proofs.RuleCases.{arrowed_case, com_named_case, com_opened_case, target_named_case}
-use Rattle.its_text.proofs.RuleCases.{right_opened_case, in_argument_case, right_shut_case, targeted_case}
+use Rattle.its_text.proofs.RuleCases.{right_opened_case, in_argument_case, right_closed_case, targeted_case}
 use Rattle.its_text.proofs.RuleCases.{guard_marked_case, word_read_case, mark_guarding_case, square_opened_case}
 use Rattle.its_text.proofs.RuleCases.{square_guarding_case}
 
 module _ (P : Front → Piece → Option Front → Type 0) (each : HoldsOfSteps P) where
-  -- by the state before the step
+  -- The property holds of every step, by the state before the step.
   pub of_step : (f : Front) (p : Piece) → P f p (step f p)
   of_step (Between ss) p = between_case P each ss p
   of_step (Opened ss) p = opened_case P each ss p
@@ -30,7 +31,7 @@ module _ (P : Front → Piece → Option Front → Type 0) (each : HoldsOfSteps 
   of_step (StartOpened ss) p = start_opened_case P each ss p
   of_step (StartListed ss) p = start_listed_case P each ss p
   of_step (StartRead ss start) p = start_said_case P each ss start p
-  of_step (StartClosed ss start) p = start_shut_case P each ss start p
+  of_step (StartClosed ss start) p = start_closed_case P each ss start p
   of_step (Listing ss names) p = listing_case P each ss names p
   of_step (CommentNamed ss) p = comment_named_case P each ss p
   of_step (AfterRule r) p = ruled_case P each r p
@@ -38,7 +39,7 @@ module _ (P : Front → Piece → Option Front → Type 0) (each : HoldsOfSteps 
   of_step (LeftOpened r source) p = left_opened_case P each r source p
   of_step (LeftRead r source a earlier) p = left_read_case P each r source a earlier p
   of_step (LeftParted r source a earlier) p = left_parted_case P each r source a earlier p
-  of_step (SourceClosed r t) p = left_shut_case P each r t p
+  of_step (SourceClosed r t) p = left_closed_case P each r t p
   of_step (Costing r t e) p = costing_case P each r t e p
   of_step (Arrowed l) p = arrowed_case P each l p
   of_step (ComNamed l) p = com_named_case P each l p
@@ -46,7 +47,7 @@ module _ (P : Front → Piece → Option Front → Type 0) (each : HoldsOfSteps 
   of_step (TargetNamed a) p = target_named_case P each a p
   of_step (RightOpened a) p = right_opened_case P each a p
   of_step (Arguing a arguments e) p = in_argument_case P each a arguments e p
-  of_step (TargetClosed l t) p = right_shut_case P each l t p
+  of_step (TargetClosed l t) p = right_closed_case P each l t p
   of_step (Targeted h) p = targeted_case P each h p
   of_step (GuardMarked h) p = guard_marked_case P each h p
   of_step (WordRead h name) p = word_read_case P each h name p

@@ -1,5 +1,5 @@
--- Room for one more piece of an expression: the expression with it is within the limits exactly if the one before is,
--- and the test of the limit fails.
+-- The limits of an expression with one more token: it is within them exactly if it was before and the test of the limit
+-- fails.
 use Rattle.std.proofs.Common.{◌≡◌, ℕ, zero, suc, ◌+◌, ◌≤◌, min, Bool, true, false, not, if◌then◌else◌, ◌&&◌, ◌==◌, ◌↔◌}
 use Rattle.std.proofs.Common.{nat_le, List, [], ◌∷◌, ◌++◌, length, length-append, Option, Some, None, refl, ap, sym}
 use Rattle.std.proofs.Common.{◌∙◌, arith}
@@ -13,10 +13,10 @@ use Rattle.expr_text.specs.Steps as expression_steps
 use Rattle.expr_text.specs.FrontNames.{with_front, truth_worded, token_count, is_front, goes_on_with, begins_expression}
 use Rattle.expr_text.proofs.FrontSteps.{token_more, nothing_read, first_begins, with_piece, names_more, begins_truth}
 use Rattle.its_text.specs.Pieces.{Piece}
-use Rattle.its_text.specs.FrontFaults as shown
-use Rattle.its_text.specs.FrontFaults.{OpenExpression, is_operating}
+use Rattle.its_text.specs.StateFaults as shown
+use Rattle.its_text.specs.StateFaults.{OpenExpression, is_operating}
 use Rattle.its_text.proofs.RoomLaws.{below, not_at, is_zero, not_zero, and_true}
-use Rattle.its_text.proofs.KeptFronts.{begun}
+use Rattle.its_text.proofs.KeptStates.{begun}
 
 -- a piece continues an expression exactly if its step accepts it
 pub goes_on : (e f : expression.Front) (p : inner.Piece) → expression_steps.step e p ≡ Some f → goes_on_with e p ≡ true
@@ -26,7 +26,7 @@ goes_on e f p same = ap is_front same
 pub goes_off : (e : expression.Front) (p : inner.Piece) → expression_steps.step e p ≡ None → goes_on_with e p ≡ false
 goes_off e p same = ap is_front same
 
--- a token more is within the limit exactly if there was room
+-- With one more token an expression is within the limit exactly if there was room for it.
 pub room_for_token : (e f : expression.Front) (p : inner.Piece) → expression_steps.step e p ≡ Some f
     → (token_count f ≤ token_limit) ↔ ((token_count e ≤ token_limit) × (nat_le token_limit (token_count e) ≡ false))
 room_for_token e f p same =
@@ -36,7 +36,7 @@ room_for_token e f p same =
       λ h. let few = below token_limit (token_count e) h.1 in omega (arith, few, more),
     )
 
--- a name more
+-- With one more name the variables are within the limit exactly if the test for it fails.
 name_room : (names : List Name) (n : Name) (v : Bool) → is_among n names ≡ v
     → (length (with_name names n) ≤ variable_limit)
     ↔ ((length names ≤ variable_limit) × ((not v && nat_le variable_limit (length names)) ≡ false))
@@ -60,9 +60,9 @@ room_for_name names n =
     let room = name_room names n (is_among n names) refl in
     (room.0, room.1)
 
--- a variable more, where no atom that always holds can come
+-- The expression that is being read, if the atom that always holds can't come.
 abbrev pub plain_going : List Name → expression.Front → OpenExpression
-plain_going names e = record { names = names; front = e; leads_atom = false }
+plain_going names e = record { names = names; grammar_state = e; leads_atom = false }
 
 piece_room : (names : List Name) (e : expression.Front) (p : inner.Piece) (behind : Option Piece)
     → (length (with_piece (with_front names e) p) ≤ variable_limit)
@@ -92,7 +92,7 @@ room_for_piece names e f p behind same =
       λ h. let few = room.1 h in omega (arith, few, more),
     )
 
--- room for one more, an argument or an atom, where the piece begins it
+-- With one more argument or atom a limit is kept exactly if there was room, where the token begins the new one.
 begun_room : (limit n : ℕ) (e f : expression.Front) (p : inner.Piece) → expression_steps.step e p ≡ Some f → (v : Bool)
     → (token_count e == 0) ≡ v
     → (n + begun f ≤ limit) ↔ ((n + begun e ≤ limit) × ((v && nat_le limit n && begins_expression p) ≡ false))
@@ -128,9 +128,9 @@ some_begun e some = go (token_count e) some
     go zero h = absurd (h refl)
     go (suc n) h = omega arith
 
--- a variable more where the atom that always holds can come
+-- The expression that is being read, if the atom that always holds can come.
 abbrev pub leading : List Name → expression.Front → OpenExpression
-leading names e = record { names = names; front = e; leads_atom = true }
+leading names e = record { names = names; grammar_state = e; leads_atom = true }
 
 first_holds : (a b c : Bool) → (a && b && c) ≡ true → a ≡ true
 first_holds true b c h = refl
@@ -149,7 +149,8 @@ word_room names e n behind true is =
     (λ h. (omega (arith, h, same), refl), λ h. let few = h.0 in omega (arith, few, same))
 word_room names e n behind false is = room_for_name (with_front names e) n
 
--- where the atom that always holds can come, there is room exactly if there was and the test for it fails
+-- If the atom that always holds can come, the variables are within the limit exactly if they were and the test for it
+-- fails.
 pub leading_room : (names : List Name) (e : expression.Front) (p : inner.Piece) (behind : Option Piece)
     → (length (if begins_truth e p && not (is_operating behind) then names else with_piece (with_front names e) p) ≤
     variable_limit)

@@ -1,4 +1,4 @@
--- What room a guard has for one piece more.
+-- The room that a guard has for one more token.
 use Rattle.std.proofs.Common.{◌≡◌, ◌+◌, ◌≤◌, Bool, true, false, not, if◌then◌else◌, ◌&&◌, ◌↔◌, is_some, List}
 use Rattle.std.proofs.Common.{length, Option, Some, refl, ap, sym, subst, ◌∙◌, arith}
 use Rattle.expr_text.specs.model.Programs.{Name}
@@ -15,14 +15,14 @@ use Rattle.expr_text.proofs.FrontSteps.{with_piece, names_more, begins_truth}
 use Rattle.expr_text.proofs.FrontSteps.{truth_more, truth_goes_on}
 use Rattle.its_text.specs.Pieces.{Piece, In}
 use Rattle.its_text.specs.Numbering.{atoms_of_cost}
-use Rattle.its_text.specs.FrontFaults as shown
-use Rattle.its_text.specs.FrontFaults.{is_full, is_operating}
+use Rattle.its_text.specs.StateFaults as shown
+use Rattle.its_text.specs.StateFaults.{is_full, is_operating}
 use Rattle.its_text.proofs.ValidRules.{at_most_one}
-use Rattle.its_text.proofs.KeptFronts.{begun, conjoined_count, counted}
+use Rattle.its_text.proofs.KeptStates.{begun, conjoined_count, counted}
 use Rattle.its_text.proofs.ExpressionRoom.{room_for_one}
 use Rattle.its_text.proofs.ExpressionRoom.{leading, leading_room}
 
--- a choice whose test fails, and one whose test passes
+-- A choice whose test fails is the second value, and one whose test holds is the first.
 pub chosen_second : {X : Type 0} (v : Bool) (x y : X) → v ≡ false → (if v then x else y) ≡ y
 chosen_second true x y e = cc
 chosen_second false x y e = refl
@@ -31,7 +31,7 @@ pub chosen_first : {X : Type 0} (v : Bool) (x y : X) → v ≡ true → (if v th
 chosen_first true x y e = refl
 chosen_first false x y e = cc
 
--- the variables that count in after one more piece
+-- The variables that count after one more token.
 counted_more : (names : List Name) (c : Conjoined) (e f : expression.Front) (p : inner.Piece) (behind : Option Piece)
     → expression_steps.step e p ≡ Some f
     → counted names c f behind
@@ -43,7 +43,7 @@ counted_more names c e f p behind same =
     ∙ ap (λ ns. if begins_truth e p && not (is_operating behind) then with_conjoined names c else ns)
     (names_more (with_conjoined names c) e f p same)
 
--- the variables that count in before one more piece
+-- The variables that count before one more token.
 counted_before : (names : List Name) (c : Conjoined) (e f : expression.Front) (p : inner.Piece)
     → expression_steps.step e p ≡ Some f
     → counted names c e (Some (In p)) ≡ with_front (with_conjoined names c) e
@@ -51,7 +51,7 @@ counted_before names c e f p same =
     chosen_second (is_some (truth_of e) && not (operates p)) (with_conjoined names c)
     (with_front (with_conjoined names c) e) (truth_goes_on e f p same)
 
--- a name more in a left side counts in exactly if there is room for it
+-- With one more name in a left side, the variables are within the limit exactly if there is room for it.
 pub room_in_left : (names : List Name) (c : Conjoined) (e f : expression.Front) (p : inner.Piece)
     (behind : Option Piece)
     → expression_steps.step e p ≡ Some f
@@ -68,7 +68,7 @@ room_in_left names c e f p behind same =
       λ h. subst (λ n. n ≤ variable_limit) (sym more) (room.1 (subst (λ n. n ≤ variable_limit) before h.0, h.1)),
     )
 
--- an atom more, beside the rule's cost, keeps the limit exactly if there is room for it
+-- With one more atom, a guard and the rule's cost are within the limit exactly if there is room for it.
 pub room_for_atom : (cost : Option Sum) (c : Conjoined) (e f : expression.Front) (p : inner.Piece)
     → expression_steps.step e p ≡ Some f
     → ((conjoined_count c + atoms_of_cost cost) + begun f ≤ atom_limit)

@@ -1,4 +1,5 @@
--- Along each step of a guard what is read is within the limits exactly if it was before, and the guard is quiet.
+-- Each step of a guard keeps the limits: the guard is within them after the step exactly if it was before and it is
+-- quiet (it shows no fault at the next token).
 use Rattle.std.proofs.Common.{◌≡◌, ℕ, suc, ◌+◌, ◌≤◌, true, false, not, ◌&&◌, ◌↔◌, is_some, List}
 use Rattle.std.proofs.Common.{length, Option, Some, None, refl, ap, sym, subst, ◌∙◌, arith}
 use Rattle.std.specs.Prelude.{⊤}
@@ -19,13 +20,13 @@ use Rattle.expr_text.proofs.FrontSteps.{token_ended, ended_there, names_ended}
 use Rattle.expr_text.proofs.FrontSteps.{IsAlways, truth_is_one}
 use Rattle.its_text.specs.Pieces.{Piece, In}
 use Rattle.its_text.specs.Numbering.{atoms_of_cost}
-use Rattle.its_text.specs.FrontFaults.{is_operating, ends_expression}
+use Rattle.its_text.specs.StateFaults.{is_operating, ends_expression}
 use Rattle.its_text.specs.Spelling.{IsAtomWithin, AreAtomsWithin}
 use Rattle.expr_text.proofs.NamesRead.{Extends, atoms_are_read}
 use Rattle.its_text.proofs.ValidRules.{at_most_one}
 use Rattle.its_text.proofs.RoomLaws.{contrary, passes_not, and_false, atoms_stay}
-use Rattle.its_text.proofs.KeptFronts.{AreConjoined, conjoined_count, IsLeftKept, IsRightKept}
-use Rattle.its_text.proofs.KeptFronts.{IsGuardKept, IsRightExpanded, IsAtomExpanded, IsGuardQuiet}
+use Rattle.its_text.proofs.KeptStates.{AreConjoined, conjoined_count, IsLeftKept, IsRightKept}
+use Rattle.its_text.proofs.KeptStates.{IsGuardKept, IsRightExpanded, IsAtomExpanded, IsGuardQuiet}
 use Rattle.its_text.proofs.ExpressionRoom.{goes_on, goes_off, room_for_token, room_for_piece, some_begun}
 use Rattle.its_text.proofs.GuardRoom.{chosen_second, chosen_first, room_in_left, room_for_atom}
 
@@ -36,11 +37,11 @@ GuardTurns others names g p behind (Some k) =
     IsGuardKept others names k behind ↔ (IsGuardKept others names g (Some (In p)) × IsGuardQuiet others names g (Some (In p)) behind)
 
 module _ (cost : Option Sum) (names : List Name) where
-  -- as how many atoms the cost counts
+  -- The number of atoms that the cost counts as.
   abbrev others : ℕ
   others = atoms_of_cost cost
 
-  -- a step within an atom's left side that continues it
+  -- A step within an atom's left side that continues it keeps the limits exactly if the guard is quiet.
   left_goes_on : (c : Conjoined) (e f : expression.Front) (p : inner.Piece) (behind : Option Piece)
       → expression_steps.step e p ≡ Some f → GuardTurns others names (LeftSide c e) p behind (Some (LeftSide c f))
   left_goes_on c e f p behind same =
@@ -64,7 +65,7 @@ module _ (cost : Option Sum) (names : List Name) where
             },
       )
 
-  -- a step within an atom's right side that continues it
+  -- A step within an atom's right side that continues it keeps the limits exactly if the guard is quiet.
   right_goes_on : (c : Conjoined) (l : Sum) (sign : inner.Sign) (e f : expression.Front) (p : inner.Piece)
       (behind : Option Piece) → expression_steps.step e p ≡ Some f
       → GuardTurns others names (RightSide c l sign e) p behind (Some (RightSide c l sign f))
@@ -127,13 +128,13 @@ module _ (cost : Option Sum) (names : List Name) where
             },
       )
 
-  -- atoms that end are within the limits
+  -- The atoms, which have ended, are within the limits.
   pub record AreEnded (atoms : Atoms) : Type 0 where
     pub few : count_of atoms + others ≤ atom_limit
     pub within : AreAtomsWithin (with_atoms names atoms) atoms
     pub variables : length (with_atoms names atoms) ≤ variable_limit
 
-  -- the number of atoms with the atom that always holds after others
+  -- With the atom that always holds, there is one more atom.
   always_count : (c : Conjoined) (a : Atom) → count_of (atoms_with c a) ≡ suc (conjoined_count c)
   always_count NoAtoms a = refl
   always_count (JointAfter atoms joint) a = refl
@@ -225,7 +226,7 @@ module _ (cost : Option Sum) (names : List Name) where
             },
       )
 
-  -- a guard ends with atoms that are within the limits exactly if it was, and the last atom can be expanded
+  -- A property of a value holds of an equal one.
   some_is : {X : Type 0} (P : X → Type 0) (x y : X) → Some x ≡ Some y → P x → P y
   some_is P x y e h = subst P (let same : x ≡ y = cc in same) h
 
@@ -261,7 +262,7 @@ module _ (cost : Option Sum) (names : List Name) where
   guard_ends (RightSide c l sign e) atoms next same operates off =
       right_ends c l sign e atoms next (expression_steps.finish e) refl same off
 
-  -- the next atom must follow
+  -- The state in which the next atom must follow is within the limits exactly if the atoms before it are.
   atom_wanted : (atoms : Atoms) (joint : inner.Joint) (behind : Option Piece)
       → IsLeftKept others names (JointAfter atoms joint) expression.beginning behind ↔ AreEnded atoms
   atom_wanted atoms joint behind = (
@@ -301,7 +302,7 @@ module _ (cost : Option Sum) (names : List Name) where
   relates c e sign behind None same off = tt
   relates c e sign behind (Some l) same off = related c e sign behind l same off
 
-  -- each step of a guard
+  -- Each step of a guard within its atoms keeps the limits exactly if the guard is quiet.
   behind_turns : (g : GuardFront) (p : inner.Piece) (behind : Option Piece)
       → expression_steps.step (guards.expression_in g) p ≡ None → GuardTurns others names g p behind (guards.step_behind g p)
   behind_turns (LeftSide c e) (inner.Related sign) behind off =
@@ -342,7 +343,7 @@ module _ (cost : Option Sum) (names : List Name) where
       subst (GuardTurns others names g p behind) same
       (within_turns g p behind (expression_steps.step (guards.expression_in g) p) refl)
 
-  -- a guard begins within the limits where there aren't too many variables before it
+  -- An empty guard is within the limits if there aren't too many variables before it.
   pub guard_begins : (next : Option Piece) → length names ≤ variable_limit → IsGuardKept others names guards.no_atoms next
   guard_begins next few =
       let one = at_most_one cost in

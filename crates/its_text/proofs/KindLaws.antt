@@ -1,4 +1,4 @@
--- Two kinds of refusals with one number are one.
+-- Kinds of refusals with the same number are the same.
 use Rattle.std.proofs.Common.{◌≡◌, ℕ, if◌then◌else◌, ◌==◌, refl, ap, sym, ◌∙◌}
 use Rattle.its_text.specs.Kinds.{TooManyRules, TooManyArguments, TooManyVariables, TooManyAtoms, LongName}
 use Rattle.its_text.specs.Kinds.{TooManyTokens, TooManyTerms, HighDegree, Kind, NotAscii, Syntax, MissingSection}
@@ -50,6 +50,6 @@ number_back (Limit HighDegree) = refl
 number_back StartUnknown = refl
 number_back Disjunction = refl
 
--- so kinds differ in their numbers
+-- Kinds with the same number are the same.
 pub kinds_differ : (a b : Kind) → kind_number a ≡ kind_number b → a ≡ b
 kinds_differ a b h = sym (number_back a) ∙ ap kind_at h ∙ number_back b

@@ -1,5 +1,5 @@
--- Along each step what is read is within the limits exactly if it was before, and the state is quiet: from a
--- rule's beginning up to the name of its target.
+-- Each step from a rule's beginning to the name of its target keeps the limits: what was read is within them after the
+-- step exactly if it was before and the state is quiet (it shows no fault at the next token).
 use Rattle.std.proofs.Common.{◌≡◌, Bool, true, false, not, if◌then◌else◌, ◌&&◌, ◌↔◌, nat_le, codes, List, [], ◌∷◌}
 use Rattle.std.proofs.Common.{length, Some, refl, ap, sym, ◌∙◌, arith}
 use Rattle.expr_text.specs.model.Programs.{Name}
@@ -9,12 +9,12 @@ use Rattle.expr_text.proofs.text_core.NameLaws.{same_equal}
 use Rattle.expr_text.specs.Pieces as inner
 use Rattle.its_text.specs.Pieces.{Piece, In, Comma, word}
 use Rattle.its_text.specs.Numbering.{is_com}
-use Rattle.its_text.specs.Fronts.{Ruling, Led, Alone, Aimed, AfterRule, LeftOpened, LeftRead, LeftParted, Arrowed}
+use Rattle.its_text.specs.Fronts.{Ruling, ArrowRead, Alone, Aimed, AfterRule, LeftOpened, LeftRead, LeftParted, Arrowed}
 use Rattle.its_text.specs.Fronts.{ComNamed, ComOpened, TargetNamed}
 use Rattle.its_text.specs.Steps.{behind_target_name, behind_rule, step}
-use Rattle.its_text.specs.FrontFaults.{is_open}
+use Rattle.its_text.specs.StateFaults.{is_open}
 use Rattle.its_text.proofs.RoomLaws.{below, not_at, and_true}
-use Rattle.its_text.proofs.KeptFronts.{first, IsRulingKept, IsOpenRuling, AreLeft}
+use Rattle.its_text.proofs.KeptStates.{first, IsRulingKept, IsOpenRuling, AreLeft}
 use Rattle.its_text.proofs.SectionTurns.{Turns, rules_done}
 
 -- another rule may come exactly if there are fewer than the limit
@@ -37,7 +37,7 @@ ruled_turns r inner.Caret ps = tt
 ruled_turns r (inner.Related sign) ps = tt
 ruled_turns r (inner.Joining joint) ps = tt
 
--- one left argument more
+-- One more left argument keeps the limits exactly if it is new and there is room for it.
 left_more : (a : Name) (earlier : List Name) → AreLeft (a ∷ earlier)
     ↔ (AreLeft earlier × (is_among a earlier ≡ false) × (nat_le place_limit (length earlier) ≡ false))
 left_more a earlier = (
@@ -68,9 +68,9 @@ pub left_comma_turns : (r : Ruling) (name a : Name) (earlier : List Name) (ps : 
 left_comma_turns r name a earlier ps = (λ h. ((h.0, h.1, refl), tt), λ h. (h.0.0, h.0.1))
 
 -- the bracket that closes a left term after an argument keeps the limits
-pub left_shut_turns : (r : Ruling) (name a : Name) (earlier : List Name) (ps : List Piece)
+pub left_closed_then_turns : (r : Ruling) (name a : Name) (earlier : List Name) (ps : List Piece)
     → Turns (LeftRead r name a earlier) (In inner.Close) ps (step (LeftRead r name a earlier) (In inner.Close))
-left_shut_turns r name a earlier ps = (λ h. ((h.0, h.1, refl), tt), λ h. (h.0.0, h.0.1))
+left_closed_then_turns r name a earlier ps = (λ h. ((h.0, h.1, refl), tt), λ h. (h.0.0, h.0.1))
 
 -- each further left argument keeps the limits exactly if the state is quiet
 pub left_parted_turns : (r : Ruling) (name a b : Name) (earlier : List Name) (ps : List Piece)
@@ -81,7 +81,7 @@ left_parted_turns r name a b earlier ps =
       λ h. (h.0.0, more.1 (h.0.1, h.1.1, h.1.2), h.1.0),
     )
 
--- a name that is `Com_` and digits is no target's, and `Com_1` is none within `Com_1(`
+-- A name that is `Com_` and digits names no target, and `Com_1` names none within `Com_1(`.
 com_open : (a o : Bool) → (a && not true && o) ≡ false
 com_open true o = refl
 com_open false o = refl
@@ -98,7 +98,7 @@ inside_com false true o k = let e = k refl in absurd (let f : false ≡ true = e
 inside_com false false o k = (λ h. (refl, refl), λ h. refl)
 
 -- a name after the arrow keeps the limits exactly if the state is quiet
-pub arrowed_turns : (l : Led) (name : Name) (ps : List Piece) (v : Bool) → is_same name (codes "Com_1") ≡ v
+pub arrowed_turns : (l : ArrowRead) (name : Name) (ps : List Piece) (v : Bool) → is_same name (codes "Com_1") ≡ v
     → Turns (Arrowed l) (word name) ps (Some (if v then ComNamed l else behind_target_name l Alone name))
 arrowed_turns l name ps true e =
     let quiet : (is_com name && not (is_same name (codes "Com_1")) && is_open (first ps)) ≡ false
@@ -111,7 +111,7 @@ arrowed_turns l name ps false e =
     (λ h. (h.0, same ∙ h.1), λ h. (h.0, sym same ∙ h.1))
 
 -- a name within `Com_1` keeps the limits exactly if the state is quiet
-pub com_opened_turns : (l : Led) (name : Name) (ps : List Piece)
+pub com_opened_turns : (l : ArrowRead) (name : Name) (ps : List Piece)
     → Turns (ComOpened l) (word name) ps (step (ComOpened l) (word name))
 com_opened_turns l name ps =
     let inside =

@@ -12,26 +12,26 @@ use Rattle.its_text.specs.Pieces.{Piece, In, word, digits}
 use Rattle.its_text.specs.Lexing.{lexeme, minus_at, related_at, guard_mark_at, mark_at, lexeme_at, closing_at, Mode}
 use Rattle.its_text.specs.Lexing.{Outside, AtKeyword, Within, InComment, remark_of, lexeme_in}
 
--- neither a word nor a literal
+-- The token, if there is one, is neither a word nor a literal.
 abbrev pub IsMark : Option Piece → Type 0
 IsMark (Some (In (inner.Word name))) = ⊥
 IsMark (Some (In (inner.Digits ds))) = ⊥
 IsMark _ = ⊤
 
--- it holds of each mark, each word and each literal
+-- The property holds of each mark, each word and each literal.
 pub record HoldsOfPieces (P : Option Piece → Type 0) : Type 0 where
   pub marks : (o : Option Piece) → IsMark o → P o
   pub words : (b : ℕ) (bytes : List ℕ) → begins_name b ≡ true → P (Some (word (b ∷ prefix continues_name bytes)))
   pub literals : (b : ℕ) (bytes : List ℕ) → is_ascii_digit b ≡ true
       → P (Some (digits (b ∷ prefix is_ascii_digit bytes)))
 
--- one of two
+-- A property of two lexemes holds of a choice between them.
 of_either : (P : Option Piece → Type 0) (v : Bool) (l m : Lexeme (Option Piece)) → P l.piece → P m.piece
     → P (if v then l else m).piece
 of_either P true l m a b = a
 of_either P false l m a b = b
 
--- which of them are marks
+-- The lexemes of these bytes are marks.
 minus_is_mark : (bytes : List ℕ) → IsMark (minus_at bytes).piece
 minus_is_mark bytes =
     of_either IsMark (begins_with 62 bytes) _ _ tt (of_either IsMark (begins_with 123 bytes) _ _ tt tt)
@@ -70,7 +70,7 @@ remark_is_mark b bytes None = tt
 remark_is_mark b bytes (Some len) = tt
 
 module _ (P : Option Piece → Type 0) (each : HoldsOfPieces P) where
-  -- the lexeme of a byte outside of comments
+  -- The property holds of the lexeme of a byte outside of comments.
   of_lexeme_at : (b : ℕ) (bytes : List ℕ) → P (lexeme_at b bytes).piece
   of_lexeme_at b bytes = of_either P (is_white_space b) _ _ (each.marks None tt) (named (begins_name b) refl)
     where
@@ -84,7 +84,7 @@ module _ (P : Option Piece → Type 0) (each : HoldsOfPieces P) where
       named true e = each.words b bytes e
       named false e = numbered (is_ascii_digit b) refl
 
-  -- the lexeme of a byte in each mode
+  -- The property holds of the lexeme of a byte in each mode.
   pub of_lexeme : (mode : Mode) (b : ℕ) (bytes : List ℕ) → P (lexeme_in mode b bytes).piece
   of_lexeme Outside b bytes = of_lexeme_at b bytes
   of_lexeme AtKeyword b bytes = of_lexeme_at b bytes

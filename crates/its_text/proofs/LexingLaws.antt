@@ -1,4 +1,4 @@
--- Each piece of a program's text has at least one byte, and no more than remain; so its tokens are in order of
+-- Each token of a program's text has at least one byte, and no more than remain; so the tokens are in order of
 -- position.
 use Rattle.std.proofs.Common.{◌≡◌, ℕ, zero, suc, ◌+◌, ◌<◌, ◌≤◌, Bool, true, false, if◌then◌else◌, ◌&&◌, ◌==◌, nat_lt}
 use Rattle.std.proofs.Common.{List, [], ◌∷◌, length, length-append, Option, Some, None, ap, subst, arith}
@@ -14,15 +14,15 @@ use Rattle.expr_text.specs.Pieces as inner
 use Rattle.its_text.specs.Pieces.{Piece, In, Comma, CostClose, SquareOpen, SquareClose, Disjoining, Wrong, Strange}
 use Rattle.its_text.specs.Pieces.{open_bracket}
 use Rattle.its_text.specs.Pieces.{close_bracket}
-use Rattle.its_text.specs.Lexing.{lexeme, minus_at, related_at, pair_at, guard_mark_at, mark_at, lexeme_at, Bend}
-use Rattle.its_text.specs.Lexing.{Opening, Closing, Neither, bend_of, one_more, closing_by, closing_at, Mode, Outside}
+use Rattle.its_text.specs.Lexing.{lexeme, minus_at, related_at, pair_at, guard_mark_at, mark_at, lexeme_at, BracketSort}
+use Rattle.its_text.specs.Lexing.{Opening, Closing, Neither, bracket_sort_of, one_more, closing_by, closing_at, Mode, Outside}
 use Rattle.its_text.specs.Lexing.{AtKeyword, Within, InComment, remark_of, lexeme_in, lexer, tokens_of}
 
--- a lexeme has a byte at least, and no more than this many
+-- A lexeme has at least one byte, and at most this many.
 abbrev Fits : ℕ → Lexeme (Option Piece) → Type 0
 Fits most l = (0 < l.len) × (l.len ≤ most)
 
--- one of two
+-- A choice between two lexemes that fit fits.
 either_fits : (most : ℕ) (v : Bool) (l m : Lexeme (Option Piece)) → Fits most l → Fits most m → Fits most (if v then l else m)
 either_fits most true l m a b = a
 either_fits most false l m a b = b
@@ -83,7 +83,7 @@ lexeme_fits b bytes =
     (either_fits (1 + length bytes) (begins_name b) _ _ (omega arith, (let h = prefix_fits continues_name bytes in omega (arith, h)))
     (either_fits (1 + length bytes) (is_ascii_digit b) _ _ (omega arith, (let h = prefix_fits is_ascii_digit bytes in omega (arith, h))) (mark_fits b bytes)))
 
--- what is found is at least one byte, and within this many
+-- The number, if there is one, is at least 1 and at most this.
 abbrev FitsMaybe : ℕ → Option ℕ → Type 0
 FitsMaybe most None = ⊤
 FitsMaybe most (Some len) = (0 < len) × (len ≤ most)
@@ -92,7 +92,7 @@ one_more_fits : (most : ℕ) (o : Option ℕ) → FitsMaybe most o → FitsMaybe
 one_more_fits most None h = tt
 one_more_fits most (Some len) h = (omega arith, (let k = h.1 in omega (arith, k)))
 
-closing_by_fits : (bend : Bend) (behind : ℕ → Option ℕ) (most : ℕ) → ((depth : ℕ) → FitsMaybe most (behind depth)) → (depth : ℕ) → FitsMaybe (suc most) (closing_by bend behind depth)
+closing_by_fits : (bracket_sort : BracketSort) (behind : ℕ → Option ℕ) (most : ℕ) → ((depth : ℕ) → FitsMaybe most (behind depth)) → (depth : ℕ) → FitsMaybe (suc most) (closing_by bracket_sort behind depth)
 closing_by_fits Opening behind most h depth = one_more_fits most (behind (suc depth)) (h (suc depth))
 closing_by_fits Closing behind most h zero = (omega arith, omega arith)
 closing_by_fits Closing behind most h (suc depth) = one_more_fits most (behind depth) (h depth)
@@ -100,7 +100,7 @@ closing_by_fits Neither behind most h depth = one_more_fits most (behind depth) 
 
 closing_fits : (bytes : List ℕ) (depth : ℕ) → FitsMaybe (length bytes) (closing_at bytes depth)
 closing_fits [] depth = tt
-closing_fits (b ∷ bytes) depth = closing_by_fits (bend_of b) (closing_at bytes) (length bytes) (closing_fits bytes) depth
+closing_fits (b ∷ bytes) depth = closing_by_fits (bracket_sort_of b) (closing_at bytes) (length bytes) (closing_fits bytes) depth
 
 remark_fits : (b : ℕ) (bytes : List ℕ) (o : Option ℕ) → FitsMaybe (1 + length bytes) o → Fits (1 + length bytes) (remark_of b bytes o)
 remark_fits b bytes None h = (omega arith, omega arith)
@@ -112,7 +112,7 @@ in_mode AtKeyword b bytes = lexeme_fits b bytes
 in_mode (Within depth) b bytes = lexeme_fits b bytes
 in_mode InComment b bytes = remark_fits b bytes (closing_at (b ∷ bytes) 0) (subst (λ (n : ℕ). FitsMaybe n (closing_at (b ∷ bytes) 0)) (let e : length (b ∷ bytes) ≡ 1 + length bytes = omega arith in e) (closing_fits (b ∷ bytes) 0))
 
--- each piece has a byte at least, and no more than there are
+-- Each token has at least one byte, and no more than the bytes left.
 pub lexes_within : (mode : Mode) → LexesWithin (lexeme_in mode)
 lexes_within mode = record { each = λ b bytes. let h = in_mode mode b bytes in (h.0, (let k = h.1 in omega (arith, k))) }
 

@@ -22,8 +22,8 @@ pub mod ValidPrograms
 pub mod WorkedLimits
 pub mod VerdictLaws
 pub mod RoomLaws
-pub mod KeptFronts
-pub mod QuietFronts
+pub mod KeptStates
+pub mod QuietStates
 pub mod SectionTurns
 pub mod ExpressionRoom
 pub mod LeftTurns

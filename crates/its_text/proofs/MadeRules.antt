@@ -1,5 +1,5 @@
--- Rules with one more are within the limits exactly if its head and its guard are: names and symbols that come later
--- don't change those before.
+-- Rules with one more are within the limits exactly if those before, its head and its guard are: names and symbols that
+-- come later don't change those before.
 use Rattle.std.proofs.Common.{◌≤◌, ◌↔◌, length, Some, None, sym, ◌∙◌, arith}
 use Rattle.expr_text.specs.model.Limits.{variable_limit}
 use Rattle.expr_text.specs.Guards.{Atoms}
@@ -12,7 +12,7 @@ use Rattle.expr_text.proofs.Stability.{extended}
 use Rattle.its_text.proofs.ValidRules.{sums_extends, guard_extends, cost_is_read, sums_are_read, no_fewer}
 use Rattle.its_text.proofs.ValidPrograms.{comes_there, all_known, all_stay}
 use Rattle.its_text.proofs.RoomLaws.{arity_stays, rules_stay, arguments_stay, cost_stays}
-use Rattle.its_text.proofs.KeptFronts.{IsRulingKept, IsHeadedKept}
+use Rattle.its_text.proofs.KeptStates.{IsRulingKept, IsHeadedKept}
 use Rattle.its_text.proofs.GuardTurns.{AreEnded}
 
 -- a rule with a guard is within the limits
@@ -22,7 +22,7 @@ HasGuard h guard =
     × IsGuardWithin (atoms_of_cost h.led.cost) (rule_names (rule_with h guard)) guard
 
 module _ (h : Headed) (guard : Guard) where
-  -- so the rules are with that one exactly if its head and its guard are
+  -- The rules with this one are within the limits exactly if its head and its guard are.
   pub rule_made : IsRulingKept (ruling_with h guard) ↔ (IsHeadedKept h × HasGuard h guard)
   rule_made =
       let l = h.led in
@@ -118,7 +118,7 @@ module _ (h : Headed) (guard : Guard) where
             },
       )
 
-  -- a rule whose guard has no atoms
+  -- A rule whose guard has no atoms is within the limits exactly if its head is.
   pub empty_made : (IsHeadedKept h → HasGuard h guard) → IsRulingKept (ruling_with h guard) ↔ IsHeadedKept h
   empty_made has = (λ k. (rule_made.0 k).0, λ k. rule_made.1 (k, has k))
 

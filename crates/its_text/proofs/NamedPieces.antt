@@ -19,7 +19,7 @@ abbrev pub AreNamed : List Piece → Type 0
 AreNamed [] = ⊤
 AreNamed (p ∷ ps) = IsNamed p × AreNamed ps
 
--- the piece found is no word, or a name
+-- The token, if there is one, is no word, or a valid name.
 abbrev IsFound : Option Piece → Type 0
 IsFound None = ⊤
 IsFound (Some p) = IsNamed p
@@ -31,7 +31,7 @@ mark_found (Some (In (inner.Word name))) h = absurd h
 mark_found (Some (In _)) h = tt
 mark_found (Some _) h = tt
 
--- so each piece is no word, or a name
+-- Each token is no word, or a valid name.
 each_found : HoldsOfPieces IsFound
 each_found = record {
   marks = mark_found;
@@ -39,7 +39,7 @@ each_found = record {
   literals = λ b bytes e. tt;
 }
 
--- a token before others
+-- If a token is no word or a valid name, and the words after it are valid names, all words are.
 then_named : (at len : ℕ) (o : Option Piece) (ts : List (Token Piece)) → IsFound o → AreNamed (pieces ts) → AreNamed (pieces (token_then at len o ts))
 then_named at len None ts n h = h
 then_named at len (Some p) ts n h = (n, h)

@@ -1,4 +1,4 @@
--- The reader of program texts keeps the laws of a reader; so a text has one answer, and spells one program at most.
+-- The reader of program texts obeys the laws of readers, so a text has one answer, and spells at most one program.
 use Rattle.std.specs.Prelude.{◌≡◌, ℕ, List}
 use Rattle.std.proofs.Common.{sym, ◌∙◌, ap}
 use Rattle.expr_text.specs.model.Programs.{Program}
@@ -14,15 +14,15 @@ use Rattle.its_text.proofs.Ends.{ends}
 use Rattle.its_text.proofs.Completing.{goes_on}
 use Rattle.its_text.proofs.Reading.{reads, some_is}
 
--- the reader keeps the laws
+-- The reader obeys the laws of readers.
 pub programs_laws : Laws programs
 programs_laws = record { goes_on = goes_on; ends = ends; reads = reads; differ = kinds_differ }
 
--- a text has one answer
+-- A text has exactly one answer.
 pub answers_all_texts : AnswersAll programs
 answers_all_texts = answers_all programs programs_laws
 
--- a text has one first fault at most
+-- A text has at most one first fault.
 pub one_first_fault : OneFirst programs
 one_first_fault = one_first_each programs programs_laws
 
@@ -30,6 +30,6 @@ one_each : (bytes : List ℕ) (p q : Program) → Spells bytes p → Spells byte
 one_each bytes p q s t =
     some_is (sym s.numbered ∙ (ap program_numbered ((one_tree_each programs programs_laws).each s.written t.written (pieces (tokens_of bytes)) s.text t.text) ∙ t.numbered))
 
--- a text spells one program at most
+-- A text spells at most one program.
 pub one_program : OneProgram
 one_program = record { each = one_each }

@@ -1,4 +1,4 @@
--- Each program that is written can be read: its pieces lead from state to state.
+-- Each written program can be read: its tokens lead from state to state.
 use Rattle.std.specs.Prelude.{◌≡◌, List, [], ◌∷◌, codes, if◌then◌else◌, Option, Some, None, ◌⊎◌, refl, IsFalse}
 use Rattle.std.proofs.Common.{sym, ◌∙◌, ap, subst, inl, inr}
 use Rattle.expr_text.specs.model.Programs.{Name}
@@ -20,13 +20,13 @@ use Rattle.its_text.specs.Written.{LeftTerm, Target, Marked, Bare, Guard, NoGuar
 use Rattle.its_text.specs.Written.{Section, Goal, Start, Variables, Rules, Comment, names_behind, sums_behind}
 use Rattle.its_text.specs.Written.{left_behind, right_behind, arrow_behind, target_behind, guard_behind, rules_behind}
 use Rattle.its_text.specs.Written.{words_behind, section_behind, pieces_behind}
-use Rattle.its_text.specs.Fronts.{Ruling, Led, InCom, Alone, Aimed, Headed, Front, Between, Opened, Listing, AfterRule}
+use Rattle.its_text.specs.Fronts.{Ruling, ArrowRead, InCom, Alone, Aimed, Headed, Front, Between, Opened, Listing, AfterRule}
 use Rattle.its_text.specs.Fronts.{SourceNamed, LeftOpened, LeftRead, SourceClosed, Costing, Arrowed, ComNamed, ComOpened}
 use Rattle.its_text.specs.Fronts.{RightOpened, Arguing, TargetClosed, Targeted, GuardMarked, WordRead, MarkGuarding}
 use Rattle.its_text.specs.Fronts.{SquareOpened, SquareGuarding, ruling_with, section_of}
 use Rattle.its_text.specs.Steps.{behind_target_name, behind_comma, argument_step, guard_ended, mark_guard_step}
-use Rattle.its_text.specs.Steps.{guard_named, square_guard_step, square_ended, right_shut, behind_arrow, step}
-use Rattle.its_text.specs.Steps.{left_shut, behind_left, cost_ended, beginning, finish}
+use Rattle.its_text.specs.Steps.{guard_named, square_guard_step, square_ended, right_closed, behind_arrow, step}
+use Rattle.its_text.specs.Steps.{left_closed, behind_left, cost_ended, beginning, finish}
 use Rattle.its_text.specs.Grammar.{IsTarget, HaveTargets, IsSection, AreSections, Writes, programs}
 use Rattle.its_text.proofs.Completing.{At, onward, costing_steps, argument_closes}
 
@@ -35,7 +35,7 @@ abbrev pub Is : {X : Type 0} → X → Option X → Type 0
 Is x None = ⊥
 Is x (Some y) = x ≡ y
 
--- an answer that holds nothing isn't one that holds something
+-- `None` isn't `Some`.
 pub none_is_some : {X : Type 0} {x : X} → None ≡ Some x → ⊥
 none_is_some {x = x} e = subst (λ o. Is x o) (sym e) refl
 
@@ -43,14 +43,14 @@ none_is_some {x = x} e = subst (λ o. Is x o) (sym e) refl
 pub some_is : {X : Type 0} {x y : X} → Some x ≡ Some y → x ≡ y
 some_is {x = x} e = subst (λ o. Is x o) e refl
 
--- a rule's left term with its arrow, and its head, with the sections and rules before
-abbrev pub led_at : List Section → List WrittenRule → WrittenRule → Led
-led_at ss rules r = record { ruling = record { sections = ss; rules = rules }; left = r.left; cost = r.cost }
+-- A rule's left term with its arrow, and its head, with the sections and rules before.
+abbrev pub arrow_at : List Section → List WrittenRule → WrittenRule → ArrowRead
+arrow_at ss rules r = record { ruling = record { sections = ss; rules = rules }; left = r.left; cost = r.cost }
 
 abbrev pub headed_at : List Section → List WrittenRule → WrittenRule → Headed
-headed_at ss rules r = record { led = led_at ss rules r; target = r.target }
+headed_at ss rules r = record { led = arrow_at ss rules r; target = r.target }
 
--- the left arguments
+-- The left arguments are read.
 names_read : (r : Ruling) (name a : Name) (earlier : List Name) (done : List Piece) → At done (LeftOpened r name) → At (names_behind (a ∷ earlier) done) (LeftRead r name a earlier)
 names_read r name a [] done at = onward done (LeftOpened r name) (LeftRead r name a []) (word a) at refl
 names_read r name a (b ∷ earlier) done at =
@@ -58,11 +58,11 @@ names_read r name a (b ∷ earlier) done at =
     (onward (names_behind (b ∷ earlier) done) (LeftRead r name b earlier) _ Comma (names_read r name b earlier done at) refl) refl
 
 left_read : (r : Ruling) (name : Name) (arguments : List Name) (done : List Piece) → At done (LeftOpened r name)
-    → At (close_bracket ∷ names_behind arguments done) (left_shut r name arguments)
+    → At (close_bracket ∷ names_behind arguments done) (left_closed r name arguments)
 left_read r name [] done at = onward done (LeftOpened r name) _ close_bracket at refl
 left_read r name (a ∷ earlier) done at = onward (names_behind (a ∷ earlier) done) (LeftRead r name a earlier) _ close_bracket (names_read r name a earlier done at) refl
 
--- an arrow, with a cost or none
+-- An arrow, with or without a cost, is read.
 arrow_read : (r : Ruling) (t : LeftTerm) (cost : Option Sum) (done : List Piece) → At done (SourceClosed r t)
     → At (arrow_behind cost done) (behind_left r t cost)
 arrow_read r t None done at = onward done (SourceClosed r t) (behind_left r t None) Arrow at refl
@@ -115,16 +115,16 @@ sums_read a s (r ∷ arguments) done at =
     (inl (onward (sums_behind (r ∷ arguments) done) (Arguing a arguments (behind_sum [] r)) (Arguing a (r ∷ arguments) expression.beginning) Comma
     (sums_read a r arguments done at) (ap (λ o. behind_comma a arguments o) (sum_finish r)))))
 
-right_read : (a : Aimed) (arguments : List Sum) (done : List Piece) → At done (RightOpened a) → At (close_bracket ∷ sums_behind arguments done) (right_shut a arguments)
-right_read a [] done at = onward done (RightOpened a) (right_shut a []) close_bracket at refl
+right_read : (a : Aimed) (arguments : List Sum) (done : List Piece) → At done (RightOpened a) → At (close_bracket ∷ sums_behind arguments done) (right_closed a arguments)
+right_read a [] done at = onward done (RightOpened a) (right_closed a []) close_bracket at refl
 right_read a (s ∷ arguments) done at =
-    onward (sums_behind (s ∷ arguments) done) (Arguing a arguments (behind_sum [] s)) (right_shut a (s ∷ arguments)) close_bracket (sums_read a s arguments done at) (argument_closes a arguments (behind_sum [] s) s (sum_finish s))
+    onward (sums_behind (s ∷ arguments) done) (Arguing a arguments (behind_sum [] s)) (right_closed a (s ∷ arguments)) close_bracket (sums_read a s arguments done at) (argument_closes a arguments (behind_sum [] s) s (sum_finish s))
 
--- the state after a target's name
-bare_name : (l : Led) (name : Name) → IsFalse (is_same name (codes "Com_1")) → behind_arrow l name ≡ behind_target_name l Alone name
+-- A target's name other than `Com_1` leads to the state after that name.
+bare_name : (l : ArrowRead) (name : Name) → IsFalse (is_same name (codes "Com_1")) → behind_arrow l name ≡ behind_target_name l Alone name
 bare_name l name other = ap (λ v. if v then ComNamed l else behind_target_name l Alone name) other
 
-target_read : (l : Led) (t : Target) (done : List Piece) → IsTarget t → At done (Arrowed l) → At (target_behind t done) (Targeted (record { led = l; target = t }))
+target_read : (l : ArrowRead) (t : Target) (done : List Piece) → IsTarget t → At done (Arrowed l) → At (target_behind t done) (Targeted (record { led = l; target = t }))
 target_read l (Marked t) done is at =
     onward (right_behind t (open_bracket ∷ word (codes "Com_1") ∷ done)) (TargetClosed l t) _ close_bracket
     (right_read (record { led = l; wrap = InCom; name = t.name }) t.arguments (open_bracket ∷ word t.name ∷ open_bracket ∷ word (codes "Com_1") ∷ done)
@@ -170,7 +170,7 @@ marks_step h done g k p (inl at) same = inl (onward done (MarkGuarding h g) (Mar
 marks_step h done g k p (inr (inl at)) same = marked_step h done p k at.0 (subst (λ j. guards.step j p ≡ Some k) at.1 same)
 marks_step h done g k p (inr (inr at)) same = word_step h at.0 done p k at.1 (subst (λ j. guards.step j p ≡ Some k) at.2 same)
 
--- a guard that can end, before a name or the end of the section
+-- A guard that can end is followed by a name or the end of the section.
 mark_ends : (h : Headed) (g : guards.GuardFront) (atoms : Atoms) (p : inner.Piece) (f : Front) (done : List Piece) → guards.finish g ≡ Some atoms → guards.step g p ≡ None
     → guard_ended h (Some atoms) p ≡ Some f → ((name : Name) → step (WordRead h name) (In p) ≡ mark_guard_step h (guard_named name) (guards.step (guard_named name) p) p) → Marks h done g → At (In p ∷ done) f
 mark_ends h g atoms p f done ends stops same word_goes (inl at) =
@@ -239,7 +239,7 @@ squares_close : (h : Headed) (g : guards.GuardFront) (atoms : Atoms) (done : Lis
 squares_close h g atoms done ends (inl at) = onward done (SquareGuarding h g) (AfterRule (ruling_with h (InSquares (Some atoms)))) SquareClose at (ap (λ o. square_ended h o) ends)
 squares_close h g atoms done ends (inr at) = absurd (none_is_some (subst (λ k. guards.finish k ≡ Some atoms) at.1 ends))
 
--- reading a guard after a target
+-- A guard after a target is read.
 guard_read : (h : Headed) (guard : Guard) (done : List Piece) → At done (Targeted h) → Behind h guard (guard_behind guard done)
 guard_read h NoGuard done at = at
 guard_read h (BehindMark None) done at = onward done (Targeted h) (GuardMarked h) GuardMark at refl
@@ -250,22 +250,22 @@ guard_read h (InSquares (Some atoms)) done at =
     squares_close h (behind_atoms atoms) atoms (atoms_behind In atoms (SquareOpen ∷ done)) (atoms_finish atoms)
     (guard_is_read In (Squares h) (squares_step h) atoms (SquareOpen ∷ done) (inr (onward done (Targeted h) (SquareOpened h) SquareOpen at refl, refl)))
 
--- rules one after the other
+-- Rules are read one after the other.
 rules_read : (ss : List Section) (rules : List WrittenRule) (done : List Piece) → HaveTargets rules → At done (AfterRule (record { sections = ss; rules = [] })) → BehindRules ss rules (rules_behind rules done)
 rules_read ss [] done are at = at
 rules_read ss (r ∷ rules) done are at =
     guard_read (headed_at ss rules r) r.guard (target_behind r.target (arrow_behind r.cost (left_behind r.left (rules_behind rules done))))
-    (target_read (led_at ss rules r) r.target (arrow_behind r.cost (left_behind r.left (rules_behind rules done))) are.0
+    (target_read (arrow_at ss rules r) r.target (arrow_behind r.cost (left_behind r.left (rules_behind rules done))) are.0
     (arrow_read (record { sections = ss; rules = rules }) r.left r.cost (left_behind r.left (rules_behind rules done))
     (left_read (record { sections = ss; rules = rules }) r.left.name r.left.arguments (open_bracket ∷ word r.left.name ∷ rules_behind rules done)
     (rule_opens ss rules r.left.name (rules_behind rules done) (rules_read ss rules done are.1 at)))))
 
--- the variables of a list
+-- The variables of a list are read.
 words_read : (ss : List Section) (names : List Name) (done : List Piece) → At done (Listing ss []) → At (words_behind names done) (Listing ss names)
 words_read ss [] done at = at
 words_read ss (a ∷ names) done at = onward (words_behind names done) (Listing ss names) (Listing ss (a ∷ names)) (word a) (words_read ss names done at) refl
 
--- the bracket of a section after others
+-- The bracket that opens a section is read after other sections.
 section_opens : (ss : List Section) (done : List Piece) → At done (Between ss) → At (open_bracket ∷ done) (Opened ss)
 section_opens ss done at = onward done (Between ss) (Opened ss) open_bracket at refl
 
@@ -287,6 +287,6 @@ sections_read : (ss : List Section) → AreSections ss → At (pieces_behind ss)
 sections_read [] are = refl
 sections_read (s ∷ ss) are = section_read s ss (pieces_behind ss) are.0 (sections_read ss are.1)
 
--- the pieces of a program lead to it
+-- The tokens of a program lead to a state that ends with the program's sections.
 pub reads : (ss : List Section) (ps : List Piece) → Writes ss ps → (f : Front) × (walk step (Some beginning) ps ≡ Some f) × (finish f ≡ Some ss)
 reads ss ps w = (Between ss, subst (λ qs. walk step (Some beginning) qs ≡ Some (Between ss)) w.pieces (walk-onto programs (pieces_behind ss) [] ∙ sections_read ss w.are), refl)

@@ -1,4 +1,4 @@
--- Laws of the limits' tests, and names and terms that don't change when names are appended.
+-- Laws of the tests of limits; and that names and terms don't change when names are appended.
 use Rattle.std.proofs.Common.{◌≡◌, ℕ, suc, ◌≤◌, Bool, true, false, not, ◌&&◌, ◌||◌, if◌then◌else◌, ◌==◌, ◌↔◌, nat_le}
 use Rattle.std.proofs.Common.{List, [], ◌∷◌, ◌++◌, Option, Some, None, refl, ap, sym, ◌∙◌, arith}
 use Rattle.std.proofs.lemmas.Bool.Decides.{nat_tests}
@@ -13,7 +13,7 @@ use Rattle.expr_text.proofs.Stability.{SumReads}
 use Rattle.its_text.specs.Written.{WrittenRule}
 use Rattle.its_text.specs.Numbering.{names_of, with_symbol, arity_of, term_in}
 use Rattle.expr_text.specs.Differences.{differences, first_of_all}
-use Rattle.its_text.specs.FrontFaults.{other_arity}
+use Rattle.its_text.specs.StateFaults.{other_arity}
 use Rattle.its_text.specs.Spelling.{IsArgumentWithin, AreArgumentsWithin, IsCostWithin, IsAtomWithin, AreAtomsWithin}
 use Rattle.its_text.specs.Spelling.{IsRule, AreRules}
 use Rattle.expr_text.proofs.NamesRead.{Extends, term_along, AtomReads, AtomsRead}
@@ -21,7 +21,7 @@ use Rattle.its_text.proofs.ValidRules.{AllRead, CostReads}
 use Rattle.its_text.proofs.ValidPrograms.{IsKnown}
 pub use Rattle.std.proofs.lemmas.Bool.{not-true as passes_not}
 
--- tests of numbers
+-- If a number isn't at most another, it is greater.
 pub below : (a b : ℕ) → nat_le a b ≡ false → suc b ≤ a
 below a b h = grind (arith, nat_tests, h)
 
@@ -45,21 +45,21 @@ number_same a b h = ap not (let e : (a == b) ≡ true = grind (arith, nat_tests,
 pub is_zero : (a : ℕ) → (a == 0) ≡ true → a ≡ 0
 is_zero a h = grind (arith, nat_tests, h)
 
--- a number that fails it is at least 1
+-- A number that fails the test for 0 is at least 1.
 pub not_zero : (a : ℕ) → (a == 0) ≡ false → 1 ≤ a
 not_zero a h = grind (arith, nat_tests, h)
 
--- no test both passes and fails
+-- A test can't both hold and fail.
 pub contrary : {X : Type 0} (v : Bool) → v ≡ true → v ≡ false → X
 contrary true on off = cc
 contrary false on off = cc
 
--- both of two tests pass, or one fails
+-- A conjunction with a test that fails fails.
 pub and_false : (v : Bool) → (v && false) ≡ false
 and_false true = refl
 and_false false = refl
 
--- a test beside one that passes is as it is by itself
+-- A conjunction with a test that holds has the value of the other test.
 pub and_true : (v : Bool) → (v && true) ≡ v
 and_true true = refl
 and_true false = refl
@@ -81,7 +81,7 @@ arity_append (t ∷ symbols) s n h = go (is_same n t.name) refl h (λ k. arity_a
     go true e k ih = rw e refl
     go false e k ih = rw (e, ih k) refl
 
--- a symbol that is there keeps its number of places when one more is read
+-- A known symbol keeps its number of places after one more is read.
 pub arity_stays : (symbols : List Symbol) (n name : Name) (arity : ℕ) → is_among n (names_of symbols) ≡ true
     → arity_of (with_symbol symbols name arity) n ≡ arity_of symbols n
 arity_stays symbols n name arity h = go (is_among name (names_of symbols))
@@ -91,14 +91,14 @@ arity_stays symbols n name arity h = go (is_among name (names_of symbols))
     go true = refl
     go false = arity_append symbols (record { name = name; arity = arity }) n h
 
--- rules are as they are to be exactly if they were before another symbol came
+-- A rule is valid exactly if it was before another symbol came.
 rule_same : (symbols last : List Symbol) (r : WrittenRule) → arity_of last r.left.name ≡ arity_of symbols r.left.name
     → arity_of last (term_in r.target).name ≡ arity_of symbols (term_in r.target).name
     → IsRule symbols r → IsRule last r
 rule_same symbols last r a b h =
     record { left = h.left; target = h.target; source_arity = a ∙ h.source_arity; target_arity = b ∙ h.target_arity }
 
--- rules whose symbols are there are as they are to be exactly if they are so with one symbol more
+-- Rules whose symbols are known are valid exactly if they are with one more symbol.
 pub rules_stay : (symbols : List Symbol) (name : Name) (arity : ℕ) (rules : List WrittenRule)
     → AllByRecursion (IsKnown symbols) rules → AreRules symbols rules ↔ AreRules (with_symbol symbols name arity) rules
 rules_stay symbols name arity [] known = (λ h. tt, λ h. tt)
@@ -110,7 +110,7 @@ rules_stay symbols name arity (r ∷ rules) known =
       λ h. (rule_same (with_symbol symbols name arity) symbols r (sym a) (sym b) h.0, ih.1 h.1),
     )
 
--- arguments are within the limits over more names exactly if they were
+-- Arguments over some names are within the limits exactly if they are over more names.
 module _ (names last : List Name) (e : Extends names last) where
   argument_stays : (s : Sum) → SumReads names s → IsArgumentWithin names s ↔ IsArgumentWithin last s
   argument_stays s h =

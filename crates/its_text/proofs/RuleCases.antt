@@ -1,4 +1,4 @@
--- A property of each accepting step is one of each step in the rules after an arrow.
+-- A property of each accepting step and of each rejection is one of each step in the rules after an arrow.
 use Rattle.std.specs.Prelude.{List, Option}
 use Rattle.expr_text.specs.model.Programs.{Name}
 use Rattle.expr_text.specs.Pieces as inner
@@ -8,7 +8,7 @@ use Rattle.expr_text.specs.GuardFronts as guards
 use Rattle.its_text.specs.Pieces.{Piece, In, Comma, Arrow, CostOpen, CostClose, GuardMark, SquareOpen, SquareClose}
 use Rattle.its_text.specs.Pieces.{Disjoining, Remark, Wrong, Strange}
 use Rattle.its_text.specs.Written.{RightTerm}
-use Rattle.its_text.specs.Fronts.{Front, Led, Aimed, Headed}
+use Rattle.its_text.specs.Fronts.{Front, ArrowRead, Aimed, Headed}
 use Rattle.its_text.specs.Fronts.{Arrowed, ComNamed, ComOpened, TargetNamed, RightOpened}
 use Rattle.its_text.specs.Fronts.{Arguing, TargetClosed, Targeted, GuardMarked, WordRead, MarkGuarding, SquareOpened}
 use Rattle.its_text.specs.Fronts.{SquareGuarding}
@@ -17,7 +17,7 @@ use Rattle.its_text.proofs.StepCases.{HoldsOfSteps}
 
 module _ (P : Front → Piece → Option Front → Type 0) (each : HoldsOfSteps P) where
   -- the steps after the arrow
-  pub arrowed_case : (l : Led) (p : Piece) → P (Arrowed l) p (step (Arrowed l) p)
+  pub arrowed_case : (l : ArrowRead) (p : Piece) → P (Arrowed l) p (step (Arrowed l) p)
   arrowed_case l (In (inner.Word name)) = each.arrowed_word l name
   arrowed_case l (In (inner.Digits ds)) = each.nowhere (Arrowed l) (In (inner.Digits ds))
   arrowed_case l (In inner.Open) = each.nowhere (Arrowed l) (In inner.Open)
@@ -41,7 +41,7 @@ module _ (P : Front → Piece → Option Front → Type 0) (each : HoldsOfSteps 
   arrowed_case l Strange = each.nowhere (Arrowed l) Strange
 
   -- the steps after `Com_1`
-  pub com_named_case : (l : Led) (p : Piece) → P (ComNamed l) p (step (ComNamed l) p)
+  pub com_named_case : (l : ArrowRead) (p : Piece) → P (ComNamed l) p (step (ComNamed l) p)
   com_named_case l (In (inner.Word name)) = each.nowhere (ComNamed l) (In (inner.Word name))
   com_named_case l (In (inner.Digits ds)) = each.nowhere (ComNamed l) (In (inner.Digits ds))
   com_named_case l (In inner.Open) = each.com_named_open l
@@ -65,7 +65,7 @@ module _ (P : Front → Piece → Option Front → Type 0) (each : HoldsOfSteps 
   com_named_case l Strange = each.nowhere (ComNamed l) Strange
 
   -- the steps after `Com_1(`
-  pub com_opened_case : (l : Led) (p : Piece) → P (ComOpened l) p (step (ComOpened l) p)
+  pub com_opened_case : (l : ArrowRead) (p : Piece) → P (ComOpened l) p (step (ComOpened l) p)
   com_opened_case l (In (inner.Word name)) = each.com_opened_word l name
   com_opened_case l (In (inner.Digits ds)) = each.nowhere (ComOpened l) (In (inner.Digits ds))
   com_opened_case l (In inner.Open) = each.nowhere (ComOpened l) (In inner.Open)
@@ -127,7 +127,7 @@ module _ (P : Front → Piece → Option Front → Type 0) (each : HoldsOfSteps 
   right_opened_case a Wrong = each.nowhere (RightOpened a) Wrong
   right_opened_case a Strange = each.nowhere (RightOpened a) Strange
 
-  -- in an argument
+  -- The steps within an argument.
   pub in_argument_case : (a : Aimed) (arguments : List Sum) (e : expression.Front) (p : Piece)
       → P (Arguing a arguments e) p (step (Arguing a arguments e) p)
   in_argument_case a arguments e (In p) = each.in_argument_piece a arguments e p
@@ -144,28 +144,28 @@ module _ (P : Front → Piece → Option Front → Type 0) (each : HoldsOfSteps 
   in_argument_case a arguments e Strange = each.nowhere (Arguing a arguments e) Strange
 
   -- the steps after the right term within `Com_1(`
-  pub right_shut_case : (l : Led) (t : RightTerm) (p : Piece) → P (TargetClosed l t) p (step (TargetClosed l t) p)
-  right_shut_case l t (In (inner.Word name)) = each.nowhere (TargetClosed l t) (In (inner.Word name))
-  right_shut_case l t (In (inner.Digits ds)) = each.nowhere (TargetClosed l t) (In (inner.Digits ds))
-  right_shut_case l t (In inner.Open) = each.nowhere (TargetClosed l t) (In inner.Open)
-  right_shut_case l t (In inner.Close) = each.right_shut_close l t
-  right_shut_case l t (In inner.Plus) = each.nowhere (TargetClosed l t) (In inner.Plus)
-  right_shut_case l t (In inner.Minus) = each.nowhere (TargetClosed l t) (In inner.Minus)
-  right_shut_case l t (In inner.Times) = each.nowhere (TargetClosed l t) (In inner.Times)
-  right_shut_case l t (In inner.Caret) = each.nowhere (TargetClosed l t) (In inner.Caret)
-  right_shut_case l t (In (inner.Related sign)) = each.nowhere (TargetClosed l t) (In (inner.Related sign))
-  right_shut_case l t (In (inner.Joining joint)) = each.nowhere (TargetClosed l t) (In (inner.Joining joint))
-  right_shut_case l t Comma = each.nowhere (TargetClosed l t) Comma
-  right_shut_case l t Arrow = each.nowhere (TargetClosed l t) Arrow
-  right_shut_case l t CostOpen = each.nowhere (TargetClosed l t) CostOpen
-  right_shut_case l t CostClose = each.nowhere (TargetClosed l t) CostClose
-  right_shut_case l t GuardMark = each.nowhere (TargetClosed l t) GuardMark
-  right_shut_case l t SquareOpen = each.nowhere (TargetClosed l t) SquareOpen
-  right_shut_case l t SquareClose = each.nowhere (TargetClosed l t) SquareClose
-  right_shut_case l t Disjoining = each.nowhere (TargetClosed l t) Disjoining
-  right_shut_case l t (Remark bytes) = each.nowhere (TargetClosed l t) (Remark bytes)
-  right_shut_case l t Wrong = each.nowhere (TargetClosed l t) Wrong
-  right_shut_case l t Strange = each.nowhere (TargetClosed l t) Strange
+  pub right_closed_case : (l : ArrowRead) (t : RightTerm) (p : Piece) → P (TargetClosed l t) p (step (TargetClosed l t) p)
+  right_closed_case l t (In (inner.Word name)) = each.nowhere (TargetClosed l t) (In (inner.Word name))
+  right_closed_case l t (In (inner.Digits ds)) = each.nowhere (TargetClosed l t) (In (inner.Digits ds))
+  right_closed_case l t (In inner.Open) = each.nowhere (TargetClosed l t) (In inner.Open)
+  right_closed_case l t (In inner.Close) = each.right_closed_close l t
+  right_closed_case l t (In inner.Plus) = each.nowhere (TargetClosed l t) (In inner.Plus)
+  right_closed_case l t (In inner.Minus) = each.nowhere (TargetClosed l t) (In inner.Minus)
+  right_closed_case l t (In inner.Times) = each.nowhere (TargetClosed l t) (In inner.Times)
+  right_closed_case l t (In inner.Caret) = each.nowhere (TargetClosed l t) (In inner.Caret)
+  right_closed_case l t (In (inner.Related sign)) = each.nowhere (TargetClosed l t) (In (inner.Related sign))
+  right_closed_case l t (In (inner.Joining joint)) = each.nowhere (TargetClosed l t) (In (inner.Joining joint))
+  right_closed_case l t Comma = each.nowhere (TargetClosed l t) Comma
+  right_closed_case l t Arrow = each.nowhere (TargetClosed l t) Arrow
+  right_closed_case l t CostOpen = each.nowhere (TargetClosed l t) CostOpen
+  right_closed_case l t CostClose = each.nowhere (TargetClosed l t) CostClose
+  right_closed_case l t GuardMark = each.nowhere (TargetClosed l t) GuardMark
+  right_closed_case l t SquareOpen = each.nowhere (TargetClosed l t) SquareOpen
+  right_closed_case l t SquareClose = each.nowhere (TargetClosed l t) SquareClose
+  right_closed_case l t Disjoining = each.nowhere (TargetClosed l t) Disjoining
+  right_closed_case l t (Remark bytes) = each.nowhere (TargetClosed l t) (Remark bytes)
+  right_closed_case l t Wrong = each.nowhere (TargetClosed l t) Wrong
+  right_closed_case l t Strange = each.nowhere (TargetClosed l t) Strange
 
   -- the steps after the target
   pub targeted_case : (h : Headed) (p : Piece) → P (Targeted h) p (step (Targeted h) p)
@@ -212,7 +212,7 @@ module _ (P : Front → Piece → Option Front → Type 0) (each : HoldsOfSteps 
   word_read_case h name Wrong = each.nowhere (WordRead h name) Wrong
   word_read_case h name Strange = each.nowhere (WordRead h name) Strange
 
-  -- in the atoms after `:|:`
+  -- The steps within the atoms after `:|:`.
   pub mark_guarding_case : (h : Headed) (g : guards.GuardFront) (p : Piece)
       → P (MarkGuarding h g) p (step (MarkGuarding h g) p)
   mark_guarding_case h g (In p) = each.mark_guarding_piece h g p
@@ -243,7 +243,7 @@ module _ (P : Front → Piece → Option Front → Type 0) (each : HoldsOfSteps 
   square_opened_case h Wrong = each.nowhere (SquareOpened h) Wrong
   square_opened_case h Strange = each.nowhere (SquareOpened h) Strange
 
-  -- in the atoms after `[`
+  -- The steps within the atoms after `[`.
   pub square_guarding_case : (h : Headed) (g : guards.GuardFront) (p : Piece)
       → P (SquareGuarding h g) p (step (SquareGuarding h g) p)
   square_guarding_case h g (In p) = each.square_guarding_piece h g p

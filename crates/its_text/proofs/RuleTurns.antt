@@ -1,5 +1,5 @@
--- Along each step what is read is within the limits exactly if it was before, and the state is quiet: after a
--- target, up to the end of the rule.
+-- Each step from the target of a rule to the rule's end keeps the limits: what was read is within them after the step
+-- exactly if it was before and the state is quiet (it shows no fault at the next token).
 use Rattle.std.proofs.Common.{◌≡◌, ℕ, ◌+◌, Bool, true, false, not, ◌&&◌, ◌==◌, ◌↔◌, nat_le, List, ◌∷◌, length}
 use Rattle.std.proofs.Common.{Option, Some, None, refl, ap, sym, ◌∙◌, arith}
 use Rattle.std.proofs.lemmas.Bool.Decides.{nat_tests}
@@ -20,10 +20,10 @@ use Rattle.its_text.specs.Fronts.{Headed, rule_with, ruling_with, Targeted, Guar
 use Rattle.its_text.specs.Fronts.{SquareOpened, SquareGuarding}
 use Rattle.its_text.specs.Steps.{behind_rule, guard_ended, mark_guard_step, square_guard_step, square_ended, step}
 use Rattle.its_text.specs.FrontNames.{headed_names}
-use Rattle.its_text.specs.FrontFaults as shown
-use Rattle.its_text.specs.FrontFaults.{open_expression_in, can_end, ends_expression, is_full}
+use Rattle.its_text.specs.StateFaults as shown
+use Rattle.its_text.specs.StateFaults.{open_expression_in, can_end, ends_expression, is_full}
 use Rattle.its_text.proofs.RoomLaws.{contrary, and_false}
-use Rattle.its_text.proofs.KeptFronts.{first, IsHeadedKept, HasGuardKept, IsGoingQuiet}
+use Rattle.its_text.proofs.KeptStates.{first, IsHeadedKept, HasGuardKept, IsGoingQuiet}
 use Rattle.its_text.proofs.SectionTurns.{Turns, rules_done}
 use Rattle.its_text.proofs.LeftTurns.{room_for_rule}
 use Rattle.its_text.proofs.MadeRules.{no_guard, no_squared, marked, in_squares}
@@ -31,7 +31,7 @@ use Rattle.its_text.proofs.ExpressionRoom.{goes_off}
 use Rattle.its_text.proofs.ArgumentTurns.{target_kept}
 use Rattle.its_text.proofs.GuardTurns.{guard_ends, guard_turns, guard_begins}
 
--- a step after a target that ends the rule
+-- A step after a target that ends the rule keeps the limits exactly if the state is quiet.
 pub targeted_turns : (h : Headed) (p : inner.Piece) (ps : List Piece)
     → Turns (Targeted h) (In p) ps (behind_rule (ruling_with h NoGuard) p)
 targeted_turns h (inner.Word name) ps =
@@ -69,7 +69,7 @@ square_turns h ps =
     let kept = target_kept h.led h.target in
     (λ k. let y = kept.0 k in (y.0, (y.1, refl)), λ k. kept.1 (k.0, k.1.0))
 
--- the first piece of a guard
+-- The first token of a guard keeps the limits exactly if the guard is quiet.
 pub guard_first : (h : Headed) (g : GuardFront) (p : inner.Piece) (behind : Option Piece)
     → guards.step guards.no_atoms p ≡ Some g
     → (IsHeadedKept h × HasGuardKept h g behind)
@@ -83,14 +83,14 @@ guard_first h g p behind same =
     )
 
 -- a piece that a guard rejects doesn't continue the expression being read there
-off_within : (g : GuardFront) (p : inner.Piece) → guards.step g p ≡ None
+stop_kind_within : (g : GuardFront) (p : inner.Piece) → guards.step g p ≡ None
     → expression_steps.step (guards.expression_in g) p ≡ None
-off_within (LeftSide c e) p same = go (expression_steps.step e p) same
+stop_kind_within (LeftSide c e) p same = go (expression_steps.step e p) same
   where
     go : (o : Option expression.Front) → guards.within (LeftSide c e) o p ≡ None → o ≡ None
     go None k = refl
     go (Some f) k = cc
-off_within (RightSide c l sign e) p same = go (expression_steps.step e p) same
+stop_kind_within (RightSide c l sign e) p same = go (expression_steps.step e p) same
   where
     go : (o : Option expression.Front) → guards.within (RightSide c l sign e) o p ≡ None → o ≡ None
     go None k = refl
@@ -145,14 +145,14 @@ not_full others (LeftSide (JointAfter earlier joint) e) atoms same = go (truth_o
         let some : (token_count e == 0) ≡ false = grind (arith, nat_tests, one) in
         ap (λ (v : Bool). v && nat_le atom_limit (count_of earlier + others)) some
 
--- a guard after `:|:` that ends before another rule, or before the end of the section
+-- A guard after `:|:` ends before another rule, or before the end of the section.
 module _ (h : Headed) (g : GuardFront) (atoms : Atoms) (ends : guards.finish g ≡ Some atoms) (ps : List Piece) where
   abbrev full : Bool
   full = nat_le rule_limit (length (rule_with h NoGuard ∷ h.led.ruling.rules))
 
-  off_quiet : (p : inner.Piece) → expression_steps.step (guards.expression_in g) p ≡ None
+  stop_kind_quiet : (p : inner.Piece) → expression_steps.step (guards.expression_in g) p ≡ None
       → IsGoingQuiet (open_expression_in (headed_names h) g) (Some (In p)) (first ps)
-  off_quiet p off =
+  stop_kind_quiet p off =
       λ on. contrary (goes_on_with (guards.expression_in g) p) on (goes_off (guards.expression_in g) p off)
 
   word_ends : (n : Name) → expression_steps.step (guards.expression_in g) (inner.Word n) ≡ None
@@ -176,7 +176,7 @@ module _ (h : Headed) (g : GuardFront) (atoms : Atoms) (ends : guards.finish g �
                   atom = z.1;
                   few = ap (λ (v : Bool). v && true)
                       (not_full (atoms_of_cost h.led.cost) g atoms ends);
-                  going = off_quiet (inner.Word n) off;
+                  going = stop_kind_quiet (inner.Word n) off;
                 },
               ),
             ),
@@ -193,7 +193,7 @@ module _ (h : Headed) (g : GuardFront) (atoms : Atoms) (ends : guards.finish g �
         λ k.
             let y = made.0 (done.0 k) in
             let z = ended.0 y.1 in
-            ((y.0, z.0), (refl, record { atom = z.1; few = and_false _; going = off_quiet inner.Close off })),
+            ((y.0, z.0), (refl, record { atom = z.1; few = and_false _; going = stop_kind_quiet inner.Close off })),
         λ k. done.1 (made.1 (k.0.0, ended.1 (k.0.1, k.1.1.atom))),
       )
 
@@ -222,7 +222,7 @@ module _ (h : Headed) (g : GuardFront) (atoms : Atoms) (ends : guards.finish g �
         λ k. made.1 (k.0.0, ended.1 (k.0.1, k.1.atom)),
       )
 
--- a step that ends the atoms after `:|:`
+-- A step that ends the atoms after `:|:` keeps the limits exactly if the state is quiet.
 guard_ended_turns : (h : Headed) (g : GuardFront) (p : inner.Piece) (ps : List Piece) (o : Option Atoms)
     → guards.finish g ≡ o → expression_steps.step (guards.expression_in g) p ≡ None
     → Turns (MarkGuarding h g) (In p) ps (guard_ended h o p)
@@ -236,14 +236,14 @@ guarding_turns h g p ps (Some k) same =
       λ x. let y = turns.0 x.1 in ((x.0, y.0), (no_rule_within h g k p (first ps) same, y.1)),
       λ x. (x.0.0, turns.1 (x.0.1, x.1.1)),
     )
-guarding_turns h g p ps None same = guard_ended_turns h g p ps (guards.finish g) refl (off_within g p same)
+guarding_turns h g p ps None same = guard_ended_turns h g p ps (guards.finish g) refl (stop_kind_within g p same)
 
 -- in a guard after `:|:` each step keeps the limits exactly if the state is quiet
 pub mark_guarding_turns : (h : Headed) (g : GuardFront) (p : inner.Piece) (ps : List Piece)
     → Turns (MarkGuarding h g) (In p) ps (mark_guard_step h g (guards.step g p) p)
 mark_guarding_turns h g p ps = guarding_turns h g p ps (guards.step g p) refl
 
--- atoms in square brackets
+-- A step within square brackets keeps the limits exactly if the state is quiet.
 pub square_guarding_turns : (h : Headed) (g : GuardFront) (p : inner.Piece) (ps : List Piece)
     → Turns (SquareGuarding h g) (In p) ps (square_guard_step h (guards.step g p))
 square_guarding_turns h g p ps = go (guards.step g p) refl

@@ -1,4 +1,4 @@
--- A property of each accepting step is one of each step outside the rules.
+-- A property of each accepting step and of each rejection is one of each step outside the rules.
 use Rattle.std.specs.Prelude.{List, Option}
 use Rattle.expr_text.specs.model.Programs.{Name}
 use Rattle.expr_text.specs.Pieces as inner
@@ -11,7 +11,7 @@ use Rattle.its_text.specs.Steps.{step}
 use Rattle.its_text.proofs.StepCases.{HoldsOfSteps}
 
 module _ (P : Front → Piece → Option Front → Type 0) (each : HoldsOfSteps P) where
-  -- between sections
+  -- The steps between sections.
   pub between_case : (ss : List Section) (p : Piece) → P (Between ss) p (step (Between ss) p)
   between_case ss (In (inner.Word name)) = each.nowhere (Between ss) (In (inner.Word name))
   between_case ss (In (inner.Digits ds)) = each.nowhere (Between ss) (In (inner.Digits ds))
@@ -205,29 +205,29 @@ module _ (P : Front → Piece → Option Front → Type 0) (each : HoldsOfSteps 
   start_said_case ss start Strange = each.nowhere (StartRead ss start) Strange
 
   -- the steps after the bracket that closes on the start symbol
-  pub start_shut_case : (ss : List Section) (start : Name) (p : Piece)
+  pub start_closed_case : (ss : List Section) (start : Name) (p : Piece)
       → P (StartClosed ss start) p (step (StartClosed ss start) p)
-  start_shut_case ss start (In (inner.Word name)) = each.nowhere (StartClosed ss start) (In (inner.Word name))
-  start_shut_case ss start (In (inner.Digits ds)) = each.nowhere (StartClosed ss start) (In (inner.Digits ds))
-  start_shut_case ss start (In inner.Open) = each.nowhere (StartClosed ss start) (In inner.Open)
-  start_shut_case ss start (In inner.Close) = each.start_shut_close ss start
-  start_shut_case ss start (In inner.Plus) = each.nowhere (StartClosed ss start) (In inner.Plus)
-  start_shut_case ss start (In inner.Minus) = each.nowhere (StartClosed ss start) (In inner.Minus)
-  start_shut_case ss start (In inner.Times) = each.nowhere (StartClosed ss start) (In inner.Times)
-  start_shut_case ss start (In inner.Caret) = each.nowhere (StartClosed ss start) (In inner.Caret)
-  start_shut_case ss start (In (inner.Related sign)) = each.nowhere (StartClosed ss start) (In (inner.Related sign))
-  start_shut_case ss start (In (inner.Joining joint)) = each.nowhere (StartClosed ss start) (In (inner.Joining joint))
-  start_shut_case ss start Comma = each.nowhere (StartClosed ss start) Comma
-  start_shut_case ss start Arrow = each.nowhere (StartClosed ss start) Arrow
-  start_shut_case ss start CostOpen = each.nowhere (StartClosed ss start) CostOpen
-  start_shut_case ss start CostClose = each.nowhere (StartClosed ss start) CostClose
-  start_shut_case ss start GuardMark = each.nowhere (StartClosed ss start) GuardMark
-  start_shut_case ss start SquareOpen = each.nowhere (StartClosed ss start) SquareOpen
-  start_shut_case ss start SquareClose = each.nowhere (StartClosed ss start) SquareClose
-  start_shut_case ss start Disjoining = each.nowhere (StartClosed ss start) Disjoining
-  start_shut_case ss start (Remark bytes) = each.nowhere (StartClosed ss start) (Remark bytes)
-  start_shut_case ss start Wrong = each.nowhere (StartClosed ss start) Wrong
-  start_shut_case ss start Strange = each.nowhere (StartClosed ss start) Strange
+  start_closed_case ss start (In (inner.Word name)) = each.nowhere (StartClosed ss start) (In (inner.Word name))
+  start_closed_case ss start (In (inner.Digits ds)) = each.nowhere (StartClosed ss start) (In (inner.Digits ds))
+  start_closed_case ss start (In inner.Open) = each.nowhere (StartClosed ss start) (In inner.Open)
+  start_closed_case ss start (In inner.Close) = each.start_closed_close ss start
+  start_closed_case ss start (In inner.Plus) = each.nowhere (StartClosed ss start) (In inner.Plus)
+  start_closed_case ss start (In inner.Minus) = each.nowhere (StartClosed ss start) (In inner.Minus)
+  start_closed_case ss start (In inner.Times) = each.nowhere (StartClosed ss start) (In inner.Times)
+  start_closed_case ss start (In inner.Caret) = each.nowhere (StartClosed ss start) (In inner.Caret)
+  start_closed_case ss start (In (inner.Related sign)) = each.nowhere (StartClosed ss start) (In (inner.Related sign))
+  start_closed_case ss start (In (inner.Joining joint)) = each.nowhere (StartClosed ss start) (In (inner.Joining joint))
+  start_closed_case ss start Comma = each.nowhere (StartClosed ss start) Comma
+  start_closed_case ss start Arrow = each.nowhere (StartClosed ss start) Arrow
+  start_closed_case ss start CostOpen = each.nowhere (StartClosed ss start) CostOpen
+  start_closed_case ss start CostClose = each.nowhere (StartClosed ss start) CostClose
+  start_closed_case ss start GuardMark = each.nowhere (StartClosed ss start) GuardMark
+  start_closed_case ss start SquareOpen = each.nowhere (StartClosed ss start) SquareOpen
+  start_closed_case ss start SquareClose = each.nowhere (StartClosed ss start) SquareClose
+  start_closed_case ss start Disjoining = each.nowhere (StartClosed ss start) Disjoining
+  start_closed_case ss start (Remark bytes) = each.nowhere (StartClosed ss start) (Remark bytes)
+  start_closed_case ss start Wrong = each.nowhere (StartClosed ss start) Wrong
+  start_closed_case ss start Strange = each.nowhere (StartClosed ss start) Strange
 
   -- the steps after `(VAR` and names
   pub listing_case : (ss : List Section) (names : List Name) (p : Piece)

@@ -1,5 +1,5 @@
--- Along each step what is read is within the limits exactly if it was before, and the state is quiet: between
--- sections, and within all but those of rules.
+-- Each step between sections, and within all but those of rules, keeps the limits: what was read is within them after
+-- the step exactly if it was before and the state is quiet (it shows no fault at the next token).
 use Rattle.std.proofs.Common.{◌≡◌, ℕ, suc, ◌≤◌, Bool, true, false, if◌then◌else◌, ◌&&◌, ◌||◌, ◌↔◌, codes, List, [], ◌∷◌}
 use Rattle.std.proofs.Common.{Option, Some, None, refl, ap, sym, subst, ◌∙◌, arith}
 use Rattle.std.specs.Prelude.{⊤}
@@ -13,22 +13,22 @@ use Rattle.its_text.specs.Numbering.{rules_of}
 use Rattle.its_text.specs.Fronts.{Ruling, Front, Opened, GoalNamed, StartNamed, Listing, CommentNamed, AfterRule}
 use Rattle.its_text.specs.Fronts.{section_of}
 use Rattle.its_text.specs.Steps.{section_named}
-use Rattle.its_text.specs.FrontFaults.{is_goal, is_start, is_variables, is_rules, has, has_named}
+use Rattle.its_text.specs.StateFaults.{is_goal, is_start, is_variables, is_rules, has, has_named}
 use Rattle.its_text.specs.Spelling.{times, HaveRules, HaveRulesWithin}
-use Rattle.its_text.proofs.KeptFronts.{first, AreDone, IsRulingKept, IsKept, IsQuiet}
+use Rattle.its_text.proofs.KeptStates.{first, AreDone, IsRulingKept, IsKept, IsQuiet}
 
 -- a piece is rejected, or leads to a state that keeps the limits exactly if the one before does and is quiet
 abbrev pub Turns : Front → Piece → List Piece → Option Front → Type 0
 Turns f p ps None = ⊤
 Turns f p ps (Some g) = IsKept g ps ↔ (IsKept f (p ∷ ps) × IsQuiet f (Some p) (first ps))
 
--- a step that keeps the limits as it is to does so, too, where a test may stop it
+-- A step that keeps the limits exactly if the state is quiet does so, too, if a test may reject it.
 pub when_turns : (v : Bool) (f : Front) (p : Piece) (ps : List Piece) (g : Front) → Turns f p ps (Some g)
     → Turns f p ps (when v g)
 when_turns true f p ps g h = h
 when_turns false f p ps g h = tt
 
--- there are no sections of a kind exactly if they are none
+-- If a test finds no section, no section is counted by it.
 times_none : (test : Section → Bool) (ss : List Section) → has test ss ≡ false → times test ss ≡ 0
 times_none test [] h = refl
 times_none test (s ∷ ss) h = go (test s) h (λ k. times_none test ss k)
@@ -47,7 +47,7 @@ none_times test (s ∷ ss) h = go (test s) h (λ k. none_times test ss k)
     go true k ih = absurd (omega (arith, k))
     go false k ih = ih k
 
--- there is at most one such section with another, exactly if there is none without it
+-- With one more section that the test finds, at most one is counted exactly if none was found before.
 once_more : (test : Section → Bool) (ss : List Section) → (suc (times test ss) ≤ 1) ↔ (has test ss ≡ false)
 once_more test ss = (
   λ h. none_times test ss (omega (arith, h)),
@@ -65,7 +65,7 @@ no_rules (Variables names ∷ ss) h = no_rules ss h
 no_rules (Rules rules ∷ ss) h = cc
 no_rules (Comment bytes ∷ ss) h = no_rules ss h
 
--- one section more
+-- With a goal, the sections are within the limits exactly if they were and had none.
 pub goal_done : (ss : List Section) → AreDone (Goal ∷ ss) ↔ (AreDone ss × (has is_goal ss ≡ false))
 goal_done ss = (
   λ h. (
@@ -89,7 +89,7 @@ goal_done ss = (
   },
 )
 
--- sections with one more of a start symbol are as they are to be exactly if they were and had none
+-- With a start symbol, the sections are within the limits exactly if they were and had none.
 pub start_done : (ss : List Section) (name : Name) → AreDone (Start name ∷ ss)
     ↔ (AreDone ss × (has is_start ss ≡ false))
 start_done ss name = (
@@ -114,7 +114,7 @@ start_done ss name = (
   },
 )
 
--- sections with one more of variables are as they are to be exactly if they were and had none
+-- With a list of variables, the sections are within the limits exactly if they were and had none.
 pub variables_done : (ss : List Section) (names : List Name) → AreDone (Variables names ∷ ss)
     ↔ (AreDone ss × (has is_variables ss ≡ false))
 variables_done ss names = (
@@ -139,7 +139,7 @@ variables_done ss names = (
   },
 )
 
--- sections with a comment more are as they are to be exactly if they were
+-- With a comment, the sections are within the limits exactly if they were.
 pub comment_done : (ss : List Section) (bytes : List ℕ) → AreDone (Comment bytes ∷ ss) ↔ AreDone ss
 comment_done ss bytes = (
   λ h. record {
@@ -160,7 +160,7 @@ comment_done ss bytes = (
   },
 )
 
--- sections that end with rules are as they are to be exactly if the rules so far are
+-- Sections that end with rules are within the limits exactly if the rules so far are.
 pub rules_done : (r : Ruling) → AreDone (section_of r) ↔ IsRulingKept r
 rules_done r = (
   λ h.
@@ -192,7 +192,7 @@ rules_done r = (
       },
 )
 
--- no rule is within the limits
+-- The empty list of rules is within the limits.
 pub no_rule : (ss : List Section) → IsRulingKept (record { sections = ss; rules = [] })
     ↔ (AreDone ss × (has is_rules ss ≡ false))
 no_rule ss = (
@@ -200,7 +200,7 @@ no_rule ss = (
   λ h. record { sections = h.0; once = h.1; few = omega arith; rules = tt; within = tt },
 )
 
--- a keyword begins a section again where there is one already
+-- The test of a repeated section selects the test of the keyword's kind.
 first_of_four : (a b c d : Bool) → (true && a) || (false && b) || (false && c) || (false && d) ≡ a
 first_of_four true b c d = refl
 first_of_four false b c d = refl
@@ -214,7 +214,7 @@ third_of_four a b true d = refl
 third_of_four a b false d = refl
 
 module _ (ss : List Section) (name : Name) (ps : List Piece) where
-  -- it begins a section that may occur only once
+  -- The keyword begins a section that may occur only once.
   begins_once : (test : Section → Bool) (g : Front) → IsKept g ps ↔ (AreDone ss × (has test ss ≡ false))
       → has_named ss name ≡ has test ss → Turns (Opened ss) (word name) ps (Some g)
   begins_once test g kept named = (
@@ -273,6 +273,6 @@ module _ (ss : List Section) (name : Name) (ps : List Piece) where
       (ap (has_named ss) (same_equal name (codes "GOAL") e) ∙ first_of_four (has is_goal ss) (has is_start ss)
       (has is_variables ss) (has is_rules ss))
 
-  -- a keyword begins a section that isn't there yet
+  -- The keyword begins a section that isn't there yet.
   pub named_turns : Turns (Opened ss) (word name) ps (section_named ss name)
   named_turns = goal_turns (is_same name (codes "GOAL")) refl

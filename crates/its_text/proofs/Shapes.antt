@@ -11,7 +11,7 @@ use Rattle.expr_text.specs.Guards.{Atoms}
 use Rattle.expr_text.specs.GuardFronts as guards
 use Rattle.its_text.specs.Pieces.{Piece}
 use Rattle.its_text.specs.Written.{LeftTerm, RightTerm, Guard, NoGuard, BehindMark, InSquares, Section}
-use Rattle.its_text.specs.Fronts.{Ruling, Led, Wrap, InCom, Alone, Aimed, Headed, Front, Between, Opened, GoalNamed}
+use Rattle.its_text.specs.Fronts.{Ruling, ArrowRead, Wrap, InCom, Alone, Aimed, Headed, Front, Between, Opened, GoalNamed}
 use Rattle.its_text.specs.Fronts.{GoalRead, StartNamed, StartOpened, StartListed, StartRead, StartClosed, Listing}
 use Rattle.its_text.specs.Fronts.{CommentNamed, AfterRule, SourceNamed, LeftOpened, LeftRead, LeftParted, SourceClosed, Costing}
 use Rattle.its_text.specs.Fronts.{Arrowed, ComNamed, ComOpened, TargetNamed, RightOpened, Arguing, TargetClosed, Targeted}
@@ -39,49 +39,49 @@ abbrev pub IsHeaded : Headed → Type 0
 IsHeaded h = IsRuling h.led.ruling × IsTarget h.target
 
 -- the targets of a state have the right form
-abbrev pub IsFront : Front → Type 0
-IsFront (Between ss) = AreSections ss
-IsFront (Opened ss) = AreSections ss
-IsFront (GoalNamed ss) = AreSections ss
-IsFront (GoalRead ss) = AreSections ss
-IsFront (StartNamed ss) = AreSections ss
-IsFront (StartOpened ss) = AreSections ss
-IsFront (StartListed ss) = AreSections ss
-IsFront (StartRead ss name) = AreSections ss
-IsFront (StartClosed ss name) = AreSections ss
-IsFront (Listing ss names) = AreSections ss
-IsFront (CommentNamed ss) = AreSections ss
-IsFront (AfterRule r) = IsRuling r
-IsFront (SourceNamed r name) = IsRuling r
-IsFront (LeftOpened r name) = IsRuling r
-IsFront (LeftRead r name a earlier) = IsRuling r
-IsFront (LeftParted r name a earlier) = IsRuling r
-IsFront (SourceClosed r t) = IsRuling r
-IsFront (Costing r t e) = IsRuling r
-IsFront (Arrowed l) = IsRuling l.ruling
-IsFront (ComNamed l) = IsRuling l.ruling
-IsFront (ComOpened l) = IsRuling l.ruling
-IsFront (TargetNamed a) = IsAimed a
-IsFront (RightOpened a) = IsAimed a
-IsFront (Arguing a arguments e) = IsAimed a
-IsFront (TargetClosed l t) = IsRuling l.ruling
-IsFront (Targeted h) = IsHeaded h
-IsFront (GuardMarked h) = IsHeaded h
-IsFront (WordRead h name) = IsHeaded h
-IsFront (MarkGuarding h g) = IsHeaded h
-IsFront (SquareOpened h) = IsHeaded h
-IsFront (SquareGuarding h g) = IsHeaded h
+abbrev pub HasRightForm : Front → Type 0
+HasRightForm (Between ss) = AreSections ss
+HasRightForm (Opened ss) = AreSections ss
+HasRightForm (GoalNamed ss) = AreSections ss
+HasRightForm (GoalRead ss) = AreSections ss
+HasRightForm (StartNamed ss) = AreSections ss
+HasRightForm (StartOpened ss) = AreSections ss
+HasRightForm (StartListed ss) = AreSections ss
+HasRightForm (StartRead ss name) = AreSections ss
+HasRightForm (StartClosed ss name) = AreSections ss
+HasRightForm (Listing ss names) = AreSections ss
+HasRightForm (CommentNamed ss) = AreSections ss
+HasRightForm (AfterRule r) = IsRuling r
+HasRightForm (SourceNamed r name) = IsRuling r
+HasRightForm (LeftOpened r name) = IsRuling r
+HasRightForm (LeftRead r name a earlier) = IsRuling r
+HasRightForm (LeftParted r name a earlier) = IsRuling r
+HasRightForm (SourceClosed r t) = IsRuling r
+HasRightForm (Costing r t e) = IsRuling r
+HasRightForm (Arrowed l) = IsRuling l.ruling
+HasRightForm (ComNamed l) = IsRuling l.ruling
+HasRightForm (ComOpened l) = IsRuling l.ruling
+HasRightForm (TargetNamed a) = IsAimed a
+HasRightForm (RightOpened a) = IsAimed a
+HasRightForm (Arguing a arguments e) = IsAimed a
+HasRightForm (TargetClosed l t) = IsRuling l.ruling
+HasRightForm (Targeted h) = IsHeaded h
+HasRightForm (GuardMarked h) = IsHeaded h
+HasRightForm (WordRead h name) = IsHeaded h
+HasRightForm (MarkGuarding h g) = IsHeaded h
+HasRightForm (SquareOpened h) = IsHeaded h
+HasRightForm (SquareGuarding h g) = IsHeaded h
 
 -- the targets of the state after a step have the right form
 abbrev pub Keeps : Option Front → Type 0
 Keeps None = ⊤
-Keeps (Some g) = IsFront g
+Keeps (Some g) = HasRightForm g
 
-when_keeps : (v : Bool) (g : Front) → IsFront g → Keeps (when v g)
+when_keeps : (v : Bool) (g : Front) → HasRightForm g → Keeps (when v g)
 when_keeps true g h = h
 when_keeps false g h = tt
 
-or_keeps : (v : Bool) (g : Front) (o : Option Front) → IsFront g → Keeps o → Keeps (if v then Some g else o)
+or_keeps : (v : Bool) (g : Front) (o : Option Front) → HasRightForm g → Keeps o → Keeps (if v then Some g else o)
 or_keeps true g o h k = h
 or_keeps false g o h k = k
 
@@ -93,18 +93,18 @@ section_named_keeps ss name h =
     (or_keeps (is_same name (codes "RULES")) (AfterRule (record { sections = ss; rules = [] })) _ (h, tt)
     (or_keeps (is_same name (codes "COMMENT")) (CommentNamed ss) None h tt))))
 
-behind_arrow_keeps : (l : Led) (name : Name) → IsRuling l.ruling → IsFront (behind_arrow l name)
+behind_arrow_keeps : (l : ArrowRead) (name : Name) → IsRuling l.ruling → HasRightForm (behind_arrow l name)
 behind_arrow_keeps l name h = go (is_same name (codes "Com_1")) refl
   where
-    go : (v : Bool) → is_same name (codes "Com_1") ≡ v → IsFront (if v then ComNamed l else behind_target_name l Alone name)
+    go : (v : Bool) → is_same name (codes "Com_1") ≡ v → HasRightForm (if v then ComNamed l else behind_target_name l Alone name)
     go true same = h
     go false other = (h, other)
 
-shut_keeps : (l : Led) (wrap : Wrap) (t : RightTerm) → IsRuling l.ruling → IsWrap wrap t.name → IsFront (shut_by l wrap t)
-shut_keeps l InCom t h w = h
-shut_keeps l Alone t h w = (h, w)
+closed_keeps : (l : ArrowRead) (wrap : Wrap) (t : RightTerm) → IsRuling l.ruling → IsWrap wrap t.name → HasRightForm (shut_by l wrap t)
+closed_keeps l InCom t h w = h
+closed_keeps l Alone t h w = (h, w)
 
--- a rule more
+-- With one more rule, the targets still have the right form.
 with_rule : (h : Headed) (guard : Guard) → IsHeaded h → IsRuling (ruling_with h guard)
 with_rule h guard k = (k.0.0, (k.1, k.0.1))
 
@@ -130,7 +130,7 @@ cost_ended_keeps r t (Some c) h = h
 
 argued_keeps : (a : Aimed) (arguments : List Sum) (o : Option Sum) (p : inner.Piece) → IsAimed a → Keeps (behind_argument a arguments o p)
 argued_keeps a arguments None p h = tt
-argued_keeps a arguments (Some s) inner.Close h = shut_keeps a.led a.wrap (record { name = a.name; arguments = s ∷ arguments }) h.0 h.1
+argued_keeps a arguments (Some s) inner.Close h = closed_keeps a.led a.wrap (record { name = a.name; arguments = s ∷ arguments }) h.0 h.1
 argued_keeps a arguments (Some s) (inner.Word name) h = tt
 argued_keeps a arguments (Some s) (inner.Digits ds) h = tt
 argued_keeps a arguments (Some s) inner.Open h = tt
@@ -196,7 +196,7 @@ arguing_step_keeps : (a : Aimed) (arguments : List Sum) (e : expression.Front) (
 arguing_step_keeps a arguments e p h = arguing_keeps a arguments e (expression_steps.step e p) p h
 
 behind_open_keeps : (a : Aimed) (p : inner.Piece) → IsAimed a → Keeps (behind_open a p)
-behind_open_keeps a inner.Close h = shut_keeps a.led a.wrap (record { name = a.name; arguments = [] }) h.0 h.1
+behind_open_keeps a inner.Close h = closed_keeps a.led a.wrap (record { name = a.name; arguments = [] }) h.0 h.1
 behind_open_keeps a inner.Open h = arguing_step_keeps a [] expression.beginning inner.Open h
 behind_open_keeps a (inner.Word other) h = arguing_step_keeps a [] expression.beginning (inner.Word other) h
 behind_open_keeps a (inner.Digits ds) h = arguing_step_keeps a [] expression.beginning (inner.Digits ds) h
@@ -207,11 +207,11 @@ behind_open_keeps a inner.Caret h = arguing_step_keeps a [] expression.beginning
 behind_open_keeps a (inner.Related sign) h = arguing_step_keeps a [] expression.beginning (inner.Related sign) h
 behind_open_keeps a (inner.Joining joint) h = arguing_step_keeps a [] expression.beginning (inner.Joining joint) h
 
--- a step keeps it
+-- A step keeps the right form of targets.
 abbrev KeepsOn : Front → Piece → Option Front → Type 0
-KeepsOn f p o = IsFront f → Keeps o
+KeepsOn f p o = HasRightForm f → Keeps o
 
--- each accepting step keeps this form
+-- Each accepting step keeps the right form of targets.
 keeps_each : HoldsOfSteps KeepsOn
 keeps_each = record {
   nowhere = λ f p k. tt;
@@ -223,7 +223,7 @@ keeps_each = record {
   start_opened_word = λ ss name k. when_keeps (is_same name (codes "FUNCTIONSYMBOLS")) (StartListed ss) k;
   start_listed_word = λ ss name k. k;
   start_said_close = λ ss start k. k;
-  start_shut_close = λ ss start k. (tt, k);
+  start_closed_close = λ ss start k. (tt, k);
   listing_word = λ ss names name k. k;
   listing_close = λ ss names k. (tt, k);
   comment_named_remark = λ ss bytes k. (tt, k);
@@ -234,8 +234,8 @@ keeps_each = record {
   left_read_comma = λ r source a earlier k. k;
   left_read_close = λ r source a earlier k. k;
   left_parted_word = λ r source a earlier name k. k;
-  left_shut_arrow = λ r t k. k;
-  left_shut_cost = λ r t k. k;
+  left_closed_arrow = λ r t k. k;
+  left_closed_cost = λ r t k. k;
   costing_piece = λ r t e p k. costing_keeps r t (expression_steps.step e p) k;
   costing_close = λ r t e k. cost_ended_keeps r t (expression_steps.finish e) k;
   arrowed_word = λ l name k. behind_arrow_keeps l name k;
@@ -245,7 +245,7 @@ keeps_each = record {
   right_opened_piece = λ a p k. behind_open_keeps a p k;
   in_argument_piece = λ a arguments e p k. arguing_step_keeps a arguments e p k;
   in_argument_comma = λ a arguments e k. parted_keeps a arguments (expression_steps.finish e) k;
-  right_shut_close = λ l t k. (k, tt);
+  right_closed_close = λ l t k. (k, tt);
   targeted_piece = λ h p k. behind_rule_keeps (ruling_with h NoGuard) p (with_rule h NoGuard k);
   targeted_mark = λ h k. k;
   targeted_square = λ h k. k;
@@ -258,6 +258,6 @@ keeps_each = record {
   square_guarding_square_close = λ h g k. square_ended_keeps h (guards.finish g) k;
 }
 
--- each step keeps it
-pub step_keeps : (f : Front) (p : Piece) → IsFront f → Keeps (step f p)
+-- Each step keeps the right form of targets.
+pub step_keeps : (f : Front) (p : Piece) → HasRightForm f → Keeps (step f p)
 step_keeps f p k = of_step KeepsOn keeps_each f p k

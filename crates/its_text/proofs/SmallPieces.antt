@@ -1,4 +1,4 @@
--- The next piece is within its limits exactly if the state shows no fault in its length or its size.
+-- The next token is within its limits exactly if the state shows no fault of its length or size.
 use Rattle.std.proofs.Common.{◌≡◌, ℕ, true, false, List, length, Option, Some, None, refl}
 use Rattle.expr_text.specs.model.Limits.{name_limit, coefficient_limit}
 use Rattle.expr_text.specs.Pieces as inner
@@ -22,14 +22,14 @@ use Rattle.its_text.specs.Fronts.{MarkGuarding}
 use Rattle.its_text.specs.Fronts.{SquareOpened, SquareGuarding}
 use Rattle.its_text.specs.Steps.{behind_argument, argument_step, guard_ended, mark_guard_step, square_guard_step}
 use Rattle.its_text.specs.Steps.{cost_step, guard_named, step}
-use Rattle.its_text.specs.FrontFaults as shown
-use Rattle.its_text.specs.FrontFaults.{OpenExpression, is_large, long_name}
+use Rattle.its_text.specs.StateFaults as shown
+use Rattle.its_text.specs.StateFaults.{OpenExpression, is_large, long_name}
 use Rattle.its_text.specs.Spelling.{IsSmallInner, IsSmallPiece}
-use Rattle.its_text.proofs.KeptFronts.{IsGoingSmall, IsNextSmall}
+use Rattle.its_text.proofs.KeptStates.{IsGoingSmall, IsNextSmall}
 use Rattle.its_text.proofs.RuleTurns.{goes_within}
 use Rattle.std.proofs.lemmas.Bool.{ltb-false as within, le-ltb as not_past}
 
--- a piece within its limits shows nothing
+-- A token within its limits isn't too large.
 not_large : (p : inner.Piece) → IsSmallInner p → is_large p ≡ false
 not_large (inner.Digits ds) h = not_past coefficient_limit (number_of ds) h
 not_large (inner.Word n) h = refl
@@ -80,11 +80,11 @@ going_small (Some g) (Remark bytes) h = tt
 going_small (Some g) Wrong h = tt
 going_small (Some g) Strange h = tt
 
--- nothing is shown against the length and the size of a small piece
+-- A state shows no fault of the length and size of a small token.
 pub next_small : (f : Front) (p : Piece) (behind : Option Piece) → IsSmallPiece p → IsNextSmall f (Some p) behind
 next_small f p behind h = (not_long p h, going_small (shown.open_expression f (Some p) behind) p h)
 
--- digits that are taken continue an expression, and so are small
+-- Digits that are accepted continue an expression, so a state that shows no fault of their size makes them small.
 costing_digits : (r : Ruling) (t : LeftTerm) (o : Option expression.Front) (g : Front) → cost_step r t o ≡ Some g
     → is_front o ≡ true
 costing_digits r t (Some f) g same = refl
@@ -161,7 +161,7 @@ digits_small (SquareOpened h) g ds behind same small = small refl
 digits_small (SquareGuarding h k) g ds behind same small =
     small (squared_digits h k (guards.step k (inner.Digits ds)) ds g refl same)
 
--- a piece that is taken is within its limits where nothing is shown against it
+-- An accepted token of which the state shows no fault of length or size is within its limits.
 pub small_next : (f g : Front) (p : Piece) (behind : Option Piece) → step f p ≡ Some g → IsNextSmall f (Some p) behind
     → IsSmallPiece p
 small_next f g (In (inner.Word n)) behind same h = within name_limit (length n) h.0

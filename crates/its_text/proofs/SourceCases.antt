@@ -1,4 +1,5 @@
--- A property of each accepting step is one of each step in the rules up to an arrow, with its cost.
+-- A property of each accepting step and of each rejection is one of each step in the rules up to an arrow, with its
+-- cost.
 use Rattle.std.specs.Prelude.{List, Option}
 use Rattle.expr_text.specs.model.Programs.{Name}
 use Rattle.expr_text.specs.Pieces as inner
@@ -128,30 +129,30 @@ module _ (P : Front → Piece → Option Front → Type 0) (each : HoldsOfSteps 
   left_parted_case r source a earlier Strange = each.nowhere (LeftParted r source a earlier) Strange
 
   -- the steps after the left term
-  pub left_shut_case : (r : Ruling) (t : LeftTerm) (p : Piece) → P (SourceClosed r t) p (step (SourceClosed r t) p)
-  left_shut_case r t (In (inner.Word name)) = each.nowhere (SourceClosed r t) (In (inner.Word name))
-  left_shut_case r t (In (inner.Digits ds)) = each.nowhere (SourceClosed r t) (In (inner.Digits ds))
-  left_shut_case r t (In inner.Open) = each.nowhere (SourceClosed r t) (In inner.Open)
-  left_shut_case r t (In inner.Close) = each.nowhere (SourceClosed r t) (In inner.Close)
-  left_shut_case r t (In inner.Plus) = each.nowhere (SourceClosed r t) (In inner.Plus)
-  left_shut_case r t (In inner.Minus) = each.nowhere (SourceClosed r t) (In inner.Minus)
-  left_shut_case r t (In inner.Times) = each.nowhere (SourceClosed r t) (In inner.Times)
-  left_shut_case r t (In inner.Caret) = each.nowhere (SourceClosed r t) (In inner.Caret)
-  left_shut_case r t (In (inner.Related sign)) = each.nowhere (SourceClosed r t) (In (inner.Related sign))
-  left_shut_case r t (In (inner.Joining joint)) = each.nowhere (SourceClosed r t) (In (inner.Joining joint))
-  left_shut_case r t Comma = each.nowhere (SourceClosed r t) Comma
-  left_shut_case r t Arrow = each.left_shut_arrow r t
-  left_shut_case r t CostOpen = each.left_shut_cost r t
-  left_shut_case r t CostClose = each.nowhere (SourceClosed r t) CostClose
-  left_shut_case r t GuardMark = each.nowhere (SourceClosed r t) GuardMark
-  left_shut_case r t SquareOpen = each.nowhere (SourceClosed r t) SquareOpen
-  left_shut_case r t SquareClose = each.nowhere (SourceClosed r t) SquareClose
-  left_shut_case r t Disjoining = each.nowhere (SourceClosed r t) Disjoining
-  left_shut_case r t (Remark bytes) = each.nowhere (SourceClosed r t) (Remark bytes)
-  left_shut_case r t Wrong = each.nowhere (SourceClosed r t) Wrong
-  left_shut_case r t Strange = each.nowhere (SourceClosed r t) Strange
+  pub left_closed_case : (r : Ruling) (t : LeftTerm) (p : Piece) → P (SourceClosed r t) p (step (SourceClosed r t) p)
+  left_closed_case r t (In (inner.Word name)) = each.nowhere (SourceClosed r t) (In (inner.Word name))
+  left_closed_case r t (In (inner.Digits ds)) = each.nowhere (SourceClosed r t) (In (inner.Digits ds))
+  left_closed_case r t (In inner.Open) = each.nowhere (SourceClosed r t) (In inner.Open)
+  left_closed_case r t (In inner.Close) = each.nowhere (SourceClosed r t) (In inner.Close)
+  left_closed_case r t (In inner.Plus) = each.nowhere (SourceClosed r t) (In inner.Plus)
+  left_closed_case r t (In inner.Minus) = each.nowhere (SourceClosed r t) (In inner.Minus)
+  left_closed_case r t (In inner.Times) = each.nowhere (SourceClosed r t) (In inner.Times)
+  left_closed_case r t (In inner.Caret) = each.nowhere (SourceClosed r t) (In inner.Caret)
+  left_closed_case r t (In (inner.Related sign)) = each.nowhere (SourceClosed r t) (In (inner.Related sign))
+  left_closed_case r t (In (inner.Joining joint)) = each.nowhere (SourceClosed r t) (In (inner.Joining joint))
+  left_closed_case r t Comma = each.nowhere (SourceClosed r t) Comma
+  left_closed_case r t Arrow = each.left_closed_arrow r t
+  left_closed_case r t CostOpen = each.left_closed_cost r t
+  left_closed_case r t CostClose = each.nowhere (SourceClosed r t) CostClose
+  left_closed_case r t GuardMark = each.nowhere (SourceClosed r t) GuardMark
+  left_closed_case r t SquareOpen = each.nowhere (SourceClosed r t) SquareOpen
+  left_closed_case r t SquareClose = each.nowhere (SourceClosed r t) SquareClose
+  left_closed_case r t Disjoining = each.nowhere (SourceClosed r t) Disjoining
+  left_closed_case r t (Remark bytes) = each.nowhere (SourceClosed r t) (Remark bytes)
+  left_closed_case r t Wrong = each.nowhere (SourceClosed r t) Wrong
+  left_closed_case r t Strange = each.nowhere (SourceClosed r t) Strange
 
-  -- in a cost
+  -- The steps within a cost.
   pub costing_case : (r : Ruling) (t : LeftTerm) (e : expression.Front) (p : Piece)
       → P (Costing r t e) p (step (Costing r t e) p)
   costing_case r t e (In p) = each.costing_piece r t e p

@@ -1,5 +1,5 @@
--- A text is read as a program exactly if it spells it within the limits: along its states the pieces read are within
--- the limits exactly if no fault is shown.
+-- A text is read as a program exactly if it spells it within the limits: along its states, what was read is within the
+-- limits exactly if no fault is shown.
 use Rattle.std.proofs.Common.{◌≡◌, ℕ, ◌≤◌, ◌↔◌, List, [], ◌∷◌, length, Option, Some, None, refl, ap, sym, subst, ◌∙◌}
 use Rattle.std.proofs.Common.{arith}
 use Rattle.expr_text.specs.model.Programs.{Name, Program}
@@ -10,28 +10,28 @@ use Rattle.expr_text.proofs.text_core.Limits.{answered_within, within_answered}
 use Rattle.its_text.specs.Pieces.{Piece}
 use Rattle.its_text.specs.Written.{WrittenRule, Section, Goal, Start, Variables, Rules, Comment, pieces_behind}
 use Rattle.its_text.specs.Numbering.{start_of, rules_of, program_of_parts}
-use Rattle.its_text.specs.Fronts.{Front, Between, front_pieces}
+use Rattle.its_text.specs.Fronts.{Front, Between, pieces_read}
 use Rattle.its_text.specs.Steps.{step, finish}
 use Rattle.its_text.specs.Lexing.{tokens_of}
 use Rattle.its_text.specs.Kinds.{Kind}
 use Rattle.its_text.specs.Grammar.{Writes, programs}
-use Rattle.its_text.specs.FrontFaults.{Tokens, last_byte, next_piece, is_start, is_rules}
+use Rattle.its_text.specs.StateFaults.{Tokens, last_byte, next_piece, is_start, is_rules}
 use Rattle.its_text.specs.Spelling.{times, AreSmall, SpellsWithin}
 use Rattle.its_text.specs.Answers.{verdict_of_answer, verdict}
 use Rattle.its_text.specs.Verdicts.{IsFaultless, IsTextOf, IsVerdict, VerdictsAreSpelled}
 use Rattle.its_text.proofs.StepLaws.{Leads, step_leads}
 use Rattle.its_text.proofs.ReaderLaws.{programs_laws, answers_all_texts}
 use Rattle.its_text.proofs.VerdictLaws.{verdict_right, whole_numbered}
-use Rattle.its_text.proofs.KeptFronts.{first, AreDone, IsKept, IsQuiet, IsNextSmall}
-use Rattle.its_text.proofs.QuietFronts.{shows_nothing}
+use Rattle.its_text.proofs.KeptStates.{first, AreDone, IsKept, IsQuiet, IsNextSmall}
+use Rattle.its_text.proofs.QuietStates.{shows_nothing}
 use Rattle.its_text.proofs.SectionTurns.{Turns}
 use Rattle.its_text.proofs.EveryStep.{ended}
 use Rattle.its_text.proofs.StepTurns.{turns}
 use Rattle.its_text.proofs.SmallPieces.{next_small, small_next}
 
--- the pieces that have been read are small, and the rest of it is within the limits
-record IsFrontWithin (f : Front) (ps : List Piece) : Type 0 where
-  small : AreSmall (front_pieces f)
+-- The tokens that have been read are small, and what was read is within the other limits.
+record IsStateWithin (f : Front) (ps : List Piece) : Type 0 where
+  small : AreSmall (pieces_read f)
   kept : IsKept f ps
 
 -- a state shows no fault at the pieces after it
@@ -39,12 +39,12 @@ record IsSilent (f : Front) (p : Piece) (ps : List Piece) : Type 0 where
   quiet : IsQuiet f (Some p) (first ps)
   small : IsNextSmall f (Some p) (first ps)
 
--- after a step the pieces read are within the limits exactly if they were before it and no fault is shown
-step_within : (f g : Front) (p : Piece) (ps : List Piece) → step f p ≡ Some g → IsFrontWithin g ps
-    ↔ (IsFrontWithin f (p ∷ ps) × IsSilent f p ps)
+-- After a step, what was read is within the limits exactly if it was before it and no fault is shown.
+step_within : (f g : Front) (p : Piece) (ps : List Piece) → step f p ≡ Some g → IsStateWithin g ps
+    ↔ (IsStateWithin f (p ∷ ps) × IsSilent f p ps)
 step_within f g p ps same =
     let turn : Turns f p ps (Some g) = subst (Turns f p ps) same (turns f p ps) in
-    let leads : front_pieces g ≡ p ∷ front_pieces f = subst (Leads (front_pieces f) p) same (step_leads f p) in (
+    let leads : pieces_read g ≡ p ∷ pieces_read f = subst (Leads (pieces_read f) p) same (step_leads f p) in (
       λ h.
           let small = subst AreSmall leads h.small in
           let k = turn.0 h.kept in
@@ -94,33 +94,33 @@ nothing_done =
       within = tt;
     }
 
--- where no fault is shown the pieces read are within the limits
-keeps_limits : KeepsLimits programs AreSectionsWithin IsFrontWithin
+-- If no fault is shown, what was read is within the limits.
+keeps_limits : KeepsLimits programs AreSectionsWithin IsStateWithin
 keeps_limits = record {
   begins = λ ps. record { small = tt; kept = nothing_done };
   goes_on = λ n done f g t rest led within nothing same. (step_within f g t.piece (pieces rest) same).1
       (within, (silent_shown n done f t rest).1 nothing);
   ends =
       λ done f ss led within same.
-      let k : IsFrontWithin (Between ss) [] = subst (λ g. IsFrontWithin g []) (ended f ss same) within in
+      let k : IsStateWithin (Between ss) [] = subst (λ g. IsStateWithin g []) (ended f ss same) within in
       record { small = k.small; done = k.kept };
 }
 
--- so sections that are answered are within them
+-- Sections that are an answer are within the limits.
 pub answered_sections : (n : ℕ) (ts : Tokens) (ss : List Section) → answer programs n ts ≡ Stands ss
     → AreSectionsWithin ss
-answered_sections = answered_within programs programs_laws AreSectionsWithin IsFrontWithin keeps_limits
+answered_sections = answered_within programs programs_laws AreSectionsWithin IsStateWithin keeps_limits
 
--- a state from which a text within the limits continues, or ends
+-- A text within the limits continues, or ends, from this state.
 abbrev LeadsWithin : Front → List Piece → Type 0
-LeadsWithin f [] = IsFrontWithin f [] × ((ss : List Section) × (finish f ≡ Some ss))
-LeadsWithin f (p ∷ ps) = IsFrontWithin f (p ∷ ps) × IsSilent f p ps
+LeadsWithin f [] = IsStateWithin f [] × ((ss : List Section) × (finish f ≡ Some ss))
+LeadsWithin f (p ∷ ps) = IsStateWithin f (p ∷ ps) × IsSilent f p ps
 
-leads_first : (f : Front) (ps : List Piece) → LeadsWithin f ps → IsFrontWithin f ps
+leads_first : (f : Front) (ps : List Piece) → LeadsWithin f ps → IsStateWithin f ps
 leads_first f [] h = h.0
 leads_first f (p ∷ ps) h = h.0
 
--- it shows nothing
+-- A state from which a text within the limits continues or ends shows no fault.
 leads_silent : (n : ℕ) (done : Tokens) (f : Front) (rest : Tokens) → LeadsWithin f (pieces rest)
     → programs.shown n done f rest ≡ []
 leads_silent n done f [] h =
@@ -132,19 +132,19 @@ shows_no_limit : ShowsNoLimit programs AreSectionsWithin LeadsWithin
 shows_no_limit = record {
   ends =
       λ done f ss led same within. (
-        subst (λ g. IsFrontWithin g []) (sym (ended f ss same)) (record { small = within.small; kept = within.done }),
+        subst (λ g. IsStateWithin g []) (sym (ended f ss same)) (record { small = within.small; kept = within.done }),
         (ss, same),
       );
   goes_back = λ done f g p ps led same h. (step_within f g p ps same).0 (leads_first g ps h);
   nothing = λ n done f rest led h. leads_silent n done f rest h;
 }
 
--- so sections within the limits are answered
+-- Sections within the limits are the answer to their text.
 pub sections_answered : (n : ℕ) (ts : Tokens) (ss : List Section) → Writes ss (pieces ts) → AreSectionsWithin ss
     → answer programs n ts ≡ Stands ss
 sections_answered = within_answered programs programs_laws AreSectionsWithin LeadsWithin shows_no_limit
 
--- a text without faults is answered
+-- A text without faults has its sections as the answer.
 faultless_answered : (bytes : List ℕ) (written : List Section) → IsFaultless bytes written
     → answer programs (length bytes) (tokens_of bytes) ≡ Stands written
 faultless_answered bytes written h =
@@ -154,7 +154,7 @@ faultless_answered bytes written h =
     go (Stands u) k = ap Stands (sym (k.only written h.text))
     go (Refused x) k = absurd (h.faultless x k.is)
 
--- where there is a start symbol, and where there are rules, there is their section
+-- If there is a start symbol, or if there are rules, there is their section.
 start_there : (ss : List Section) (name : Name) → start_of ss ≡ Some name → 1 ≤ times is_start ss
 start_there [] name same = cc
 start_there (Start other ∷ ss) name same = omega arith
@@ -204,7 +204,7 @@ text_spells bytes p t =
       within = record { small = within.small; rules = done.within };
     }
 
--- a program that a text is read as is spelled by it within the limits
+-- A text that is read as a program spells it within the limits.
 pub verdict_spells : (bytes : List ℕ) (p : Program) → verdict bytes ≡ Stands p → SpellsWithin bytes p
 verdict_spells bytes p same = text_spells bytes p (subst (IsVerdict bytes) same (verdict_right bytes))
 

@@ -1,4 +1,4 @@
--- What a text spells within the limits is a valid program.
+-- A program that a text spells within the limits is valid.
 use Rattle.std.proofs.Common.{◌≡◌, ℕ, zero, suc, ◌+◌, ◌-◌, ◌<◌, ◌≤◌, Bool, true, false, cond, not, if◌then◌else◌, ◌||◌}
 use Rattle.std.proofs.Common.{nat_eq, List, [], ◌∷◌, ◌++◌, length, length-append, Option, Some, None, refl, ap, sym}
 use Rattle.std.proofs.Common.{subst, ◌∙◌, inl, inr, arith}
@@ -28,7 +28,7 @@ use Rattle.its_text.proofs.ValidRules.{cost_extends, cost_along, cost_is_read, c
 use Rattle.its_text.proofs.ValidRules.{read_in_rule, no_fewer}
 use Rattle.its_text.proofs.Reading.{some_is, none_is_some}
 
--- the symbols have names that differ, and no more places than the limit
+-- The symbols have distinct names, and no more places than the limit.
 abbrev AreSymbolsGood : List Symbol → Type 0
 AreSymbolsGood symbols = AllByRecursion IsValidSymbol symbols × AreDistinct (names_of symbols)
 
@@ -53,7 +53,7 @@ symbols_good (r ∷ rules) n w =
     symbol_good (with_left (symbols_of rules) r.left) (term_in r.target).name (length (term_in r.target).arguments)
     (symbol_good (symbols_of rules) r.left.name (length r.left.arguments) (symbols_good rules n.1 w.1) n.0.source w.0.left) n.0.target w.0.right
 
--- a symbol that is there stays there, and a new one is there
+-- A known symbol stays known after one more is read.
 pub stays_there : (symbols : List Symbol) (n name : Name) (arity : ℕ) → is_among n (names_of symbols) ≡ true → is_among n (names_of (with_symbol symbols name arity)) ≡ true
 stays_there symbols n name arity h = go (is_among name (names_of symbols))
   where
@@ -61,7 +61,7 @@ stays_there symbols n name arity h = go (is_among name (names_of symbols))
     go true = h
     go false = ap (is_among n) (names_one_more symbols (record { name = name; arity = arity })) ∙ among_more n (names_of symbols) (name ∷ []) h
 
--- a symbol is there once it is read
+-- A symbol is known after it is read.
 pub comes_there : (symbols : List Symbol) (name : Name) (arity : ℕ) → is_among name (names_of (with_symbol symbols name arity)) ≡ true
 comes_there symbols name arity = go (is_among name (names_of symbols)) refl
   where
@@ -69,11 +69,11 @@ comes_there symbols name arity = go (is_among name (names_of symbols)) refl
     go true e = e
     go false e = ap (is_among name) (names_one_more symbols (record { name = name; arity = arity })) ∙ among_last name (names_of symbols)
 
--- both symbols of a rule are among some
+-- Both symbols of a rule are among these.
 abbrev pub IsKnown : List Symbol → WrittenRule → Type 0
 IsKnown symbols r = (is_among r.left.name (names_of symbols) ≡ true) × (is_among (term_in r.target).name (names_of symbols) ≡ true)
 
--- rules whose symbols are all there have them there with one symbol more
+-- Rules whose symbols are known stay so with one more symbol.
 pub all_stay : (symbols : List Symbol) (name : Name) (arity : ℕ) (rules : List WrittenRule) → AllByRecursion (IsKnown symbols) rules → AllByRecursion (IsKnown (with_symbol symbols name arity)) rules
 all_stay symbols name arity [] h = tt
 all_stay symbols name arity (r ∷ rules) h =
@@ -91,7 +91,7 @@ all_known (r ∷ rules) =
       all_stay left (term_in r.target).name (length (term_in r.target).arguments) rules (all_stay (symbols_of rules) r.left.name (length r.left.arguments) rules (all_known rules)),
     )
 
--- the number of a symbol that is there
+-- There are as many names of symbols as symbols.
 names_count : (symbols : List Symbol) → length (names_of symbols) ≡ length symbols
 names_count [] = refl
 names_count (s ∷ symbols) = let e = names_count symbols in omega (arith, e)
@@ -116,7 +116,7 @@ places_at (s ∷ symbols) n h = go (is_same n s.name) refl h (λ k. places_at sy
         ap (λ (v : Bool). if v then s.arity else arity_of symbols n) e
         ∙ (ih k ∙ at (suc (number_of symbols n)) (ap (λ (v : Bool). cond (not v) (1 + number_of symbols n) 0) e ∙ (let one : 1 + number_of symbols n ≡ suc (number_of symbols n) = omega arith in one)))
 
--- a rule is valid
+-- A rule within the limits is valid by numbers.
 rule_valid : (p : Program) (r : WrittenRule) → NamedRule r → IsRuleWithin r → IsRule p.symbols r → IsKnown p.symbols r → IsValidRule p (rule_numbered p.symbols r)
 rule_valid p r n w is known =
     let names = rule_names r in
@@ -147,7 +147,7 @@ rule_valid p r n w is known =
           (cost_valid names r.cost (cost_along arrow names r.cost behind (cost_is_read (left_names r.left) r.cost)) w.cost);
     }
 
--- all are
+-- Rules within the limits are valid by numbers.
 rules_valid : (p : Program) (rules : List WrittenRule) → AllByRecursion NamedRule rules → AreRulesWithin rules → AreRules p.symbols rules → AllByRecursion (IsKnown p.symbols) rules
     → AllByRecursion (IsValidRule p) (rules_numbered p.symbols rules)
 rules_valid p [] n w is known = tt
@@ -159,7 +159,7 @@ rules_count symbols [] = refl
 rules_count symbols (r ∷ rules) =
     let e = length-append (rules_numbered symbols rules) (rule_numbered symbols r ∷ []) in let k = rules_count symbols rules in omega (arith, e, k)
 
--- the left term of the first rule that leaves the start symbol: it is that of a rule, and has the symbol's name
+-- If a test holds of an element of a list or of one more, it finds one in the list with that one appended.
 any_one_more : {X : Type 0} (test : X → Bool) (xs : List X) (x : X) → (list_any test xs ≡ true) ⊎ (test x ≡ true) → list_any test (xs ++ x ∷ []) ≡ true
 any_one_more test [] x (inl h) = cc
 any_one_more test [] x (inr h) = rw h refl

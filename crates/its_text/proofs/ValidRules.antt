@@ -59,12 +59,12 @@ mutual
   base_below names (Named n) h = position_below n names h
   base_below names (Bracketed s) h = sum_below names s h
 
--- names that are read go to the end
+-- The names after arguments are those before, with new ones at the end.
 pub sums_extends : (names : List Name) (sums : List Sum) → Extends names (with_sums names sums)
 sums_extends names [] = extends_self names
 sums_extends names (s ∷ sums) = extended names (with_sums names sums) (with_sum (with_sums names sums) s) (sums_extends names sums) (sum_extends (with_sums names sums) s)
 
--- a cost extends the names before it
+-- The names after a cost are those before, with new ones at the end.
 pub cost_extends : (names : List Name) (cost : Option Sum) → Extends names (with_cost names cost)
 cost_extends names None = extends_self names
 cost_extends names (Some c) = sum_extends names c
@@ -73,23 +73,23 @@ maybe_extends : (names : List Name) (o : Option Atoms) → Extends names (with_m
 maybe_extends names None = extends_self names
 maybe_extends names (Some atoms) = atoms_extends names atoms
 
--- the names of a guard go to the end of those before it
+-- The names after a guard are those before, with new ones at the end.
 pub guard_extends : (names : List Name) (g : Guard) → Extends names (with_guard names g)
 guard_extends names NoGuard = extends_self names
 guard_extends names (BehindMark o) = maybe_extends names o
 guard_extends names (InSquares o) = maybe_extends names o
 
--- arguments whose names are among names
+-- The names of the arguments are among these names.
 abbrev pub AllRead : List Name → List Sum → Type 0
 AllRead names [] = ⊤
 AllRead names (s ∷ sums) = SumReads names s × AllRead names sums
 
--- a cost whose names are among names
+-- The names of the cost are among these names.
 abbrev pub CostReads : List Name → Option Sum → Type 0
 CostReads names None = ⊤
 CostReads names (Some c) = SumReads names c
 
--- the names of a cost are among any names to which its own extend
+-- The names of a cost that are among some names are among any that extend these.
 pub cost_along : (names last : List Name) (cost : Option Sum) → Extends names last → CostReads names cost → CostReads last cost
 cost_along names last None e h = tt
 cost_along names last (Some c) e h = sum_along names last c e h
@@ -99,7 +99,7 @@ pub cost_is_read : (names : List Name) (cost : Option Sum) → CostReads (with_c
 cost_is_read names None = tt
 cost_is_read names (Some c) = sum_is_read names c
 
--- the names of arguments are among any names to which theirs extend
+-- The names of arguments that are among some names are among any that extend these.
 pub all_read_more : (names last : List Name) (sums : List Sum) → Extends names last → AllRead names sums → AllRead last sums
 all_read_more names last [] e h = tt
 all_read_more names last (s ∷ sums) e h = (sum_along names last s e h.0, all_read_more names last sums e h.1)
@@ -121,7 +121,7 @@ pub cost_valid : (names : List Name) (cost : Option Sum) → CostReads names cos
 cost_valid names None h w = tt
 cost_valid names (Some c) h w = record { variables = sum_below names c h; expands = w.expanded }
 
--- a cost counts as one atom at most, and by numbers as it is written
+-- A cost counts as at most one atom, and as many by numbers as in its written form.
 pub at_most_one : (cost : Option Sum) → atoms_of_cost cost ≤ 1
 at_most_one None = omega arith
 at_most_one (Some c) = omega arith
@@ -136,7 +136,7 @@ arguments_count names [] = refl
 arguments_count names (s ∷ sums) =
     let e = length-append (sums_terms names sums) (sum_term names s ∷ []) in let k = arguments_count names sums in omega (arith, e, k)
 
--- where none of some expressions has a fault, the first one has none
+-- If none of several expressions has a fault, the first one has none.
 first_none : (d : Term) (others : List Term) → first_of_all (d ∷ others) ≡ None → polynomials.first_fault d ≡ None
 first_none d others h = go (polynomials.first_fault d) h
   where
@@ -178,7 +178,7 @@ guard_valid cost names (InSquares None) w = (tt, (let one = at_most_one cost in 
 guard_valid cost names (InSquares (Some atoms)) w =
     (atoms_valid (with_atoms names atoms) atoms (atoms_are_read names atoms) w.1, (let e = atoms_count (with_atoms names atoms) atoms in let k = w.0 in omega (arith, e, k)))
 
--- the arguments' names are among those of the whole rule
+-- The names of the arguments are among those of the whole rule.
 pub read_in_rule : (names : List Name) (sums : List Sum) (g : Guard) → AllRead (with_guard (with_sums names sums) g) sums
 read_in_rule names sums g = all_read_more (with_sums names sums) (with_guard (with_sums names sums) g) sums (guard_extends (with_sums names sums) g) (sums_are_read names sums)
 

@@ -1,4 +1,4 @@
--- The verdict on a text is the only right one, since the reader's answer is.
+-- The verdict on a text is the only right one, since the reader's answer is the only right answer.
 use Rattle.std.proofs.Common.{◌≡◌, ℕ, List, length, Option, Some, None, refl, ap, sym, subst, ◌∙◌, inl, inr}
 use Rattle.std.specs.Prelude.{◌⊎◌}
 use Rattle.expr_text.specs.model.Programs.{Name, Program}
@@ -18,7 +18,7 @@ use Rattle.its_text.specs.Spelling.{Spells}
 use Rattle.its_text.specs.Verdicts.{IsFaultless, IsVerdict, IsOnlyVerdict, VerdictsAreRight}
 use Rattle.its_text.proofs.ReaderLaws.{answers_all_texts, one_first_fault}
 
--- sections without faults are a program, or a required part is missing
+-- Sections without faults are a program, or a required part is missing.
 module _ (bytes : List ℕ) (written : List Section) (stands : IsFaultless bytes written) where
   of_program : (at : ℕ) (o : Option Program) → program_numbered written ≡ o → whole (length bytes) (tokens_of bytes) written (start_of written) (rules_of written) ≡ program_or at o → IsVerdict bytes (program_or at o)
   of_program at None e k = inr (record { written = written; stands = stands; lacks = k })
@@ -45,7 +45,7 @@ judged_right bytes (Refused x) h = inl h
 pub verdict_right : (bytes : List ℕ) → IsVerdict bytes (verdict bytes)
 verdict_right bytes = judged_right bytes (answer programs (length bytes) (tokens_of bytes)) (answers_all_texts.each (length bytes) (tokens_of bytes))
 
--- the verdict on sections that are a program by numbers
+-- The verdict on sections that are a program by numbers is that program.
 pub whole_numbered : (n : ℕ) (ts : List (Token Piece)) (written : List Section) (p : Program) (start : Option Name) (rules : Option (List WrittenRule)) → program_of_parts start rules ≡ Some p → whole n ts written start rules ≡ Stands p
 whole_numbered n ts written p None None e = cc
 whole_numbered n ts written p None (Some rules) e = cc
@@ -74,11 +74,11 @@ only_judged bytes (Refused x) (Refused y) h (inr l) = absurd (l.stands.faultless
 verdict_only : (bytes : List ℕ) (b : Answer Program Kind) → IsVerdict bytes b → b ≡ verdict bytes
 verdict_only bytes b right = only_judged bytes b (answer programs (length bytes) (tokens_of bytes)) (answers_all_texts.each (length bytes) (tokens_of bytes)) right
 
--- so the verdict is the only right one
+-- The verdict is the only right one.
 pub only_verdict : (bytes : List ℕ) → IsOnlyVerdict bytes (verdict bytes)
 only_verdict bytes = record { right = verdict_right bytes; only = verdict_only bytes }
 
--- as a law
+-- The law that the verdict on a text is the only right one.
 pub verdicts_are_right : VerdictsAreRight
 verdicts_are_right = record {
   each = verdict_right;

@@ -1,5 +1,5 @@
--- Along each step after `:|:` and a name after it what is read is within the limits exactly if it was before, and
--- the state is quiet.
+-- Each step after `:|:` and a name after it keeps the limits: what was read is within them after the step exactly if it
+-- was before and the state is quiet (it shows no fault at the next token).
 use Rattle.std.proofs.Common.{◌≡◌, Bool, true, false, if◌then◌else◌, ◌&&◌, ◌↔◌, nat_le, List, ◌∷◌, length}
 use Rattle.std.proofs.Common.{Option, Some, None, refl, ap, sym, subst, ◌∙◌}
 use Rattle.expr_text.specs.model.Programs.{Name}
@@ -12,10 +12,10 @@ use Rattle.its_text.specs.Written.{NoGuard, BehindMark}
 use Rattle.its_text.specs.Fronts.{Headed, rule_with, ruling_with, Front, GuardMarked, WordRead, MarkGuarding}
 use Rattle.its_text.specs.Steps.{guard_named, behind_mark, behind_word}
 use Rattle.its_text.specs.FrontNames.{headed_names}
-use Rattle.its_text.specs.FrontFaults as shown
-use Rattle.its_text.specs.FrontFaults.{open_expression_in, is_open}
+use Rattle.its_text.specs.StateFaults as shown
+use Rattle.its_text.specs.StateFaults.{open_expression_in, is_open}
 use Rattle.its_text.proofs.RoomLaws.{contrary}
-use Rattle.its_text.proofs.KeptFronts.{first, IsHeadedKept, HasGuardKept, IsGoingQuiet}
+use Rattle.its_text.proofs.KeptStates.{first, IsHeadedKept, HasGuardKept, IsGoingQuiet}
 use Rattle.its_text.proofs.SectionTurns.{Turns, rules_done}
 use Rattle.its_text.proofs.LeftTurns.{room_for_rule}
 use Rattle.its_text.proofs.MadeRules.{no_marked}
@@ -93,7 +93,7 @@ guard_marked_turns h inner.Caret ps = tt
 guard_marked_turns h (inner.Related sign) ps = tt
 guard_marked_turns h (inner.Joining joint) ps = tt
 
--- a step after such a name that continues its atom
+-- A step after such a name that continues its atom keeps the limits exactly if the state is quiet.
 as_guarding : (h : Headed) (name : Name) (p : inner.Piece) (ps : List Piece) → is_open (Some (In p)) ≡ false
     → shown.too_many_rules (WordRead h name) (Some (In p)) (first ps)
     ≡ shown.too_many_rules (MarkGuarding h (guard_named name)) (Some (In p)) (first ps)

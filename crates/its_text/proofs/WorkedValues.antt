@@ -1,4 +1,4 @@
--- What was worked out by hand holds.
+-- The worked values of texts hold.
 use Rattle.std.specs.Prelude.{refl}
 use Rattle.its_text.specs.Worked.{FirstFaults, Programs, WorkedValues}
 

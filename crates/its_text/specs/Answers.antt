@@ -10,7 +10,7 @@ use Rattle.its_text.specs.Numbering.{start_of, rules_of, first_leaving, program_
 use Rattle.its_text.specs.Grammar.{programs}
 use Rattle.its_text.specs.Kinds.{Kind, MissingSection, StartUnknown}
 
--- how many tokens come before the start symbol in its section
+-- The number of tokens before the start symbol in its section.
 abbrev pub or_index : Option ℕ → ℕ → Section → Option ℕ
 or_index found before (Start name) = Some (before + 4)
 or_index found before Goal = found
@@ -22,7 +22,7 @@ abbrev pub start_index : List Section → Option ℕ
 start_index [] = None
 start_index (s ∷ sections) = or_index (start_index sections) (length (pieces_behind sections)) s
 
--- the position of a token
+-- The position of a token.
 abbrev pub at_index : List (Token Piece) → ℕ → ℕ
 at_index [] i = 0
 at_index (t ∷ ts) zero = t.at
@@ -32,13 +32,13 @@ abbrev pub at_maybe : List (Token Piece) → Option ℕ → ℕ
 at_maybe ts None = 0
 at_maybe ts (Some i) = at_index ts i
 
--- the program, or the fault at the start symbol where it is the source of no rule
+-- The program, or the fault at the start symbol if it is the source of no rule.
 abbrev pub program_or : ℕ → Option Program → Answer Program Kind
 program_or at None = Refused (record { kind = StartUnknown; at = at })
 program_or at (Some p) = Stands p
 
--- the verdict on a text of n bytes that has no other fault: a section is missing, or the start symbol is the source of
--- no rule, or it is a program
+-- The verdict on a text of n bytes that has no other fault: a section is missing, or the start symbol is the source of
+-- no rule, or it is a program.
 abbrev pub whole : ℕ → List (Token Piece) → List Section → Option Name → Option (List WrittenRule) → Answer Program Kind
 whole n ts sections (Some start) (Some rules) =
     program_or (at_maybe ts (start_index sections)) (program_from start rules (first_leaving start rules))
@@ -48,6 +48,6 @@ abbrev pub verdict_of_answer : ℕ → List (Token Piece) → Answer (List Secti
 verdict_of_answer n ts (Refused x) = Refused x
 verdict_of_answer n ts (Stands sections) = whole n ts sections (start_of sections) (rules_of sections)
 
--- the verdict on bytes
+-- The verdict on bytes.
 abbrev pub verdict : List ℕ → Answer Program Kind
 verdict bytes = verdict_of_answer (length bytes) (tokens_of bytes) (answer programs (length bytes) (tokens_of bytes))

@@ -1,4 +1,4 @@
--- The reader of program texts: trees with the pieces that they are written as.
+-- The reader of program texts: trees, and the tokens that they are written as.
 use Rattle.std.specs.Prelude.{◌≡◌, codes, List, [], ◌∷◌, IsFalse, ⊤}
 use Rattle.expr_text.specs.text_core.Names.{is_same}
 use Rattle.expr_text.specs.text_core.Readers.{Reader, onto}
@@ -8,9 +8,9 @@ use Rattle.its_text.specs.Written.{pieces_behind}
 use Rattle.its_text.specs.Fronts.{Front}
 use Rattle.its_text.specs.Steps.{beginning, step, finish}
 use Rattle.its_text.specs.Kinds.{Kind, kind_number}
-use Rattle.its_text.specs.FrontFaults.{front_faults, break_kind}
+use Rattle.its_text.specs.StateFaults.{faults_of_state, break_kind}
 
--- after an arrow `Com_1` is no symbol of its own
+-- After an arrow, `Com_1` is no symbol of its own.
 abbrev pub IsTarget : Target → Type 0
 IsTarget (Marked t) = ⊤
 IsTarget (Bare t) = IsFalse (is_same t.name (codes "Com_1"))
@@ -30,12 +30,12 @@ abbrev pub AreSections : List Section → Type 0
 AreSections [] = ⊤
 AreSections (s ∷ sections) = IsSection s × AreSections sections
 
--- the sections are written as these pieces
+-- The sections are written as these tokens.
 pub record Writes (sections : List Section) (ps : List Piece) : Type 0 where
   pub are : AreSections sections
   pub pieces : onto (pieces_behind sections) [] ≡ ps
 
--- the reader
+-- The reader of program texts.
 abbrev pub programs : Reader Piece (List Section) Front Kind
 programs = record {
   Writes = Writes;
@@ -43,6 +43,6 @@ programs = record {
   step = step;
   finish = finish;
   number = kind_number;
-  shown = front_faults;
+  shown = faults_of_state;
   off = break_kind;
 }

@@ -1,7 +1,7 @@
 -- The kinds of refusals of a program's text, and their order at one byte.
 use Rattle.std.specs.Prelude.{ℕ}
 
--- the things that can be too many or too long
+-- The things that can be too many or too long.
 pub data LimitKind : Type 0 where
   TooManyRules : LimitKind
   TooManyArguments : LimitKind
@@ -12,7 +12,7 @@ pub data LimitKind : Type 0 where
   TooManyTerms : LimitKind
   HighDegree : LimitKind
 
--- why a text is refused
+-- Why a text is refused.
 pub data Kind : Type 0 where
   NotAscii : Kind
   Syntax : Kind
@@ -27,7 +27,7 @@ pub data Kind : Type 0 where
   StartUnknown : Kind
   Disjunction : Kind
 
--- of two refusals at one byte the one with the lesser number is reported; of two limits the one that is listed first
+-- Of two refusals at one byte, the one with the lower number is reported; of two limits, the one listed first.
 abbrev pub limit_number : LimitKind → ℕ
 limit_number TooManyRules = 10
 limit_number TooManyArguments = 11

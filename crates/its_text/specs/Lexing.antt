@@ -1,5 +1,5 @@
--- The tokens of a program's text: the lexer takes the longest piece; white space may separate pieces; and where a
--- section begins with `COMMENT`, everything up to the matching bracket is one piece.
+-- The tokens of a program's text: the lexer takes the longest token; white space may separate tokens; and in a section
+-- that begins with `COMMENT`, everything up to the matching bracket is one token.
 use Rattle.std.specs.Prelude.{ℕ, zero, suc, ◌+◌, if◌then◌else◌, ◌==◌, ◌&&◌, nat_lt, List, [], ◌∷◌, length, codes}
 use Rattle.std.specs.Prelude.{Option, Some, None}
 use Rattle.std.specs.Char.{is_ascii_digit}
@@ -12,33 +12,33 @@ use Rattle.expr_text.specs.Pieces as inner
 use Rattle.its_text.specs.Pieces.{Piece, In, Comma, Arrow, CostOpen, CostClose, GuardMark, SquareOpen, SquareClose}
 use Rattle.its_text.specs.Pieces.{Disjoining, Remark, Wrong, Strange, word, digits, open_bracket, close_bracket}
 
--- a piece of this many bytes
+-- The lexeme of a token with this many bytes.
 abbrev pub lexeme : Piece → ℕ → Lexeme (Option Piece)
 lexeme p len = record { piece = Some p; len = len }
 
--- the lexeme of bytes that begin with `-`
+-- The lexeme of bytes that begin with `-`.
 abbrev pub minus_at : List ℕ → Lexeme (Option Piece)
 minus_at bytes =
     if begins_with 62 bytes then lexeme Arrow 2
     else if begins_with 123 bytes then lexeme CostOpen 2
     else lexeme (In inner.Minus) 1
 
--- one of two relations, by whether `=` follows
+-- The lexeme of one of two relations, by whether `=` follows.
 abbrev pub related_at : inner.Sign → inner.Sign → List ℕ → Lexeme (Option Piece)
 related_at with_equal alone bytes =
     if begins_with 61 bytes then lexeme (In (inner.Related with_equal)) 2 else lexeme (In (inner.Related alone)) 1
 
--- a piece of two bytes, where the second one follows
+-- The lexeme of a token of two bytes if the second one follows.
 abbrev pub pair_at : ℕ → Piece → List ℕ → Lexeme (Option Piece)
 pair_at second p bytes = if begins_with second bytes then lexeme p 2 else lexeme Wrong 1
 
--- `:|:`, where its other bytes follow
+-- The lexeme of `:|:` if its other bytes follow.
 abbrev pub guard_mark_at : List ℕ → Lexeme (Option Piece)
 guard_mark_at [] = lexeme Wrong 1
 guard_mark_at (b ∷ []) = lexeme Wrong 1
 guard_mark_at (b ∷ c ∷ bytes) = if (b == 124) && (c == 58) then lexeme GuardMark 3 else lexeme Wrong 1
 
--- the lexeme of bytes that begin with any other byte
+-- The lexeme of bytes that begin with any other byte.
 abbrev pub mark_at : ℕ → List ℕ → Lexeme (Option Piece)
 mark_at b bytes =
     if b == 40 then lexeme open_bracket 1
@@ -61,7 +61,7 @@ mark_at b bytes =
     else if nat_lt 127 b then lexeme Strange 1
     else lexeme Wrong 1
 
--- the first lexeme of bytes outside a comment
+-- The first lexeme of bytes outside a comment.
 abbrev pub lexeme_at : ℕ → List ℕ → Lexeme (Option Piece)
 lexeme_at b bytes =
     if is_white_space b then record { piece = None; len = 1 }
@@ -71,46 +71,46 @@ lexeme_at b bytes =
     (1 + length (prefix is_ascii_digit bytes))
     else mark_at b bytes
 
--- a byte of a comment opens a bracket, closes one, or does neither
-pub data Bend : Type 0 where
-  Opening : Bend
-  Closing : Bend
-  Neither : Bend
+-- A byte of a comment opens a bracket, closes one, or does neither.
+pub data BracketSort : Type 0 where
+  Opening : BracketSort
+  Closing : BracketSort
+  Neither : BracketSort
 
-abbrev pub bend_of : ℕ → Bend
-bend_of b = if b == 40 then Opening else if b == 41 then Closing else Neither
+abbrev pub bracket_sort_of : ℕ → BracketSort
+bracket_sort_of b = if b == 40 then Opening else if b == 41 then Closing else Neither
 
--- one more byte, if there are this many
+-- One more than a number of bytes, if there is one.
 abbrev pub one_more : Option ℕ → Option ℕ
 one_more None = None
 one_more (Some n) = Some (suc n)
 
--- the number of bytes up to the closing bracket, from a byte that may open or close one, with this many brackets open
--- in the comment
-abbrev pub closing_by : Bend → (ℕ → Option ℕ) → ℕ → Option ℕ
+-- The number of bytes up to the closing bracket, from a byte that may open or close one, with this many brackets open
+-- in the comment.
+abbrev pub closing_by : BracketSort → (ℕ → Option ℕ) → ℕ → Option ℕ
 closing_by Opening behind depth = one_more (behind (suc depth))
 closing_by Closing behind zero = Some 1
 closing_by Closing behind (suc depth) = one_more (behind depth)
 closing_by Neither behind depth = one_more (behind depth)
 
--- how many bytes of a comment there are, with the bracket that closes it, where one does
+-- The number of bytes of a comment, with the bracket that closes it, if one does.
 abbrev pub closing_at : List ℕ → ℕ → Option ℕ
 closing_at [] depth = None
-closing_at (b ∷ bytes) depth = closing_by (bend_of b) (closing_at bytes) depth
+closing_at (b ∷ bytes) depth = closing_by (bracket_sort_of b) (closing_at bytes) depth
 
--- the mode of the lexer: between sections, after the bracket that opens one, inside one with this many open brackets,
--- or after the keyword of a comment
+-- The mode of the lexer: between sections, after the bracket that opens one, inside one with this many open brackets,
+-- or after the keyword of a comment.
 pub data Mode : Type 0 where
   Outside : Mode
   AtKeyword : Mode
   Within : ℕ → Mode
   InComment : Mode
 
--- after a keyword
+-- The mode after a keyword.
 abbrev pub behind_keyword : Name → Mode
 behind_keyword name = if is_same name (codes "COMMENT") then InComment else Within 0
 
--- the mode after a piece
+-- The mode after a token.
 abbrev pub mode_behind : Mode → Option Piece → Mode
 mode_behind mode None = mode
 mode_behind Outside (Some (In inner.Open)) = AtKeyword
@@ -125,29 +125,29 @@ mode_behind (Within (suc depth)) (Some (In inner.Close)) = Within depth
 mode_behind (Within depth) (Some p) = Within depth
 mode_behind InComment (Some p) = Outside
 
--- the first so many elements of a list
-abbrev pub take_front : ℕ → List ℕ → List ℕ
-take_front zero bytes = []
-take_front (suc n) [] = []
-take_front (suc n) (b ∷ bytes) = b ∷ take_front n bytes
+-- The first n elements of a list.
+abbrev pub take_prefix : ℕ → List ℕ → List ℕ
+take_prefix zero bytes = []
+take_prefix (suc n) [] = []
+take_prefix (suc n) (b ∷ bytes) = b ∷ take_prefix n bytes
 
--- the lexeme of a comment: its bytes up to the bracket that closes it; one that isn't closed is no piece, and the text
--- ends with it
+-- The lexeme of a comment: its bytes up to the bracket that closes it; one that isn't closed is no token, and the text
+-- ends with it.
 abbrev pub remark_of : ℕ → List ℕ → Option ℕ → Lexeme (Option Piece)
 remark_of b bytes None = record { piece = None; len = 1 + length bytes }
-remark_of b bytes (Some len) = lexeme (Remark (take_front len (b ∷ bytes))) len
+remark_of b bytes (Some len) = lexeme (Remark (take_prefix len (b ∷ bytes))) len
 
--- the first lexeme of bytes, by the mode
+-- The first lexeme of bytes, by the mode.
 abbrev pub lexeme_in : Mode → ℕ → List ℕ → Lexeme (Option Piece)
 lexeme_in Outside b bytes = lexeme_at b bytes
 lexeme_in AtKeyword b bytes = lexeme_at b bytes
 lexeme_in (Within depth) b bytes = lexeme_at b bytes
 lexeme_in InComment b bytes = remark_of b bytes (closing_at (b ∷ bytes) 0)
 
--- how texts of programs are cut
+-- The lexer of program texts.
 abbrev pub lexer : Lexer Piece Mode
 lexer = record { lexeme_in = lexeme_in; mode_behind = mode_behind }
 
--- the tokens of a text
+-- The tokens of a text.
 abbrev pub tokens_of : List ℕ → List (Token Piece)
 tokens_of bytes = tokens_in lexer Outside 0 0 bytes

@@ -7,13 +7,13 @@ pub mod Fronts
 pub mod Steps
 pub mod FrontNames
 pub mod Kinds
-pub mod FrontFaults
+pub mod StateFaults
 pub mod Grammar
 pub mod Spelling
 pub mod Answers
 pub mod Verdicts
--- laws, and values that were worked out by hand
+-- Laws and worked values.
 pub mod Worked
 pub mod WorkedLimits
--- the crates below, which callers name through this one
+-- The crates below, which callers name through this one.
 pub use Rattle.expr_text.specs as expr_text

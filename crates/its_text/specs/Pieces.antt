@@ -1,10 +1,10 @@
--- The pieces of a program's text.
+-- The tokens of a program's text.
 use Rattle.std.specs.Prelude.{ℕ, List}
 use Rattle.expr_text.specs.model.Programs.{Name}
 use Rattle.expr_text.specs.Pieces as inner
 
--- a piece: one of an expression or a guard, a sign of its own (`-{` and `}>` enclose a cost), the contents of a comment
--- with its closing bracket, bytes that begin no piece, or a byte over 127
+-- A token: one of an expression or a guard, a sign of its own (`-{` and `}>` enclose a cost), the contents of a comment
+-- with its closing bracket, bytes that begin no token, or a byte over 127.
 pub data Piece : Type 0 where
   In : inner.Piece → Piece
   Comma : Piece
@@ -19,7 +19,7 @@ pub data Piece : Type 0 where
   Wrong : Piece
   Strange : Piece
 
--- a name, a row of digits, and the round brackets
+-- The tokens of a name, of a row of digits, and of the round brackets.
 abbrev pub word : Name → Piece
 word name = In (inner.Word name)
 

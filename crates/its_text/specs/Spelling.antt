@@ -20,52 +20,52 @@ use Rattle.its_text.specs.Numbering.{is_com, term_in, symbols_of, arity_of, atom
 use Rattle.its_text.specs.Numbering.{program_numbered}
 use Rattle.its_text.specs.Grammar.{Writes}
 use Rattle.expr_text.specs.Differences.{differences, first_of_all}
-use Rattle.its_text.specs.FrontFaults.{is_goal, is_start, is_variables, is_rules}
+use Rattle.its_text.specs.StateFaults.{is_goal, is_start, is_variables, is_rules}
 
--- how many sections pass a test
+-- The number of sections that pass a test.
 abbrev pub times : (Section → Bool) → List Section → ℕ
 times test [] = 0
 times test (s ∷ sections) = if test s then suc (times test sections) else times test sections
 
--- sections come in any order; there are the start symbol and the rules, and no kind but comments comes twice
-pub record StandOnce (sections : List Section) : Type 0 where
+-- The sections come in any order; there are the start symbol and the rules, and no kind but comments comes twice.
+pub record OccurOnce (sections : List Section) : Type 0 where
   pub goal : times is_goal sections ≤ 1
   pub start : times is_start sections ≡ 1
   pub variables : times is_variables sections ≤ 1
   pub rules : times is_rules sections ≡ 1
 
--- a term has as many arguments as its symbol has places
+-- A term has as many arguments as its symbol has places.
 abbrev pub HasArity : List Symbol → Name → ℕ → Type 0
 HasArity symbols name arity = arity_of symbols name ≡ arity
 
--- no left argument is repeated, the target's symbol isn't `Com_` and digits, and both terms have as many arguments as
--- their symbols have places
+-- No left argument is repeated, the target's symbol isn't `Com_` and digits, and both terms have as many arguments as
+-- their symbols have places.
 pub record IsRule (symbols : List Symbol) (r : WrittenRule) : Type 0 where
   pub left : AreDistinct r.left.arguments
   pub target : IsFalse (is_com (term_in r.target).name)
   pub source_arity : HasArity symbols r.left.name (length r.left.arguments)
   pub target_arity : HasArity symbols (term_in r.target).name (length (term_in r.target).arguments)
 
--- each is one
+-- Each rule meets these conditions, with the symbols before it.
 abbrev pub AreRules : List Symbol → List WrittenRule → Type 0
 AreRules symbols [] = ⊤
 AreRules symbols (r ∷ rules) = IsRule symbols r × AreRules symbols rules
 
--- the rules are those of a program
+-- The rules, if there are some, meet these conditions.
 abbrev pub HaveRules : Option (List WrittenRule) → Type 0
 HaveRules None = ⊤
 HaveRules (Some rules) = AreRules (symbols_of rules) rules
 
--- the bytes spell the program: they are the text of sections in a permitted order and number, which are, by numbers,
--- the program; the start symbol is then the source of a rule
+-- The bytes spell the program: they are the text of sections in a permitted order and number, which are, by numbers,
+-- the program; the start symbol is then the source of a rule.
 pub record Spells (bytes : List ℕ) (p : Program) : Type 0 where
   pub written : List Section
   pub text : Writes written (pieces (tokens_of bytes))
-  pub once : StandOnce written
+  pub once : OccurOnce written
   pub rules : HaveRules (rules_of written)
   pub numbered : program_numbered written ≡ Some p
 
--- names and literals are within their limits
+-- Names and literals are within their limits.
 abbrev pub IsSmallInner : inner.Piece → Type 0
 IsSmallInner (inner.Word name) = length name ≤ name_limit
 IsSmallInner (inner.Digits ds) = number_of ds ≤ coefficient_limit
@@ -79,11 +79,11 @@ abbrev pub AreSmall : List Piece → Type 0
 AreSmall [] = ⊤
 AreSmall (p ∷ ps) = IsSmallPiece p × AreSmall ps
 
--- an expression has no more tokens than the limit
+-- An expression has no more tokens than the limit.
 abbrev pub IsShort : Sum → Type 0
 IsShort s = length (sum_behind (λ p. p) s []) ≤ token_limit
 
--- an argument or a cost is short, and can be expanded
+-- An argument or a cost is short, and can be expanded.
 pub record IsArgumentWithin (names : List Name) (s : Sum) : Type 0 where
   pub tokens : IsShort s
   pub expanded : polynomials.first_fault (sum_term names s) ≡ None
@@ -92,7 +92,7 @@ abbrev pub AreArgumentsWithin : List Name → List Sum → Type 0
 AreArgumentsWithin names [] = ⊤
 AreArgumentsWithin names (s ∷ sums) = IsArgumentWithin names s × AreArgumentsWithin names sums
 
--- both sides of an atom are short, and its difference can be expanded
+-- Both sides of an atom are short, and its difference can be expanded.
 abbrev pub IsAtomWithin : List Name → Atom → Type 0
 IsAtomWithin names (Always t) = ⊤
 IsAtomWithin names (Compared l sign r) =
@@ -102,12 +102,12 @@ abbrev pub AreAtomsWithin : List Name → Atoms → Type 0
 AreAtomsWithin names (First a) = IsAtomWithin names a
 AreAtomsWithin names (Joined atoms joint a) = AreAtomsWithin names atoms × IsAtomWithin names a
 
--- a cost is within, where there is one
+-- A cost, if there is one, is within its limits.
 abbrev pub IsCostWithin : List Name → Option Sum → Type 0
 IsCostWithin names None = ⊤
 IsCostWithin names (Some c) = IsArgumentWithin names c
 
--- a guard has no more atoms than the limit, beside this many that its rule's cost counts as
+-- A guard has no more atoms than the limit; its rule's cost counts as this many atoms.
 abbrev pub IsMaybeWithin : ℕ → List Name → Option Atoms → Type 0
 IsMaybeWithin others names None = ⊤
 IsMaybeWithin others names (Some atoms) = (count_of atoms + others ≤ atom_limit) × AreAtomsWithin names atoms
@@ -117,7 +117,7 @@ IsGuardWithin others names NoGuard = ⊤
 IsGuardWithin others names (BehindMark atoms) = IsMaybeWithin others names atoms
 IsGuardWithin others names (InSquares atoms) = IsMaybeWithin others names atoms
 
--- a rule has no more arguments on each side than a symbol may have places, and no more variables than the limit
+-- A rule has no more arguments on each side than a symbol may have places, and no more variables than the limit.
 pub record IsRuleWithin (r : WrittenRule) : Type 0 where
   pub left : length r.left.arguments ≤ place_limit
   pub right : length (term_in r.target).arguments ≤ place_limit
@@ -130,25 +130,25 @@ abbrev pub AreRulesWithin : List WrittenRule → Type 0
 AreRulesWithin [] = ⊤
 AreRulesWithin (r ∷ rules) = IsRuleWithin r × AreRulesWithin rules
 
--- there are no more rules than the limit
+-- There are no more rules than the limit.
 abbrev pub HaveRulesWithin : Option (List WrittenRule) → Type 0
 HaveRulesWithin None = ⊤
 HaveRulesWithin (Some rules) = (length rules ≤ rule_limit) × AreRulesWithin rules
 
--- sections within the limits
+-- The sections are within the limits.
 pub record AreWithin (sections : List Section) : Type 0 where
   pub small : AreSmall (pieces_behind sections)
   pub rules : HaveRulesWithin (rules_of sections)
 
--- the bytes spell the program within the limits
+-- The bytes spell the program within the limits.
 pub record SpellsWithin (bytes : List ℕ) (p : Program) : Type 0 where
   pub spells : Spells bytes p
   pub within : AreWithin spells.written
 
--- one text spells at most one program
+-- One text spells at most one program.
 pub record OneProgram : Type 0 where
   pub each : (bytes : List ℕ) (p q : Program) → Spells bytes p → Spells bytes q → p ≡ q
 
--- a program that a text spells within the limits is valid
+-- A program that a text spells within the limits is valid.
 pub record SpelledIsValid : Type 0 where
   pub each : (bytes : List ℕ) (p : Program) → SpellsWithin bytes p → IsValid p

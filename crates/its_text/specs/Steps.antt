@@ -13,14 +13,14 @@ use Rattle.its_text.specs.Pieces.{Piece, In, Comma, Arrow, CostOpen, CostClose, 
 use Rattle.its_text.specs.Pieces.{Remark}
 use Rattle.its_text.specs.Written.{LeftTerm, RightTerm, Target, Marked, Bare, NoGuard, BehindMark, InSquares, Section}
 use Rattle.its_text.specs.Written.{Goal, Start, Variables, Comment}
-use Rattle.its_text.specs.Fronts.{Ruling, Led, Wrap, InCom, Alone, Aimed, Headed, Front, Between, Opened, GoalNamed}
+use Rattle.its_text.specs.Fronts.{Ruling, ArrowRead, Wrap, InCom, Alone, Aimed, Headed, Front, Between, Opened, GoalNamed}
 use Rattle.its_text.specs.Fronts.{GoalRead, StartNamed, StartOpened, StartListed, StartRead, StartClosed, Listing}
 use Rattle.its_text.specs.Fronts.{CommentNamed, AfterRule, SourceNamed, LeftOpened, LeftRead, LeftParted, SourceClosed, Costing}
 use Rattle.its_text.specs.Fronts.{Arrowed, ComNamed, ComOpened, TargetNamed, RightOpened, Arguing, TargetClosed, Targeted}
 use Rattle.its_text.specs.Fronts.{GuardMarked, WordRead, MarkGuarding, SquareOpened, SquareGuarding, ruling_with}
 use Rattle.its_text.specs.Fronts.{section_of}
 
--- the section that a keyword begins
+-- The state after the keyword of a section.
 abbrev pub section_named : List Section → Name → Option Front
 section_named ss name =
     if is_same name (codes "GOAL") then Some (GoalNamed ss)
@@ -30,107 +30,107 @@ section_named ss name =
     else if is_same name (codes "COMMENT") then Some (CommentNamed ss)
     else None
 
--- the left term ends
-abbrev pub left_shut : Ruling → Name → List Name → Front
-left_shut r name arguments = SourceClosed r (record { name = name; arguments = arguments })
+-- The state after the end of a left term.
+abbrev pub left_closed : Ruling → Name → List Name → Front
+left_closed r name arguments = SourceClosed r (record { name = name; arguments = arguments })
 
--- the state after an arrow that follows a left term, with a cost or none
+-- The state after an arrow that follows a left term, with or without a cost.
 abbrev pub behind_left : Ruling → LeftTerm → Option Sum → Front
 behind_left r t cost = Arrowed (record { ruling = r; left = t; cost = cost })
 
--- the state after a piece within a cost, if the cost can continue
+-- The state after a token within a cost, if the cost can continue.
 abbrev pub cost_step : Ruling → LeftTerm → Option expression.Front → Option Front
 cost_step r t None = None
 cost_step r t (Some more) = Some (Costing r t more)
 
--- a cost ends, where it can
+-- The state after the end of a cost, if it can end.
 abbrev pub cost_ended : Ruling → LeftTerm → Option Sum → Option Front
 cost_ended r t None = None
 cost_ended r t (Some c) = Some (behind_left r t (Some c))
 
--- the state after a right term's name, inside `Com_1(..)` or alone
-abbrev pub behind_target_name : Led → Wrap → Name → Front
+-- The state after a right term's name, inside `Com_1(..)` or alone.
+abbrev pub behind_target_name : ArrowRead → Wrap → Name → Front
 behind_target_name l wrap name = TargetNamed (record { led = l; wrap = wrap; name = name })
 
--- the state after a name that follows an arrow: `Com_1`, or the name of a term
-abbrev pub behind_arrow : Led → Name → Front
+-- The state after a name that follows an arrow: `Com_1`, or the name of a term.
+abbrev pub behind_arrow : ArrowRead → Name → Front
 behind_arrow l name = if is_same name (codes "Com_1") then ComNamed l else behind_target_name l Alone name
 
--- a rule's target is read
-abbrev pub behind_target : Led → Target → Front
+-- The state after a rule's target.
+abbrev pub behind_target : ArrowRead → Target → Front
 behind_target l target = Targeted (record { led = l; target = target })
 
--- the state after the end of a right term, inside `Com_1(..)` or alone
-abbrev pub shut_by : Led → Wrap → RightTerm → Front
+-- The state after the end of a right term, inside `Com_1(..)` or alone.
+abbrev pub shut_by : ArrowRead → Wrap → RightTerm → Front
 shut_by l InCom t = TargetClosed l t
 shut_by l Alone t = behind_target l (Bare t)
 
-abbrev pub right_shut : Aimed → List Sum → Front
-right_shut a arguments = shut_by a.led a.wrap (record { name = a.name; arguments = arguments })
+abbrev pub right_closed : Aimed → List Sum → Front
+right_closed a arguments = shut_by a.led a.wrap (record { name = a.name; arguments = arguments })
 
--- the state after a piece that ends a rule: the name of the next one, or the end of the section
+-- The state after a token that ends a rule: the name of the next one, or the end of the section.
 abbrev pub behind_rule : Ruling → inner.Piece → Option Front
 behind_rule r (inner.Word name) = Some (SourceNamed r name)
 behind_rule r inner.Close = Some (Between (section_of r))
 behind_rule r _ = None
 
--- an argument ends, where it can, before a comma or the closing bracket
+-- The state after the end of an argument, if it can end, before a comma or the closing bracket.
 abbrev pub behind_comma : Aimed → List Sum → Option Sum → Option Front
 behind_comma a arguments None = None
 behind_comma a arguments (Some s) = Some (Arguing a (s ∷ arguments) expression.beginning)
 
 abbrev pub behind_argument : Aimed → List Sum → Option Sum → inner.Piece → Option Front
-behind_argument a arguments (Some s) inner.Close = Some (right_shut a (s ∷ arguments))
+behind_argument a arguments (Some s) inner.Close = Some (right_closed a (s ∷ arguments))
 behind_argument a arguments _ _ = None
 
--- the state after a piece within an argument: the argument continues, if it can, else it ends
+-- The state after a token within an argument: the argument continues if it can, else it ends.
 abbrev pub argument_step : Aimed → List Sum → expression.Front → Option expression.Front → inner.Piece → Option Front
 argument_step a arguments e (Some more) p = Some (Arguing a arguments more)
 argument_step a arguments e None p = behind_argument a arguments (expression_steps.finish e) p
 
--- the state after atoms that end, if they can, before a piece that follows a rule
+-- The state after atoms that end, if they can, before a token that follows a rule.
 abbrev pub guard_ended : Headed → Option Atoms → inner.Piece → Option Front
 guard_ended h None p = None
 guard_ended h (Some atoms) p = behind_rule (ruling_with h (BehindMark (Some atoms))) p
 
--- the state after a piece within atoms after `:|:`: they continue, if they can, else they end
+-- The state after a token within atoms after `:|:`: they continue if they can, else they end.
 abbrev pub mark_guard_step : Headed → guards.GuardFront → Option guards.GuardFront → inner.Piece → Option Front
 mark_guard_step h g (Some more) p = Some (MarkGuarding h more)
 mark_guard_step h g None p = guard_ended h (guards.finish g) p
 
--- atoms in square brackets go on, where they can
+-- The state after atoms in square brackets that continue, if they can.
 abbrev pub square_guard_step : Headed → Option guards.GuardFront → Option Front
 square_guard_step h None = None
 square_guard_step h (Some g) = Some (SquareGuarding h g)
 
--- atoms in square brackets end, where they can
+-- The state after the end of atoms in square brackets, if they can end.
 abbrev pub square_ended : Headed → Option Atoms → Option Front
 square_ended h None = None
 square_ended h (Some atoms) = Some (AfterRule (ruling_with h (InSquares (Some atoms))))
 
--- a guard that begins with a name
+-- A guard that begins with a name.
 abbrev pub guard_named : Name → guards.GuardFront
 guard_named name = guards.LeftSide guards.NoAtoms (expression_steps.read [] expression.empty_level (Named name))
 
--- the state after a piece that follows `:|:`: a name, which begins a rule or an atom; the end of the section; or an
--- atom
+-- The state after a token that follows `:|:`: a name, which begins a rule or an atom; the end of the section; or an
+-- atom.
 abbrev pub behind_mark : Headed → inner.Piece → Option Front
 behind_mark h (inner.Word name) = Some (WordRead h name)
 behind_mark h inner.Close = Some (Between (section_of (ruling_with h (BehindMark None))))
 behind_mark h p = mark_guard_step h guards.no_atoms (guards.step guards.no_atoms p) p
 
--- the state after a piece that follows a name after `:|:`: before a bracket the name begins the next rule, else an
--- atom
+-- The state after a token that follows a name after `:|:`: before a bracket the name begins the next rule, else an
+-- atom.
 abbrev pub behind_word : Headed → Name → inner.Piece → Option Front
 behind_word h name inner.Open = Some (LeftOpened (ruling_with h (BehindMark None)) name)
 behind_word h name p = mark_guard_step h (guard_named name) (guards.step (guard_named name) p) p
 
--- the state after a piece that follows the bracket of a right term: its closing bracket, or an argument
+-- The state after a token that follows the bracket of a right term: its closing bracket, or an argument.
 abbrev pub behind_open : Aimed → inner.Piece → Option Front
-behind_open a inner.Close = Some (right_shut a [])
+behind_open a inner.Close = Some (right_closed a [])
 behind_open a p = argument_step a [] expression.beginning (expression_steps.step expression.beginning p) p
 
--- the state after a piece
+-- The state after a token.
 abbrev pub step : Front → Piece → Option Front
 step (Between ss) (In inner.Open) = Some (Opened ss)
 step (Opened ss) (In (inner.Word name)) = section_named ss name
@@ -147,9 +147,9 @@ step (CommentNamed ss) (Remark bytes) = Some (Between (Comment bytes ∷ ss))
 step (AfterRule r) (In p) = behind_rule r p
 step (SourceNamed r name) (In inner.Open) = Some (LeftOpened r name)
 step (LeftOpened r name) (In (inner.Word a)) = Some (LeftRead r name a [])
-step (LeftOpened r name) (In inner.Close) = Some (left_shut r name [])
+step (LeftOpened r name) (In inner.Close) = Some (left_closed r name [])
 step (LeftRead r name a earlier) Comma = Some (LeftParted r name a earlier)
-step (LeftRead r name a earlier) (In inner.Close) = Some (left_shut r name (a ∷ earlier))
+step (LeftRead r name a earlier) (In inner.Close) = Some (left_closed r name (a ∷ earlier))
 step (LeftParted r name a earlier) (In (inner.Word b)) = Some (LeftRead r name b (a ∷ earlier))
 step (SourceClosed r t) Arrow = Some (behind_left r t None)
 step (SourceClosed r t) CostOpen = Some (Costing r t expression.beginning)
@@ -175,11 +175,11 @@ step (SquareGuarding h g) (In p) = square_guard_step h (guards.step g p)
 step (SquareGuarding h g) SquareClose = square_ended h (guards.finish g)
 step f p = None
 
--- nothing has been read
+-- The state before the first token.
 abbrev pub beginning : Front
 beginning = Between []
 
--- the sections of a text that ends here, where one can
+-- The sections of a text that ends here, if it can end.
 abbrev pub finish : Front → Option (List Section)
 finish (Between ss) = Some ss
 finish _ = None

@@ -18,27 +18,27 @@ pub record IsFaultless (bytes : List ℕ) (written : List Section) : Type 0 wher
   pub text : Writes written (pieces (tokens_of bytes))
   pub faultless : (x : Fault Kind) → ¬ FaultAt programs (length bytes) (tokens_of bytes) x
 
--- the bytes are, without a fault, the text of sections that are this program by numbers
+-- The bytes are the text, without a fault, of sections that are this program by numbers.
 pub record IsTextOf (bytes : List ℕ) (p : Program) : Type 0 where
   pub written : List Section
   pub stands : IsFaultless bytes written
   pub numbered : program_numbered written ≡ Some p
 
--- the bytes are, without another fault, the text of sections that lack a required one, or have no rule whose source is
--- the start symbol
+-- The bytes are the text, without another fault, of sections that lack a required one, or that have no rule whose
+-- source is the start symbol.
 pub record LacksPart (bytes : List ℕ) (x : Fault Kind) : Type 0 where
   pub written : List Section
   pub stands : IsFaultless bytes written
   pub lacks : whole (length bytes) (tokens_of bytes) written (start_of written) (rules_of written) ≡ Refused x
 
--- a verdict is right: the program of the text, or its first fault, or the missing section or rule if there is no other
--- fault
+-- A verdict is right: it is the program of the text, or its first fault, or the missing section or rule if there is no
+-- other fault.
 abbrev pub IsVerdict : List ℕ → Answer Program Kind → Type 0
 IsVerdict bytes (Stands p) = IsTextOf bytes p
 IsVerdict bytes (Refused x) = IsFirst programs (length bytes) (tokens_of bytes) x ⊎ LacksPart bytes x
 
--- the verdict on each text is right and no other one is, and a text that spells a program is read as that one or has a
--- first fault
+-- The verdict on each text is right and no other one is, and a text that spells a program is read as that one or has a
+-- first fault.
 pub record VerdictsAreRight : Type 0 where
   pub each : (bytes : List ℕ) → IsVerdict bytes (verdict bytes)
   pub only : (bytes : List ℕ) (a : Answer Program Kind) → IsVerdict bytes a → a ≡ verdict bytes

@@ -19,116 +19,116 @@ RefusedAt bytes at kind = verdict bytes ≡ Refused (record { kind = kind; at = 
 abbrev pub with_rules : List ℕ → List ℕ
 with_rules rules = codes "(STARTTERM (FUNCTIONSYMBOLS l0))(RULES " ++ rules ++ codes ")"
 
--- the first faults of texts, and their positions
+-- The first faults of texts, and their positions.
 pub record FirstFaults : Type 0 where
-  -- two targets
+  -- A rule with two targets is refused.
   pub many_targets : RefusedAt (with_rules (codes "l0(A) -> Com_2(l1(A),l2(A))")) 48 ManyTargets
-  -- a left argument twice
+  -- A repeated left argument is refused.
   pub left_repeated : RefusedAt (with_rules (codes "l0(A,A) -> Com_1(l0(A,A))")) 44 LeftRepeated
-  -- a left argument that is a number
+  -- A left argument that is a number is refused.
   pub left_not_variable : RefusedAt (with_rules (codes "l0(1) -> Com_1(l0(1))")) 42 LeftNotVariable
-  -- two arguments where the symbol has one place
+  -- A term with two arguments is refused if its symbol has one place.
   pub arity_differs : RefusedAt (with_rules (codes "l0(A) -> Com_1(l0(A,A))")) 60 ArityDiffers
-  -- degree 9
+  -- An argument of degree 9 is refused.
   pub high_degree : RefusedAt (with_rules (codes "l0(A) -> Com_1(l1(A^9))")) 59 (Limit HighDegree)
-  -- `||`
+  -- The sign `||` is refused.
   pub disjunction : RefusedAt (with_rules (codes "l0(A) -> Com_1(l1(A)) :|: A >= 1 || A <= 0")) 72 Disjunction
-  -- no rule leaves the start symbol
+  -- A start symbol that no rule leaves is refused.
   pub start_unknown : RefusedAt (with_rules (codes "l1(A) -> Com_1(l1(A))")) 28 StartUnknown
-  -- a literal over 2^63 - 1
+  -- A literal over 2^63 - 1 is refused.
   pub large_literal : RefusedAt
       (with_rules (codes "l0(A) -> Com_1(l1(A)) :|: A*A <= 9223372036854775808")) 72 NumberTooLarge
-  -- a literal that is too large directly after `:|:`, before a bracket that can't follow
+  -- A literal that is too large directly after `:|:` is refused before a bracket that can't follow.
   pub literal_before_bracket : RefusedAt (with_rules
       (codes "l0(A) -> Com_1(l1(A)) :|: 9223372036854775808 (")) 65 NumberTooLarge
-  -- an argument ends where the next token can't follow, and its fault comes before that token
+  -- An argument ends at a token that can't follow, and the argument's fault comes before that token.
   pub ended_argument : RefusedAt (with_rules (codes "l0(A) -> Com_1(l1(A^9 l2")) 59 (Limit HighDegree)
-  -- an argument that continues has no such fault
+  -- An argument that continues doesn't have that fault.
   pub open_argument : RefusedAt (with_rules (codes "l0(A) -> Com_1(l1(A^9+))")) 61 Syntax
-  -- `Com_2` before anything but a bracket: at the next token
+  -- `Com_2` before anything but a bracket is refused at the next token.
   pub com_without_bracket : RefusedAt (with_rules (codes "l0(A) -> Com_2 l1(A)")) 54 Syntax
-  -- `Com_1(` within `Com_1(`
+  -- `Com_1(` within `Com_1(` is refused.
   pub com_1_twice : RefusedAt (with_rules (codes "l0(A) -> Com_1(Com_1(l1(A)))")) 54 Syntax
-  -- `Com_2(` within `Com_1(`
+  -- `Com_2(` within `Com_1(` is refused.
   pub com_2_inside : RefusedAt (with_rules (codes "l0(A) -> Com_1(Com_2(A))")) 54 ManyTargets
-  -- any digits but the one digit 1
+  -- `Com_` with any digits but the single digit 1 is refused.
   pub com_01 : RefusedAt (with_rules (codes "l0(A) -> Com_01(l1(A))")) 48 ManyTargets
-  -- a left argument that is a name and more
+  -- A left argument that begins with a name and continues is refused.
   pub left_sum : RefusedAt (with_rules (codes "l0(A+1) -> Com_1(l0(A))")) 42 LeftNotVariable
-  -- one in brackets
+  -- A left argument in brackets is refused.
   pub left_bracket : RefusedAt (with_rules (codes "l0((A)) -> Com_1(l0(A))")) 42 LeftNotVariable
-  -- two names are none: at the second
+  -- Two names in the place of one left argument are refused at the second.
   pub two_names : RefusedAt (with_rules (codes "l0(A B) -> Com_1(l0(A))")) 44 Syntax
-  -- a symbol is no left argument either: the fault is at its bracket
+  -- A left argument that is a term with brackets is refused at its bracket.
   pub left_call : RefusedAt (with_rules (codes "l0(f(A)) -> Com_1(l0(A))")) 43 Syntax
-  -- a name before a bracket begins a rule directly after `:|:` alone
+  -- A name before a bracket begins a rule only directly after `:|:`.
   pub bracket_in_atom : RefusedAt (with_rules (codes "l0(A) -> Com_1(l1(A)) :|: A >= l0(A)")) 72 Syntax
-  -- 2^9 comes before 2^63, and its exponent is over 8
+  -- Of 2^63, the power 2^9 is computed before, and its exponent is over 8.
   pub lower_powers : RefusedAt (with_rules (codes "l0(A) -> Com_1(l1(2^63))")) 60 (Limit HighDegree)
-  -- of the two faults of 200^9 the lesser one counts
+  -- Of the two faults of 200^9, the lesser one counts.
   pub least_of_two : RefusedAt (with_rules (codes "l0(A) -> Com_1(l1(200^9))")) 61 NumberTooLarge
-  -- of `L <= R` the right side is expanded first
+  -- Of `L <= R`, the right side is expanded first.
   pub right_first : RefusedAt
       (with_rules (codes "l0(A) -> Com_1(l1(A)) :|: A^9 <= 9223372036854775807*2")) 92 NumberTooLarge
-  -- of `L >= R` the left one
+  -- Of `L >= R`, the left side is expanded first.
   pub left_first : RefusedAt (with_rules (codes "l0(A) -> Com_1(l1(A)) :|: A^9 >= 9223372036854775807*2")) 92
       (Limit HighDegree)
-  -- the -1 of a strict relation counts
+  -- The -1 in the difference of a strict relation counts.
   pub strict : RefusedAt (with_rules (codes "l0(A) -> Com_1(l1(A)) :|: A > 9223372036854775807")) 87 NumberTooLarge
-  -- a cost is one expression: not two, nor none
+  -- A cost is exactly one expression: two, or none, are refused.
   pub two_costs : RefusedAt (with_rules (codes "l0(A) -{A,1}> Com_1(l1(A))")) 48 Syntax
   pub no_cost : RefusedAt (with_rules (codes "l0(A) -{}> Com_1(l1(A))")) 47 Syntax
-  -- a comparison is no cost either; `}>` can't follow an open bracket
+  -- A comparison as a cost is refused; `}>` can't follow an open bracket.
   pub compared_cost : RefusedAt (with_rules (codes "l0(A) -{A>1}> Com_1(l1(A))")) 48 Syntax
   pub open_cost : RefusedAt (with_rules (codes "l0(A) -{(A}> Com_1(l1(A))")) 49 Syntax
   pub bars_in_cost : RefusedAt (with_rules (codes "l0(A) -{A||1}> Com_1(l1(A))")) 48 Disjunction
-  -- one that can't be expanded, at its last byte, also where the next token can't follow
+  -- A cost that can't be expanded is refused at its last byte, also if the next token can't follow.
   pub high_cost : RefusedAt (with_rules (codes "l0(A) -{A^9}> Com_1(l1(A))")) 49 (Limit HighDegree)
   pub large_cost : RefusedAt (with_rules (codes "l0(A) -{9223372036854775807*2}> Com_1(l1(A))")) 67 NumberTooLarge
   pub ended_cost : RefusedAt (with_rules (codes "l0(A) -{A^9 , 1}> Com_1(l1(A))")) 49 (Limit HighDegree)
-  -- a cost that continues has no such fault
+  -- A cost that continues doesn't have that fault.
   pub going_cost : RefusedAt (with_rules (codes "l0(A) -{A^9+}> Com_1(l1(A))")) 51 Syntax
-  -- a literal that is too large in a cost
+  -- A literal that is too large is refused in a cost.
   pub literal_in_cost : RefusedAt (with_rules (codes "l0(A) -{9223372036854775808}> Com_1(l1(A))")) 47 NumberTooLarge
-  -- a cost is followed by a target, as `->` is
+  -- A cost is followed by a target, as `->` is.
   pub two_arrows : RefusedAt (with_rules (codes "l0(A) -{A}> -> l1(A)")) 51 Syntax
   pub two_targets_at_cost : RefusedAt (with_rules (codes "l0(A) -{A}> Com_2(l1(A),l2(A))")) 51 ManyTargets
   pub arity_at_cost : RefusedAt (with_rules (codes "l0(A) -{A}> l0(A,A)")) 57 ArityDiffers
-  -- `-{` is one token, which occurs only between the terms of a rule; so is `}>`
+  -- `-{` is one token, which occurs only between the terms of a rule; so does `}>`.
   pub brace : RefusedAt (with_rules (codes "l0(A) -> Com_1(l1(A -{")) 59 Syntax
   pub cost_behind_arrow : RefusedAt (with_rules (codes "l0(A) -> -{A}> l1(A)")) 48 Syntax
   pub cost_unopened : RefusedAt (with_rules (codes "l0(A) }> Com_1(l1(A))")) 45 Syntax
-  -- braces by themselves are none
+  -- Braces by themselves are no tokens.
   pub brace_alone : RefusedAt (with_rules (codes "l0(A) - {A}> Com_1(l1(A))")) 45 Syntax
   pub closing_alone : RefusedAt (with_rules (codes "l0(A) -{A} > Com_1(l1(A))")) 48 Syntax
-  -- the atom that always holds, and then a bracket
+  -- A bracket after the atom that always holds is refused.
   pub truth_and_bracket : RefusedAt (with_rules (codes "l0(A) -> Com_1(l1(A)) :|: A > 1 && TRUE (")) 79 Syntax
-  -- a symbol without brackets
+  -- A symbol without brackets is refused.
   pub no_brackets : RefusedAt (with_rules (codes "l0(A) -> Com_1(l1)")) 56 Syntax
   -- `!=` is no relation
   pub unequal : RefusedAt (with_rules (codes "l0(A) -> Com_1(l1(A)) :|: A != 1")) 67 Syntax
-  -- the text ends too early
+  -- A text that ends too early is refused at its end.
   pub bracket_open : RefusedAt (with_rules (codes "l0(A) -> Com_1(l1((A)")) 61 Syntax
-  -- a byte over 127
+  -- A byte over 127 is refused.
   pub not_ascii : RefusedAt (with_rules (codes "l0(A" ++ (200 ∷ codes ") -> Com_1(l1(A))"))) 43 NotAscii
-  -- in a comment, which holds any bytes, one is no fault
+  -- In a comment, which may have any bytes, a byte over 127 is no fault.
   pub ascii_in_comment : RefusedAt (codes "(COMMENT " ++ (200 ∷ codes ")")) 11 MissingSection
-  -- a section twice
+  -- A section that occurs twice is refused.
   pub repeated_section : RefusedAt (codes "(VAR A)(VAR A)") 7 RepeatedSection
-  -- no section at all
+  -- A text without a section is refused.
   pub missing_section : RefusedAt [] 0 MissingSection
-  -- the sections that have to be there are missing, at the end
+  -- A text without the required sections is refused at its end.
   pub goal_alone : RefusedAt (codes "(GOAL COMPLEXITY)") 17 MissingSection
-  -- `||` among variables
+  -- `||` among variables is refused.
   pub bars_in_a_list : RefusedAt (codes "(VAR A || B)") 7 Disjunction
-  -- a comment that isn't closed, at the end
+  -- A comment that isn't closed is refused at the end of the text.
   pub open_comment : RefusedAt (codes "(COMMENT (a)") 12 Syntax
-  -- a comment is passed over up to the bracket that closes it
+  -- A comment ends with the bracket that closes it.
   pub behind_comment : RefusedAt (codes "(COMMENT (||) !))") 16 Syntax
-  -- `COMMENT` where no section begins is a name like others
+  -- `COMMENT` is a name like others where no section begins.
   pub word_behind_comment : RefusedAt (codes "(GOAL COMMENT)") 6 Syntax
 
--- names of one byte, and of the two symbols
+-- Names of one byte, and those of the two symbols.
 abbrev pub name : ℕ → Name
 name b = b ∷ []
 
@@ -145,7 +145,7 @@ symbols a b = record { name = l0; arity = a } ∷ record { name = l1; arity = b 
 abbrev pub started : List Symbol → List Rule → Program
 started s rules = record { symbols = s; start = 0; start_names = name 65 ∷ []; rules = rules }
 
--- a rule from l0 to l1 with the left variable A, and a cost or none
+-- A rule from l0 to l1 with the left variable A, with or without a cost.
 abbrev pub from_l0_costing : Option Term → List Name → List Term → List Atom → Rule
 from_l0_costing cost free updates guard =
     record {
@@ -159,7 +159,7 @@ from_l0_costing cost free updates guard =
       cost = cost;
     }
 
--- one without a cost
+-- A rule from l0 to l1 without a cost.
 abbrev pub from_l0 : List Name → List Term → List Atom → Rule
 from_l0 free updates guard = from_l0_costing None free updates guard
 
@@ -169,7 +169,7 @@ IsReadAs bytes p = verdict bytes ≡ Stands p
 
 -- the programs that texts denote
 pub record Programs : Type 0 where
-  -- a target within `Com_1(` and one alone
+  -- A target within `Com_1(`, and one alone, give the same program.
   pub marked : IsReadAs (with_rules (codes "l0(A) -> Com_1(l1(A))"))
       (started (symbols 1 1) (from_l0 [] (Variable 0 ∷ []) [] ∷ []))
   pub bare : IsReadAs (with_rules (codes "l0(A)->l1(A)")) (started (symbols 1 1) (from_l0 [] (Variable 0 ∷ []) [] ∷ []))
@@ -181,14 +181,14 @@ pub record Programs : Type 0 where
       (started (symbols 1 0) (from_l0 [] [] (Compare (Variable 0) EqualTo (Literal (pos 1)) ∷ Always ∷ []) ∷ []))
   pub empty_guards : IsReadAs (with_rules (codes "l0(A) -> l1() :|: l0(A) -> l1() []"))
       (started (symbols 1 0) (from_l0 [] [] [] ∷ from_l0 [] [] [] ∷ []))
-  -- `TRUE` and `true` are names where a relation or an operator follows
+  -- `TRUE` and `true` are names if a relation or an operator follows.
   pub truth_as_a_name : IsReadAs (with_rules (codes "l0(A) -> l1() :|: TRUE > 1 && true")) (started (symbols 1 0)
       (from_l0 ((84 ∷ 82 ∷ 85 ∷ 69 ∷ []) ∷ []) [] (Compare (Variable 1) MoreThan (Literal (pos 1)) ∷ Always ∷ []) ∷ []))
   -- free variables are numbered in order of first occurrence in the rule's text
   pub free_variables : IsReadAs (with_rules (codes "l0(A) -> l1(C,B) :|: D == C")) (started (symbols 1 2)
       (from_l0 (name 67 ∷ name 66 ∷ name 68 ∷ []) (Variable 1 ∷ Variable 2 ∷ [])
       (Compare (Variable 3) EqualTo (Variable 1) ∷ []) ∷ []))
-  -- an arrow with a cost, with blanks and without
+  -- The arrow may have a cost, with blanks and without.
   pub costing : IsReadAs (with_rules (codes "l0(A) -{A}> Com_1(l1(A))"))
       (started (symbols 1 1) (from_l0_costing (Some (Variable 0)) [] (Variable 0 ∷ []) [] ∷ []))
   pub costing_more : IsReadAs (with_rules (codes "l0(A)-{ 2*A+(1) }>l1(A) l0(A)->l1(1)")) (started (symbols 1 1)
@@ -208,7 +208,8 @@ pub record Programs : Type 0 where
       (Multiplication (Multiplication (Literal (pos 2)) (Variable 0)) (Literal (pos 3)))
       ∷ Negation (Exponentiation (Variable 0) 2) ∷ Multiplication (Negation (Variable 0)) (Literal (pos 2)) ∷ []) []
       ∷ []))
-  -- sections in any order, comments with any bytes up to their closing bracket, a start symbol that rules lead to
+  -- Sections come in any order, comments have any bytes up to their closing bracket, and rules may lead to the start
+  -- symbol.
   pub any_order : IsReadAs
       (codes "(COMMENT (|| !) )(RULES l1(B)->l0(0) l0(A) -> l1(007))(COMMENT)(GOAL COMPLEXITY)(VAR)(STARTTERM(FUNCTIONSYMBOLS l0))")
       (record {
@@ -243,7 +244,7 @@ pub record Programs : Type 0 where
       (from_l0 [] (Variable 0 ∷ []) (Compare (Multiplication (Variable 0) (Variable 0)) AtMost
       (Literal (pos 9223372036854775807)) ∷ []) ∷ []))
 
--- all of it
+-- All worked values of texts.
 pub record WorkedValues : Type 0 where
   pub faults : FirstFaults
   pub programs : Programs

@@ -15,7 +15,7 @@ IsProgram (Refused x) = ⊥
 abbrev pub IsRead : List ℕ → Type 0
 IsRead bytes = IsProgram (verdict bytes)
 
--- this many texts with a separator between each two, the first one with a number
+-- This many texts, numbered from the second argument on, with a separator between each two.
 abbrev pub joined : (ℕ → List ℕ) → List ℕ → ℕ → ℕ → List ℕ
 joined text separator from zero = []
 joined text separator from (suc zero) = text from
@@ -64,14 +64,14 @@ abbrev pub products_in_cost : ℕ → List ℕ
 products_in_cost n = with_rules (codes "l0()-{(" ++ (joined variable (codes "+") 0 8
     ++ (codes ")*(" ++ (joined variable (codes "+") 10 n ++ codes ")}>l1()"))))
 
--- texts are read at a limit; past it they are refused where the item that is one too many begins
+-- Texts are read at a limit; past it they are refused where the item that is one too many begins.
 pub record LimitsAreWorkedOut : Type 0 where
-  -- 32 arguments on the left and on the right
+  -- At most 32 arguments on each side are read.
   pub left_full : IsRead (left_arguments 32)
   pub left_passed : RefusedAt (left_arguments 33) 170 (Limit TooManyArguments)
   pub right_full : IsRead (right_arguments 32)
   pub right_passed : RefusedAt (right_arguments 33) 112 (Limit TooManyArguments)
-  -- 64 variables and 64 atoms
+  -- At most 64 variables and 64 atoms are read.
   pub variables_full : IsRead (variables 64)
   pub variables_passed : RefusedAt (variables 65) 432 (Limit TooManyVariables)
   pub atoms_full : IsRead (atoms 64)
@@ -81,20 +81,20 @@ pub record LimitsAreWorkedOut : Type 0 where
   pub cost_variables_passed : RefusedAt (variables_in_cost 65) 429 (Limit TooManyVariables)
   pub beside_cost_full : IsRead (atoms_beside_cost 63)
   pub beside_cost_passed : RefusedAt (atoms_beside_cost 64) 433 (Limit TooManyAtoms)
-  -- a name of 256 bytes
+  -- A name of at most 256 bytes is read.
   pub name_full : IsRead (name_bytes 256)
   pub name_passed : RefusedAt (name_bytes 257) 45 (Limit LongName)
-  -- an argument of 1,024 tokens that nothing follows is refused as a text that ends too early, and one with a token
-  -- more at that token
+  -- An argument of 1,024 tokens that nothing follows is refused as a text that ends too early, and one with one more
+  -- token at that token.
   pub tokens_full : RefusedAt (minuses 1024) 1072 Syntax
   pub tokens_passed : RefusedAt (minuses 1025) 1072 (Limit TooManyTokens)
-  -- the limit on tokens of an expression, in a cost
+  -- The limit on the tokens of an expression holds for a cost too.
   pub cost_tokens_full : RefusedAt (minuses_in_cost 1024) 1069 Syntax
   pub cost_tokens_passed : RefusedAt (minuses_in_cost 1025) 1069 (Limit TooManyTokens)
-  -- 64 terms; one of more is refused at its last byte
+  -- An argument of 64 terms is read; one with more is refused at its last byte.
   pub terms_full : IsRead (products 8)
   pub terms_passed : RefusedAt (products 9) 118 (Limit TooManyTerms)
   pub cost_terms_full : IsRead (products_in_cost 8)
   pub cost_terms_passed : RefusedAt (products_in_cost 9) 115 (Limit TooManyTerms)
-  -- degree 8
+  -- An argument of degree 8 is read.
   pub degree_full : IsRead (with_rules (codes "l0(A)->l1(A^8)"))

@@ -42,7 +42,7 @@ pub data Section : Type 0 where
   Rules : List WrittenRule → Section
   Comment : List ℕ → Section
 
--- the pieces of each part after those before it, the last one first
+-- The tokens of each part after those before it, the last one first.
 abbrev pub names_behind : List Name → List Piece → List Piece
 names_behind [] before = before
 names_behind (a ∷ []) before = word a ∷ before
@@ -59,7 +59,7 @@ left_behind t before = close_bracket ∷ names_behind t.arguments (open_bracket 
 abbrev pub right_behind : RightTerm → List Piece → List Piece
 right_behind t before = close_bracket ∷ sums_behind t.arguments (open_bracket ∷ word t.name ∷ before)
 
--- an arrow: `->`, or a cost within `-{` and `}>`
+-- An arrow: `->`, or a cost within `-{` and `}>`.
 abbrev pub arrow_behind : Option Sum → List Piece → List Piece
 arrow_behind None before = Arrow ∷ before
 arrow_behind (Some c) before = CostClose ∷ sum_behind In c (CostOpen ∷ before)
@@ -98,7 +98,7 @@ section_behind (Variables names) before =
 section_behind (Rules rules) before = close_bracket ∷ rules_behind rules (word (codes "RULES") ∷ open_bracket ∷ before)
 section_behind (Comment bytes) before = Remark bytes ∷ word (codes "COMMENT") ∷ open_bracket ∷ before
 
--- the pieces of a program, the last one first
+-- The tokens of a program, the last one first.
 abbrev pub pieces_behind : List Section → List Piece
 pieces_behind [] = []
 pieces_behind (s ∷ sections) = section_behind s (pieces_behind sections)

@@ -18,8 +18,8 @@ pub fn one_program()
     ensures { OneProgram }
 {}
 
-/// Reading tokens in order gives the sections that they write, which then have no fault and are the only ones, or gives
-/// the first fault.
+/// Reading tokens in order gives either the sections that they write, which then have no fault and are the only ones,
+/// or the first fault.
 pub fn texts_have_one_answer()
     ensures { AnswersAll programs }
 {}
@@ -29,7 +29,7 @@ pub fn texts_have_one_first_fault()
     ensures { OneFirst programs }
 {}
 
-/// What a text spells within the limits is a valid program.
+/// A program that a text spells within the limits is valid.
 pub fn spelled_programs_are_valid()
     ensures { SpelledIsValid }
 {}

@@ -3,7 +3,7 @@ use Rattle.std.proofs.Common.{◌≡◌, ℕ, suc, ◌+◌, ◌*◌, ◌≤◌, 
 use Rattle.std.specs.Prelude.{codes}
 use Rattle.std.specs.List.{AllByRecursion}
 use Rattle.its_text.specs.expr_text.model.Programs.{Name, Rule}
-use Rattle.its_writer.specs.Layout.{each_then, led_by}
+use Rattle.its_writer.specs.Layout.{each_then, arrow_by}
 use Rattle.its_writer.specs.Expressions.{name_at, name_then}
 use Rattle.its_writer.specs.Texts.{symbol_names, rule_then, variables_of, canonical_text}
 use Rattle.its_writer.specs.Generated.{entry_rule, counting_rule, leaving_rule, generated_rules, generated}
@@ -64,7 +64,7 @@ generated_short n few =
       leaving_short symbols i (symbol_short n i few (omega (arith, le))) (symbol_short n (suc i) few (omega (arith, le))),
     )) in
     let a = lines_short symbols (generated_rules n) (codes ")\n") short in
-    let b = sections_length (name_at symbols 0) (each_then (led_by (codes " ") name_then) (variables_of (generated n)) (codes ")\n(RULES\n" ++ lines)) lines
-    (symbol_short n 0 few (omega arith)) (ap (λ (ns : List Name). each_then (led_by (codes " ") name_then) ns (codes ")\n(RULES\n" ++ lines)) (variables_are n)) in
+    let b = sections_length (name_at symbols 0) (each_then (arrow_by (codes " ") name_then) (variables_of (generated n)) (codes ")\n(RULES\n" ++ lines)) lines
+    (symbol_short n 0 few (omega arith)) (ap (λ (ns : List Name). each_then (arrow_by (codes " ") name_then) ns (codes ")\n(RULES\n" ++ lines)) (variables_are n)) in
     let c = rules_count n in
     omega (arith, a, b, c, few)

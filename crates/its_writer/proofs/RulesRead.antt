@@ -15,7 +15,7 @@ use Rattle.its_text.specs.Pieces.{Piece, In, Comma, Arrow, CostOpen, CostClose, 
 use Rattle.its_text.specs.Lexing.{Within}
 use Rattle.its_text.specs.Written.{names_behind, sums_behind, arrow_behind, guard_behind, rule_behind, rules_behind}
 use Rattle.its_text.specs.Written.{WrittenRule}
-use Rattle.its_writer.specs.Layout.{each_then, led_by, joined_then}
+use Rattle.its_writer.specs.Layout.{each_then, arrow_by, joined_then}
 use Rattle.its_writer.specs.Expressions.{name_at, name_then, expression_then, sign_of, atom_then, guard_then}
 use Rattle.its_writer.specs.Texts.{left_names, arrow_then, rule_then}
 use Rattle.its_writer.proofs.CanonicalSections.{expression_written, arguments_written, sign_written, atom_written, atoms_written}
@@ -24,33 +24,33 @@ use Rattle.its_writer.proofs.Lexed.{lexed, moved, word_lexed}
 use Rattle.its_writer.proofs.ExpressionsRead.{IsWritable, IsRead, expression_read}
 
 -- a list with commas before its elements doesn't continue a name
-commas_stop : {X : Type 0} (text : X → List ℕ → List ℕ) (xs : List X) (rest : List ℕ) → Stops continues_name rest → Stops continues_name (each_then (led_by (codes ",") text) xs rest)
+commas_stop : {X : Type 0} (text : X → List ℕ → List ℕ) (xs : List X) (rest : List ℕ) → Stops continues_name rest → Stops continues_name (each_then (arrow_by (codes ",") text) xs rest)
 commas_stop text [] rest stop = stop
 commas_stop text (x ∷ xs) rest stop = refl
 
 -- names with commas between them
 more_names : (d : ℕ) (a : Name) (done names : List Name) (before : List Piece) (rest : List ℕ) → AllByRecursion IsName names → Stops continues_name rest
-    → onto (names_behind (a ∷ done) before) (lexed (Within d) (each_then (led_by (codes ",") name_then) names rest)) ≡ onto (names_behind (onto names (a ∷ done)) before) (lexed (Within d) rest)
+    → onto (names_behind (a ∷ done) before) (lexed (Within d) (each_then (arrow_by (codes ",") name_then) names rest)) ≡ onto (names_behind (onto names (a ∷ done)) before) (lexed (Within d) rest)
 more_names d a done [] before rest is stop = refl
 more_names d a done (b ∷ names) before rest is stop =
     ap (λ ps. onto (names_behind (a ∷ done) before) (Comma ∷ ps))
-    (moved (Within d) 1 (b ++ each_then (led_by (codes ",") name_then) names rest) ∙ word_lexed d b (each_then (led_by (codes ",") name_then) names rest) is.0 (commas_stop name_then names rest stop))
+    (moved (Within d) 1 (b ++ each_then (arrow_by (codes ",") name_then) names rest) ∙ word_lexed d b (each_then (arrow_by (codes ",") name_then) names rest) is.0 (commas_stop name_then names rest stop))
     ∙ more_names d b (a ∷ done) names before rest is.1 stop
 
 pub names_read : (d : ℕ) (names : List Name) → AllByRecursion IsName names → IsRead d (joined_then (codes ",") name_then names) (names_behind (onto names []))
 names_read d [] is = record { each = λ before rest stop. refl }
 names_read d (a ∷ names) is = record {
   each = λ before rest stop.
-      ap (onto before) (word_lexed d a (each_then (led_by (codes ",") name_then) names rest) is.0 (commas_stop name_then names rest stop))
+      ap (onto before) (word_lexed d a (each_then (arrow_by (codes ",") name_then) names rest) is.0 (commas_stop name_then names rest stop))
       ∙ more_names d a [] names before rest is.1 stop;
 }
 
 -- arguments with commas between them
 more_arguments : (d : ℕ) (variables : List Name) (s : Sum) (done : List Sum) (es : List Term) (before : List Piece) (rest : List ℕ) → AllByRecursion (IsWritable variables) es → Stops continues_name rest
-    → onto (sums_behind (s ∷ done) before) (lexed (Within d) (each_then (led_by (codes ",") (expression_then variables)) es rest)) ≡ onto (sums_behind (arguments_written variables (s ∷ done) es) before) (lexed (Within d) rest)
+    → onto (sums_behind (s ∷ done) before) (lexed (Within d) (each_then (arrow_by (codes ",") (expression_then variables)) es rest)) ≡ onto (sums_behind (arguments_written variables (s ∷ done) es) before) (lexed (Within d) rest)
 more_arguments d variables s done [] before rest w stop = refl
 more_arguments d variables s done (e ∷ es) before rest w stop =
-    let behind : List ℕ = each_then (led_by (codes ",") (expression_then variables)) es rest in
+    let behind : List ℕ = each_then (arrow_by (codes ",") (expression_then variables)) es rest in
     ap (λ ps. onto (sums_behind (s ∷ done) before) (Comma ∷ ps)) (moved (Within d) 1 (expression_then variables e behind))
     ∙ (expression_read variables e w.0 d).each (Comma ∷ sums_behind (s ∷ done) before) behind (commas_stop (expression_then variables) es rest stop)
     ∙ more_arguments d variables (expression_written variables e) (s ∷ done) es before rest w.1 stop
@@ -60,7 +60,7 @@ pub arguments_read : (d : ℕ) (variables : List Name) (es : List Term) → AllB
 arguments_read d variables [] w = record { each = λ before rest stop. refl }
 arguments_read d variables (e ∷ es) w = record {
   each = λ before rest stop.
-      (expression_read variables e w.0 d).each before (each_then (led_by (codes ",") (expression_then variables)) es rest) (commas_stop (expression_then variables) es rest stop)
+      (expression_read variables e w.0 d).each before (each_then (arrow_by (codes ",") (expression_then variables)) es rest) (commas_stop (expression_then variables) es rest stop)
       ∙ more_arguments d variables (expression_written variables e) [] es before rest w.1 stop;
 }
 
@@ -98,16 +98,16 @@ atom_read d names (plain.Compare l relation r) w = record {
 }
 
 -- atoms after `&&` don't continue a name
-joints_stop : {X : Type 0} (text : X → List ℕ → List ℕ) (xs : List X) (rest : List ℕ) → Stops continues_name rest → Stops continues_name (each_then (led_by (codes " && ") text) xs rest)
+joints_stop : {X : Type 0} (text : X → List ℕ → List ℕ) (xs : List X) (rest : List ℕ) → Stops continues_name rest → Stops continues_name (each_then (arrow_by (codes " && ") text) xs rest)
 joints_stop text [] rest stop = stop
 joints_stop text (x ∷ xs) rest stop = refl
 
 -- atoms after others are read
 more_atoms : (d : ℕ) (names : List Name) (done : Atoms) (atoms : List plain.Atom) (before : List Piece) (rest : List ℕ) → AllByRecursion (IsWritableAtom names) atoms → Stops continues_name rest
-    → onto (atoms_behind In done before) (lexed (Within d) (each_then (led_by (codes " && ") (atom_then names)) atoms rest)) ≡ onto (atoms_behind In (atoms_written names done atoms) before) (lexed (Within d) rest)
+    → onto (atoms_behind In done before) (lexed (Within d) (each_then (arrow_by (codes " && ") (atom_then names)) atoms rest)) ≡ onto (atoms_behind In (atoms_written names done atoms) before) (lexed (Within d) rest)
 more_atoms d names done [] before rest w stop = refl
 more_atoms d names done (a ∷ atoms) before rest w stop =
-    let behind : List ℕ = each_then (led_by (codes " && ") (atom_then names)) atoms rest in
+    let behind : List ℕ = each_then (arrow_by (codes " && ") (atom_then names)) atoms rest in
     ap (λ ps. onto (atoms_behind In done before) (In (inner.Joining inner.Ampersands) ∷ ps)) (moved (Within d) 4 (atom_then names a behind))
     ∙ (atom_read d names a w.0).each (In (inner.Joining inner.Ampersands) ∷ atoms_behind In done before) behind (joints_stop (atom_then names) atoms rest stop)
     ∙ more_atoms d names (Joined done inner.Ampersands (atom_written names a)) atoms before rest w.1 stop
@@ -117,7 +117,7 @@ pub guard_read : (d : ℕ) (names : List Name) (atoms : List plain.Atom) → All
 guard_read d names [] w = record { each = λ before rest stop. refl }
 guard_read d names (a ∷ atoms) w = record {
   each = λ before rest stop.
-      let behind : List ℕ = each_then (led_by (codes " && ") (atom_then names)) atoms rest in
+      let behind : List ℕ = each_then (arrow_by (codes " && ") (atom_then names)) atoms rest in
       ap (λ ps. onto before (GuardMark ∷ ps)) (moved (Within d) 5 (atom_then names a behind))
       ∙ (atom_read d names a w.0).each (GuardMark ∷ before) behind (joints_stop (atom_then names) atoms rest stop)
       ∙ more_atoms d names (First (atom_written names a)) atoms (GuardMark ∷ before) rest w.1 stop;

@@ -13,7 +13,7 @@ use Rattle.its_text.specs.Written.{words_behind, pieces_behind, Goal, Start, Var
 use Rattle.its_text.specs.Grammar.{HaveTargets, Writes}
 use Rattle.its_text.specs.expr_text.model.Programs as plain
 use Rattle.its_text.specs.Written.{WrittenRule}
-use Rattle.its_writer.specs.Layout.{each_then, led_by}
+use Rattle.its_writer.specs.Layout.{each_then, arrow_by}
 use Rattle.its_writer.specs.Expressions.{name_at, name_then}
 use Rattle.its_writer.specs.Texts.{symbol_names, variables_of, rule_then, canonical_text}
 use Rattle.its_writer.proofs.CanonicalSections.{rule_written, rules_written, canonical_sections}
@@ -21,27 +21,27 @@ use Rattle.its_writer.proofs.Lexed.{lexed, moved, word_lexed}
 use Rattle.its_writer.proofs.RulesRead.{IsWritableRule, rules_read}
 
 -- names with blanks before them don't continue a name
-blanks_stop : (names : List Name) (rest : List ℕ) → Stops continues_name rest → Stops continues_name (each_then (led_by (codes " ") name_then) names rest)
+blanks_stop : (names : List Name) (rest : List ℕ) → Stops continues_name rest → Stops continues_name (each_then (arrow_by (codes " ") name_then) names rest)
 blanks_stop [] rest stop = stop
 blanks_stop (n ∷ names) rest stop = refl
 
 -- names with blanks before them are read
 words_read : (done names : List Name) (before : List Piece) (rest : List ℕ) → AllByRecursion IsName names → Stops continues_name rest
-    → onto (words_behind done before) (lexed (Within 0) (each_then (led_by (codes " ") name_then) names rest)) ≡ onto (words_behind (onto names done) before) (lexed (Within 0) rest)
+    → onto (words_behind done before) (lexed (Within 0) (each_then (arrow_by (codes " ") name_then) names rest)) ≡ onto (words_behind (onto names done) before) (lexed (Within 0) rest)
 words_read done [] before rest is stop = refl
 words_read done (n ∷ names) before rest is stop =
-    let behind : List ℕ = each_then (led_by (codes " ") name_then) names rest in
+    let behind : List ℕ = each_then (arrow_by (codes " ") name_then) names rest in
     ap (onto (words_behind done before)) (moved (Within 0) 1 (n ++ behind) ∙ word_lexed 0 n behind is.0 (blanks_stop names rest stop))
     ∙ words_read (n ∷ done) names before rest is.1 stop
 
 -- the section of the variables begins
 variables_begin : (names : List Name) (rules : List ℕ)
-    → lexed (Within 1) (codes "))\n(VAR" ++ each_then (led_by (codes " ") name_then) names (codes ")\n(RULES\n" ++ rules))
-    ≡ close_bracket ∷ close_bracket ∷ open_bracket ∷ word (codes "VAR") ∷ lexed (Within 0) (each_then (led_by (codes " ") name_then) names (codes ")\n(RULES\n" ++ rules))
+    → lexed (Within 1) (codes "))\n(VAR" ++ each_then (arrow_by (codes " ") name_then) names (codes ")\n(RULES\n" ++ rules))
+    ≡ close_bracket ∷ close_bracket ∷ open_bracket ∷ word (codes "VAR") ∷ lexed (Within 0) (each_then (arrow_by (codes " ") name_then) names (codes ")\n(RULES\n" ++ rules))
 variables_begin [] rules = ap (λ ps. close_bracket ∷ close_bracket ∷ open_bracket ∷ word (codes "VAR") ∷ ps) (moved (Within 0) 7 (codes ")\n(RULES\n" ++ rules))
 variables_begin (n ∷ names) rules =
     ap (λ ps. close_bracket ∷ close_bracket ∷ open_bracket ∷ word (codes "VAR") ∷ ps)
-    (moved (Within 0) 7 (each_then (led_by (codes " ") name_then) (n ∷ names) (codes ")\n(RULES\n" ++ rules)))
+    (moved (Within 0) 7 (each_then (arrow_by (codes " ") name_then) (n ∷ names) (codes ")\n(RULES\n" ++ rules)))
 
 -- the written rules have targets
 targets_written : (symbols : List Name) (done : List WrittenRule) (rules : List plain.Rule) → HaveTargets done → HaveTargets (rules_written symbols done rules)
@@ -71,7 +71,7 @@ canonical_lexed : (p : Program) → IsWritableProgram p → lexed Outside (canon
 canonical_lexed p w =
     let start : Name = name_at (symbol_names p) p.start in
     let rules : List ℕ = each_then (rule_then (symbol_names p)) p.rules (41 ∷ 10 ∷ []) in
-    let variables : List ℕ = each_then (led_by (codes " ") name_then) (variables_of p) (codes ")\n(RULES\n" ++ rules) in
+    let variables : List ℕ = each_then (arrow_by (codes " ") name_then) (variables_of p) (codes ")\n(RULES\n" ++ rules) in
     let before_names : List Piece = word (codes "VAR") ∷ open_bracket ∷ pieces_behind (Start start ∷ Goal ∷ []) in
     let before_rules : List Piece = word (codes "RULES") ∷ open_bracket ∷ pieces_behind (Variables (onto (variables_of p) []) ∷ Start start ∷ Goal ∷ []) in
     let first : lexed Outside (canonical_text p) ≡ onto before_start (lexed (Within 1) (start ++ (codes "))\n(VAR" ++ variables))) = text_begins (start ++ (codes "))\n(VAR" ++ variables)) in

@@ -1,4 +1,4 @@
--- It is worked out.
+-- The worked values hold.
 use Rattle.std.proofs.Common.{◌≡◌, true, false, [], ◌∷◌, Some, refl, arith}
 use Rattle.std.specs.Prelude.{codes}
 use Rattle.its_text.specs.expr_text.model.Programs.{Name}

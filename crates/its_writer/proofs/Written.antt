@@ -8,7 +8,7 @@ use Rattle.its_text.specs.expr_text.model.Programs.{Name, Program}
 use Rattle.its_model.specs.Views.{symbol_of}
 use Rattle.its_model.specs.declared.program.Symbol.{Symbol}
 use Rattle.its_text.specs.expr_text.text_core.Names.{name_of}
-use Rattle.its_writer.specs.Layout.{each_then, led_by}
+use Rattle.its_writer.specs.Layout.{each_then, arrow_by}
 use Rattle.its_writer.specs.Expressions.{name_at, name_then}
 use Rattle.its_writer.specs.Texts.{symbol_names, variables_of, rule_then, program_then}
 use Rattle.its_writer.specs.Printing.{Writes, WritesAll}
@@ -16,20 +16,20 @@ use Rattle.its_writer.specs.Printing.{Writes, WritesAll}
 module _ {X Y : Type 0} (view : X → Y) (text : Y → List ℕ → List ℕ) where
   -- one more part is written, with its separator before it
   pub written_more : (led : List ℕ) (xs : List X) (i : ℕ) (x : X) (old mid next new : List ℕ) (all : List ℕ → List ℕ) → i < length xs → x ≡ get_or xs i x
-      → Writes old mid all (each_then (led_by led text) (map view (drop i xs))) → WritesAll mid next (λ rest. led ++ rest) → WritesAll next new (text (view x))
-      → Writes old new all (each_then (led_by led text) (map view (drop (i + 1) xs)))
+      → Writes old mid all (each_then (arrow_by led text) (map view (drop i xs))) → WritesAll mid next (λ rest. led ++ rest) → WritesAll next new (text (view x))
+      → Writes old new all (each_then (arrow_by led text) (map view (drop (i + 1) xs)))
   written_more led xs i x old mid next new all h is a b c = record {
     each = λ rest.
-        let left : List ℕ = each_then (led_by led text) (map view (drop (i + 1) xs)) rest in
+        let left : List ℕ = each_then (arrow_by led text) (map view (drop (i + 1) xs)) rest in
         let more : drop i xs ≡ x ∷ drop (i + 1) xs = drop_more xs i x h ∙ ap (λ (y : X). y ∷ drop (i + 1) xs) (sym is) in
-        c.each left ∙ b.each (text (view x) left) ∙ ap (λ (ys : List X). mid ++ each_then (led_by led text) (map view ys) rest) (sym more) ∙ a.each rest;
+        c.each left ∙ b.each (text (view x) left) ∙ ap (λ (ys : List X). mid ++ each_then (arrow_by led text) (map view ys) rest) (sym more) ∙ a.each rest;
   }
 
   -- nothing is left
   pub written_whole : (led : List ℕ) (xs : List X) (i : ℕ) (old new : List ℕ) (all : List ℕ → List ℕ) → length xs ≤ i
-      → Writes old new all (each_then (led_by led text) (map view (drop i xs))) → WritesAll old new all
+      → Writes old new all (each_then (arrow_by led text) (map view (drop i xs))) → WritesAll old new all
   written_whole led xs i old new all h a = record {
-    each = λ rest. ap (λ (ys : List X). new ++ each_then (led_by led text) (map view ys) rest) (sym (drop_all i xs h)) ∙ a.each rest;
+    each = λ rest. ap (λ (ys : List X). new ++ each_then (arrow_by led text) (map view ys) rest) (sym (drop_all i xs h)) ∙ a.each rest;
   }
 
   -- one more part is written, without a separator
@@ -88,35 +88,35 @@ none_there view (x ∷ keys) zero e = cc
 none_there view (x ∷ keys) (suc i) e = none_there view keys i e
 
 -- one more name is written
-pub name_more : (names : List Name) (i : ℕ) (old mid new : List ℕ) (all : List ℕ → List ℕ) → Writes old mid all (each_then (led_by (codes " ") name_then) (drop i names))
-    → WritesAll mid new (each_then (led_by (codes " ") name_then) (take 1 (drop i names))) → Writes old new all (each_then (led_by (codes " ") name_then) (drop (i + 1) names))
+pub name_more : (names : List Name) (i : ℕ) (old mid new : List ℕ) (all : List ℕ → List ℕ) → Writes old mid all (each_then (arrow_by (codes " ") name_then) (drop i names))
+    → WritesAll mid new (each_then (arrow_by (codes " ") name_then) (take 1 (drop i names))) → Writes old new all (each_then (arrow_by (codes " ") name_then) (drop (i + 1) names))
 name_more names i old mid new all a b = record {
   each = λ rest.
-      b.each (each_then (led_by (codes " ") name_then) (drop (i + 1) names) rest)
-      ∙ ap (λ (bs : List ℕ). mid ++ bs) (one_then (led_by (codes " ") name_then) names i rest)
+      b.each (each_then (arrow_by (codes " ") name_then) (drop (i + 1) names) rest)
+      ∙ ap (λ (bs : List ℕ). mid ++ bs) (one_then (arrow_by (codes " ") name_then) names i rest)
       ∙ a.each rest;
 }
 
 -- no name is left
-pub names_whole : (names : List Name) (i : ℕ) (old new : List ℕ) (all : List ℕ → List ℕ) → length names ≤ i → Writes old new all (each_then (led_by (codes " ") name_then) (drop i names)) → WritesAll old new all
+pub names_whole : (names : List Name) (i : ℕ) (old new : List ℕ) (all : List ℕ → List ℕ) → length names ≤ i → Writes old new all (each_then (arrow_by (codes " ") name_then) (drop i names)) → WritesAll old new all
 names_whole names i old new all h a = record {
-  each = λ rest. ap (λ (ns : List Name). new ++ each_then (led_by (codes " ") name_then) ns rest) (sym (drop_all i names h)) ∙ a.each rest;
+  each = λ rest. ap (λ (ns : List Name). new ++ each_then (arrow_by (codes " ") name_then) ns rest) (sym (drop_all i names h)) ∙ a.each rest;
 }
 
 -- the sections of a program, one after the other
 pub program_written : (p : Program) (known : List Name) (t0 t1 t2 t3 t4 t5 t6 t7 : List ℕ) (r : Result (Unit {0}) AllocError) → known ≡ variables_of p
     → WritesAll t0 t1 (λ rest. codes "(GOAL COMPLEXITY)\n(STARTTERM (FUNCTIONSYMBOLS " ++ rest) → WritesAll t1 t2 (λ rest. name_at (symbol_names p) p.start ++ rest) → WritesAll t2 t3 (λ rest. codes "))\n(VAR" ++ rest)
-    → WritesAll t3 t4 (each_then (led_by (codes " ") name_then) known) → WritesAll t4 t5 (λ rest. codes ")\n(RULES\n" ++ rest) → WritesAll t5 t6 (each_then (rule_then (symbol_names p)) p.rules)
+    → WritesAll t3 t4 (each_then (arrow_by (codes " ") name_then) known) → WritesAll t4 t5 (λ rest. codes ")\n(RULES\n" ++ rest) → WritesAll t5 t6 (each_then (rule_then (symbol_names p)) p.rules)
     → OnOk r (WritesAll t6 t7 (λ rest. codes ")\n" ++ rest)) → OnOk r (WritesAll t0 t7 (program_then p))
 program_written p known t0 t1 t2 t3 t4 t5 t6 t7 (Err e) same a b c d f g h = tt
 program_written p known t0 t1 t2 t3 t4 t5 t6 t7 (Ok u) same a b c d f g h = record {
   each = λ rest.
       let rules : List ℕ = each_then (rule_then (symbol_names p)) p.rules (codes ")\n" ++ rest) in
-      let variables : List ℕ = each_then (led_by (codes " ") name_then) known (codes ")\n(RULES\n" ++ rules) in
+      let variables : List ℕ = each_then (arrow_by (codes " ") name_then) known (codes ")\n(RULES\n" ++ rules) in
       h.each rest ∙ g.each (codes ")\n" ++ rest) ∙ f.each rules ∙ d.each (codes ")\n(RULES\n" ++ rules) ∙ c.each variables
       ∙ b.each (codes "))\n(VAR" ++ variables) ∙ a.each (name_at (symbol_names p) p.start ++ (codes "))\n(VAR" ++ variables))
       ∙ ap (λ (ns : List Name). t0 ++ (codes "(GOAL COMPLEXITY)\n(STARTTERM (FUNCTIONSYMBOLS " ++ (name_at (symbol_names p) p.start ++ (codes "))\n(VAR"
-      ++ each_then (led_by (codes " ") name_then) ns (codes ")\n(RULES\n" ++ rules))))) same;
+      ++ each_then (arrow_by (codes " ") name_then) ns (codes ")\n(RULES\n" ++ rules))))) same;
 }
 
 -- the whole text, where the buffer was empty
@@ -125,11 +125,11 @@ whole_text old new text empty a = sym (append-nil new) ∙ a.each [] ∙ ap (λ 
 
 -- a name is written after a blank, if there is one
 pub name_led : (one : List Name) (name : Name) (old mid new : List ℕ) (r : Result (Unit {0}) AllocError) → one ≡ name ∷ [] → WritesAll old mid (λ rest. codes " " ++ rest)
-    → OnOk r (WritesAll mid new (λ rest. name ++ rest)) → OnOk r (WritesAll old new (each_then (led_by (codes " ") name_then) one))
+    → OnOk r (WritesAll mid new (λ rest. name ++ rest)) → OnOk r (WritesAll old new (each_then (arrow_by (codes " ") name_then) one))
 name_led one name old mid new (Err e) same a b = tt
 name_led one name old mid new (Ok u) same a b = record {
-  each = λ rest. b.each rest ∙ a.each (name ++ rest) ∙ ap (λ (ns : List Name). old ++ each_then (led_by (codes " ") name_then) ns rest) (sym same);
+  each = λ rest. b.each rest ∙ a.each (name ++ rest) ∙ ap (λ (ns : List Name). old ++ each_then (arrow_by (codes " ") name_then) ns rest) (sym same);
 }
 
-pub name_missing : (one : List Name) (old : List ℕ) → one ≡ [] → WritesAll old old (each_then (led_by (codes " ") name_then) one)
-name_missing one old same = record { each = λ rest. ap (λ (ns : List Name). old ++ each_then (led_by (codes " ") name_then) ns rest) (sym same) }
+pub name_missing : (one : List Name) (old : List ℕ) → one ≡ [] → WritesAll old old (each_then (arrow_by (codes " ") name_then) one)
+name_missing one old same = record { each = λ rest. ap (λ (ns : List Name). old ++ each_then (arrow_by (codes " ") name_then) ns rest) (sym same) }

@@ -24,10 +24,10 @@ module _ {X : Type 0} where
   each_then text (x ∷ xs) rest = text x (each_then text xs rest)
 
   -- a text with these bytes before it
-  abbrev pub led_by : List ℕ → (X → List ℕ → List ℕ) → X → List ℕ → List ℕ
-  led_by before text x rest = before ++ text x rest
+  abbrev pub arrow_by : List ℕ → (X → List ℕ → List ℕ) → X → List ℕ → List ℕ
+  arrow_by before text x rest = before ++ text x rest
 
   -- the text of each, with a separator between each two
   abbrev pub joined_then : List ℕ → (X → List ℕ → List ℕ) → List X → List ℕ → List ℕ
   joined_then separator text [] rest = rest
-  joined_then separator text (x ∷ xs) rest = text x (each_then (led_by separator text) xs rest)
+  joined_then separator text (x ∷ xs) rest = text x (each_then (arrow_by separator text) xs rest)

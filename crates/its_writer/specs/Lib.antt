@@ -6,5 +6,5 @@ pub mod Spellable
 pub mod Answers
 pub mod Generated
 pub mod Printing
--- laws, and values that were worked out by hand
+-- Laws and worked values.
 pub mod Worked

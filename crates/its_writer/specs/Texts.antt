@@ -3,7 +3,7 @@ use Rattle.std.specs.Prelude.{ℕ, List, [], ◌∷◌, ◌++◌, map, take, cod
 use Rattle.its_text.specs.expr_text.model.Programs.{Name, Rule, Program}
 use Rattle.its_text.specs.expr_text.model.Terms.{Term}
 use Rattle.its_text.specs.expr_text.Terms.{with_name}
-use Rattle.its_writer.specs.Layout.{each_then, led_by, joined_then}
+use Rattle.its_writer.specs.Layout.{each_then, arrow_by, joined_then}
 use Rattle.its_writer.specs.Expressions.{name_at, name_then, expression_then, guard_then}
 
 -- the names of a program's symbols
@@ -44,7 +44,7 @@ variables_of p = with_rules [] p.rules
 abbrev pub program_then : Program → List ℕ → List ℕ
 program_then p rest =
     codes "(GOAL COMPLEXITY)\n(STARTTERM (FUNCTIONSYMBOLS " ++ (name_at (symbol_names p) p.start ++ (codes "))\n(VAR"
-    ++ each_then (led_by (codes " ") name_then) (variables_of p) (codes ")\n(RULES\n"
+    ++ each_then (arrow_by (codes " ") name_then) (variables_of p) (codes ")\n(RULES\n"
     ++ each_then (rule_then (symbol_names p)) p.rules (codes ")\n" ++ rest))))
 
 -- the canonical text

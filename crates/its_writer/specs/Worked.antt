@@ -187,7 +187,7 @@ pub record WorkedPrograms : Type 0 where
   -- each free variable has to occur somewhere
   pub unused : ¬ IsSpellable (over_f_g (idle ∷ back_rule (Literal (pos 0)) ∷ []))
 
--- all of it
+-- All worked values of this file.
 pub record WorkedValues : Type 0 where
   pub texts : WorkedTexts
   pub spelling : WorkedSpelling

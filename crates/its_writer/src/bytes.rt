@@ -14,7 +14,7 @@ use poly_terms::Memory;
 ///
 /// # Errors
 ///
-/// `Memory` where an allocation fails; the contents of `text` are then unspecified.
+/// `Memory` if an allocation fails; the contents of `text` are then unspecified.
 pub(crate) fn write_bytes(text: &mut Vec<u8>, bytes: &[u8]) -> Result<(), Memory>
     ensures { OnOk result (WritesAll text.old.items text.new.items (λ rest. bytes.now ++ rest)) }
 {
@@ -25,7 +25,7 @@ pub(crate) fn write_bytes(text: &mut Vec<u8>, bytes: &[u8]) -> Result<(), Memory
 ///
 /// # Errors
 ///
-/// `Memory` where an allocation fails; the contents of `text` are then unspecified.
+/// `Memory` if an allocation fails; the contents of `text` are then unspecified.
 pub(crate) fn write_name(text: &mut Vec<u8>, names: &[Name], number: u32) -> Result<(), Memory>
     ensures { OnOk result (WritesAll text.old.items text.new.items
         (λ rest. name_at (map name_of names.now) number ++ rest)) }
@@ -40,7 +40,7 @@ pub(crate) fn write_name(text: &mut Vec<u8>, names: &[Name], number: u32) -> Res
 ///
 /// # Errors
 ///
-/// `Memory` where an allocation fails; the contents of `text` are then unspecified.
+/// `Memory` if an allocation fails; the contents of `text` are then unspecified.
 pub(crate) fn write_integer(text: &mut Vec<u8>, z: i128) -> Result<(), Memory>
     ensures { OnOk result (WritesAll text.old.items text.new.items (integer_then z)) }
 {
@@ -51,7 +51,7 @@ pub(crate) fn write_integer(text: &mut Vec<u8>, z: i128) -> Result<(), Memory>
 ///
 /// # Errors
 ///
-/// `Memory` where an allocation fails; the contents of `text` are then unspecified.
+/// `Memory` if an allocation fails; the contents of `text` are then unspecified.
 pub(crate) fn write_number(text: &mut Vec<u8>, number: u32) -> Result<(), Memory>
     ensures { OnOk result (WritesAll text.old.items text.new.items (integer_then (pos number))) }
 {

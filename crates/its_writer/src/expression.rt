@@ -24,7 +24,7 @@ fn is_operation(e: &Expr) -> bool
 ///
 /// # Errors
 ///
-/// `Memory` where an allocation fails; the contents of `text` are then unspecified.
+/// `Memory` if an allocation fails; the contents of `text` are then unspecified.
 #[cycle(write)]
 pub(crate) fn write_expression(text: &mut Vec<u8>, names: &[Name], e: &Expr) -> Result<(), Memory>
     ensures { OnOk result (WritesAll text.old.items text.new.items
@@ -107,7 +107,7 @@ fn write_atom(text: &mut Vec<u8>, names: &[Name], atom: &Atom) -> Result<(), Mem
 ///
 /// # Errors
 ///
-/// `Memory` where an allocation fails; the contents of `text` are then unspecified.
+/// `Memory` if an allocation fails; the contents of `text` are then unspecified.
 pub(crate) fn write_guard(text: &mut Vec<u8>, names: &[Name], guard: &[Atom]) -> Result<(), Memory>
     ensures { OnOk result (WritesAll text.old.items text.new.items
         (guard_then (map name_of names.now) (map atom_of guard.now))) }

@@ -147,7 +147,7 @@ fn rules(alloc: Global, n: u32) -> Result<Vec<Rule>, Memory>
 ///
 /// # Errors
 ///
-/// `Memory` where an allocation fails.
+/// `Memory` if an allocation fails.
 pub fn generate(alloc: Global, n: u32) -> Result<Program, Memory>
     requires { n ≤ 100 }
     ensures program { IfOk result (λ p. program_of p ≡ generated n) }

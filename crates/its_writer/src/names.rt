@@ -4,7 +4,7 @@ ghost use Rattle.std.specs.Prelude.{◌≡◌, [], codes, drop, map, take, IfOk,
 ghost use Rattle.its_text.specs.expr_text.text_core.Names.{name_of};
 ghost use Rattle.its_model.specs.Views.{rule_of};
 ghost use Rattle.expr_reader.specs.Variables.{names_in};
-ghost use Rattle.its_writer.specs.Layout.{each_then, led_by};
+ghost use Rattle.its_writer.specs.Layout.{each_then, arrow_by};
 ghost use Rattle.its_writer.specs.Expressions.{name_then};
 ghost use Rattle.its_writer.specs.Texts.{with_names, with_rules};
 ghost use Rattle.its_writer.specs.Printing.{WritesAll};
@@ -29,7 +29,7 @@ fn add_names<'a>(known: &mut Variables<'a>, names: &'a [Name]) -> Result<(), Mem
 ///
 /// # Errors
 ///
-/// `Memory` where an allocation fails.
+/// `Memory` if an allocation fails.
 pub(crate) fn variables_of<'a>(alloc: Global, rules: &'a [Rule]) -> Result<Variables<'a>, Memory>
     ensures { IfOk result (λ known. names_in known ≡ with_rules [] (map rule_of rules.now)) }
 {
@@ -43,7 +43,7 @@ pub(crate) fn variables_of<'a>(alloc: Global, rules: &'a [Rule]) -> Result<Varia
 // Writes the name with a number after a blank, if there is one.
 fn write_variable(text: &mut Vec<u8>, known: &Variables<'_>, number: usize) -> Result<(), Memory>
     ensures { OnOk result (WritesAll text.old.items text.new.items
-        (each_then (led_by (codes " ") name_then) (take 1 (drop number (names_in known.now))))) }
+        (each_then (arrow_by (codes " ") name_then) (take 1 (drop number (names_in known.now))))) }
 {
     match known.names().get_index(number) {
         Some(name) => {
@@ -58,10 +58,10 @@ fn write_variable(text: &mut Vec<u8>, known: &Variables<'_>, number: usize) -> R
 ///
 /// # Errors
 ///
-/// `Memory` where an allocation fails; the contents of `text` are then unspecified.
+/// `Memory` if an allocation fails; the contents of `text` are then unspecified.
 pub(crate) fn write_variables(text: &mut Vec<u8>, known: &Variables<'_>) -> Result<(), Memory>
     ensures { OnOk result (WritesAll text.old.items text.new.items
-        (each_then (led_by (codes " ") name_then) (names_in known.now))) }
+        (each_then (arrow_by (codes " ") name_then) (names_in known.now))) }
 {
     for i in 0..known.count() {
         write_variable(text, known, i)?;

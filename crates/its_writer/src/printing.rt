@@ -20,7 +20,7 @@ use std::alloc::Global;
 ///
 /// # Errors
 ///
-/// `Memory` where an allocation fails.
+/// `Memory` if an allocation fails.
 pub fn print(alloc: Global, p: &Program) -> Result<Vec<u8>, Memory>
     ensures text { IfOk result (λ text. text.items ≡ canonical_text (program_of p.now)) }
     ensures spelled { IfOk result (λ text. SpellsBack text.items (program_of p.now)) }

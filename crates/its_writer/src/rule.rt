@@ -18,7 +18,7 @@ use poly_terms::{Expr, Memory};
 ///
 /// # Errors
 ///
-/// `Memory` where an allocation fails; the contents of `text` are then unspecified.
+/// `Memory` if an allocation fails; the contents of `text` are then unspecified.
 pub(crate) fn write_symbol(
     text: &mut Vec<u8>,
     symbols: &[Symbol],
@@ -93,7 +93,7 @@ fn write_updates(text: &mut Vec<u8>, names: &[Name], updates: &[Expr]) -> Result
 ///
 /// # Errors
 ///
-/// `Memory` where an allocation fails; the contents of `text` are then unspecified.
+/// `Memory` if an allocation fails; the contents of `text` are then unspecified.
 pub(crate) fn write_rule(text: &mut Vec<u8>, symbols: &[Symbol], rule: &Rule) -> Result<(), Memory>
     ensures { OnOk result (WritesAll text.old.items text.new.items
         (rule_then (map (λ s. s.name) (map symbol_of symbols.now)) (rule_of rule.now))) }

@@ -1,4 +1,4 @@
--- The report of an analysis is printable where its numbers fit their types, and so it is determined by its text.
+-- The report of an analysis is printable if its numbers fit their types; so it is determined by its text.
 use Rattle.std.proofs.Common.{◌≡◌, ℕ, zero, suc, ◌+◌, ◌<◌, ◌≤◌, List, [], ◌∷◌, length, map, Option, Some, None, refl}
 use Rattle.std.proofs.Common.{sym, ◌∙◌, ap, subst, arith}
 use Rattle.std.specs.Prelude.{ℤ, slice_get}
@@ -27,7 +27,7 @@ use Rattle.time_bounds.specs.rule_questions.RuleAnswers.{answer_for, point_in}
 use Rattle.time_bounds.specs.rank_search.RankAnswers.{points_of, IsReadOff, IsRankAnswer}
 use Rattle.outcome.specs.Reports.{NoTime, NoFunction, TimeHitLimit, TimeLarge, Time, Timed, Untimed}
 use Rattle.outcome.specs.Reports.{Size, Sized, Unsized, RuleCost, Costed, Uncosted, Report, spendings, spent_in}
-use Rattle.time_bounds.specs.bound_fixpoint.Answers.{Target, TimeOf, SizesOf, Lacks, Tells, TellsTime, TellsRanking}
+use Rattle.time_bounds.specs.bound_fixpoint.Answers.{Target, TimeOf, SizesOf, Lacks, AnswersTarget, AnswersTime, AnswersRanking}
 use Rattle.time_bounds.specs.bound_fixpoint.Derivations.{Derivation, bounds_of}
 use Rattle.time_bounds.specs.bound_fixpoint.Keys.{Bounds, over}
 use Rattle.time_bounds.specs.bound_fixpoint.Rounds.{IsAskedFor, IsNoBound}
@@ -50,7 +50,7 @@ use Rattle.koat_cli.specs.AnalysisTexts.{HasShortNumbers, ReasonFits, TimeFits, 
 use Rattle.koat_cli.specs.AnalysisTexts.{ReportFits}
 use Rattle.koat_cli.specs.AnalysisTexts.{AnalysisTextsStateOneReport}
 
--- what may be there is one
+-- equal disclosed counts are equal numbers
 some_same : (a b : ℕ) → ◌≡◌ {A = Option ℕ} (Some a) (Some b) → a ≡ b
 some_same a b e = cc
 
@@ -73,21 +73,21 @@ points_many : (y : ℕ → ℤ) (gs : List Group) → length (points_of y gs) �
 points_many y [] = refl
 points_many y (g ∷ gs) = omega (arith, points_many (after (suc g.unknowns) y) gs)
 
--- places of symbols of the program whose numbers are short are printable
+-- places of symbols of the program are printable if their numbers are short
 places_fit : (n : ℕ) (all shut : List SymbolPlace) → ((s : SymbolPlace) → Contains all s → s.symbol < n)
     → AllByRecursion (Contains all) shut → AllByRecursion (λ s. IsShort s.place) shut → AllByRecursion (IsPrintablePlace n) shut
 places_fit n all [] few among short = tt
 places_fit n all (s ∷ shut) few among short =
     (record { symbol = few s among.0; place = short.0 }, places_fit n all shut few among.1 short.1)
 
--- a rank question has a group for each rule of its set, and the floor's
+-- a rank question has a group for each rule of its set, and one for the floor
 groups_many : (b : RankedSet) → length (rank_question b).groups ≡ length b.set + 1
 groups_many b =
     let cs = coefficients b (symbols_of_set b) in
     length-append (map (move_group b cs) b.set) (floor_group b cs ∷ [])
     ∙ ap (λ (n : ℕ). n + 1) (length-map b.set (move_group b cs))
 
--- a gap that is read off has a move and a kept point for each rule of its set
+-- a gap that is read off a dual has a move and a kept point for each rule of its set
 module _ (b : RankedSet) (shut : List SymbolPlace) (pivots : ℕ) (empties : List GuardFeasibility) (g : Gap)
     (read : IsReadOff b shut pivots empties g) where
   moves_many : length g.moves ≤ length g.set
@@ -104,7 +104,7 @@ module _ (b : RankedSet) (shut : List SymbolPlace) (pivots : ℕ) (empties : Lis
       ∙ length-map b.set (λ t. point_in (answer_for empties t))) in
       omega (arith, same, ap length read.same_set)
 
--- the shut places of a gap that is read off are places of the program's symbols
+-- the shut places of a gap that is read off a dual are places of the program's symbols
 gap_fits : (p : Program) (pivots : ℕ) (b : Bounds) (t : ℕ) (set : List ℕ) (shut : List SymbolPlace)
     (empties : List GuardFeasibility) (g : Gap) → IsValid p → AreShutOf p b set shut
     → IsReadOff (ranked_set p set t shut) shut pivots empties g → HasShortNumbers g
@@ -126,7 +126,7 @@ gap_fits p pivots b t set shut empties g valid are read short = record {
         let is = (are.places s).0 (subst (λ (xs : List SymbolPlace). Contains xs s) read.same_shut among) in
         target_few p valid is.entry s.symbol is.leads
 
--- the gap of an answer is read off
+-- the gap of an answer is read off a dual
 gap_read : (b : RankedSet) (shut : List SymbolPlace) (pivots : ℕ) (empties : List GuardFeasibility) (f : Gap)
     (a : RankAnswer) → ranking_of a ≡ Unranked f → IsRankAnswer b shut pivots empties a
     → IsReadOff b shut pivots empties f
@@ -143,55 +143,55 @@ gap_read b shut pivots empties f (ranks.OutOfLimits x) e r = absurd (apart e)
     apart : RankHitLimit x ≡ Unranked f → ⊥
     apart y = cc
 
--- a bound that is found, and whose numbers fit
+-- a derived bound is printable, if its numbers fit
 bound_fits : (p : Program) (b : Bound) → IsPrintableBound (length p.start_names) b → FitsTypes b
     → texts.IsPrintableBound (length p.start_names) b
 bound_fits p b h fits = record { tidy = h.0; listed = h.1; fits = fits }
 
 module _ (p : Program) (pivots : ℕ) (valid : IsValid p) (fs : List Derivation)
     (good : ArePrintableBounds (length p.start_names) (bounds_of p fs)) where
-  -- the gap that an answer to the question of a set gives as the reason
+  -- the gap of an answer to a rank question is printable
   answer_fits : (t : ℕ) (g : Gap) (set : List ℕ) (shut : List SymbolPlace) → AreShutOf p (bounds_of p fs) set shut
       → HasShortNumbers g → (answer : Ranking) → (searches_of_program p pivots).Ranks set t shut answer
-      → TellsRanking (setting_of p) (bounds_of p fs) answer (Lacks (OfTime (NoFunction g)))
+      → AnswersRanking (setting_of p) (bounds_of p fs) answer (Lacks (OfTime (NoFunction g)))
       → IsPrintableGap (length p.symbols) g
-  answer_fits t g set shut are short (Ranked node) answered tells = absurd (apart _ tells.1)
+  answer_fits t g set shut are short (Ranked node) answered is_answer = absurd (apart _ is_answer.1)
     where
       apart : (m : ℕ) → OfTime (NoFunction g) ≡ OfTime (TimeLarge m) → ⊥
       apart m x = cc
-  answer_fits t g set shut are short (Unranked f) answered tells =
+  answer_fits t g set shut are short (Unranked f) answered is_answer =
       gap_fits p pivots (bounds_of p fs) t set shut answered.0 g valid are
-      (subst (IsReadOff (ranked_set p set t shut) shut pivots answered.0) (sym (same tells))
+      (subst (IsReadOff (ranked_set p set t shut) shut pivots answered.0) (sym (same is_answer))
       (gap_read (ranked_set p set t shut) shut pivots answered.0 f answered.2.0 answered.2.1 answered.2.2)) short
     where
       same : Lacks (OfTime (NoFunction g)) ≡ Lacks (OfTime (NoFunction f)) → g ≡ f
       same x = cc
-  answer_fits t g set shut are short (RankHitLimit x) answered tells = absurd (apart tells)
+  answer_fits t g set shut are short (RankHitLimit x) answered is_answer = absurd (apart is_answer)
     where
       apart : Lacks (OfTime (NoFunction g)) ≡ Lacks (OfTime (TimeHitLimit x)) → ⊥
       apart y = cc
 
-  -- the result of the answer about a rule
-  told_fits : (t : ℕ) (g : Gap) → HasShortNumbers g
-      → TellsTime (searches_of_program p pivots) (setting_of p) (bounds_of p fs) t (Lacks (OfTime (NoFunction g)))
+  -- the gap of the result for a rule is printable
+  printed_gap_fits : (t : ℕ) (g : Gap) → HasShortNumbers g
+      → AnswersTime (searches_of_program p pivots) (setting_of p) (bounds_of p fs) t (Lacks (OfTime (NoFunction g)))
       → IsPrintableGap (length p.symbols) g
-  told_fits t g short h =
-      answer_fits t g h.asked.set h.asked.shut h.asked.are_shut short h.asked.answer h.asked.answered h.tells
+  printed_gap_fits t g short h =
+      answer_fits t g h.asked.set h.asked.shut h.asked.are_shut short h.asked.answer h.asked.answered h.is_answer
 
-  -- why a time is missing
+  -- the reason why a time is missing is printable
   no_time_fits : (t : ℕ) (why : NoTime) → IsNoBound (searches_of_program p pivots) (setting_of p) fs t 0 (OfTime why)
       → ReasonFits why → IsPrintableNoTime (length p.symbols) why
   no_time_fits t (TimeHitLimit x) h fits = fits
   no_time_fits t (TimeLarge m) h fits = fits
-  no_time_fits t (NoFunction g) h fits = by h.target h.asked h.tells
+  no_time_fits t (NoFunction g) h fits = by h.target h.asked h.is_answer
     where
       by : (x : Target) → IsAskedFor (searches_of_program p pivots) (setting_of p) t 0 x
-          → Tells (searches_of_program p pivots) (setting_of p) (bounds_of p fs) x (Lacks (OfTime (NoFunction g)))
+          → AnswersTarget (searches_of_program p pivots) (setting_of p) (bounds_of p fs) x (Lacks (OfTime (NoFunction g)))
           → IsPrintableGap (length p.symbols) g
-      by (TimeOf u) asked tells = told_fits u g fits tells
-      by (SizesOf keys) asked tells = absurd asked
+      by (TimeOf u) asked is_answer = printed_gap_fits u g fits is_answer
+      by (SizesOf keys) asked is_answer = absurd asked
 
-  -- the times from rule k on
+  -- the times from rule k on are printable
   times_fit : (k : ℕ) (times : List Time) → AreTimesOf (searches_of_program p pivots) p fs k times
       → AllByRecursion TimeFits times → AllByRecursion (IsPrintableTime p) times
   times_fit k [] h fits = tt
@@ -200,7 +200,7 @@ module _ (p : Program) (pivots : ℕ) (valid : IsValid p) (fs : List Derivation)
   times_fit k (Untimed why ∷ times) h fits =
       (no_time_fits k why h.0 fits.0, times_fit (suc k) times h.1 fits.1)
 
-  -- the sizes of rule t from place i on
+  -- the sizes of rule t from place i on are printable
   sizes_fit : (t i : ℕ) (sizes : List Size) → AreSizesOf (searches_of_program p pivots) p fs t i sizes
       → AllByRecursion SizeFits sizes → AllByRecursion (IsPrintableSize p) sizes
   sizes_fit t i [] h fits = tt
@@ -232,7 +232,7 @@ costs_fit p pivots fs good k (Some (Costed b) ∷ costs) h fits = (
 costs_fit p pivots fs good k (Some (Uncosted why) ∷ costs) h fits =
     (fits.0, costs_fit p pivots fs good (suc k) costs h.1 fits.1)
 
--- what rules with printable times and costs spend is tidy, over the start arguments
+-- the bounds on what rules with printable times and costs spend are tidy, over the start arguments
 spent_fits : (p : Program) (t : Time) (c : Option RuleCost) (rest : List (Option Bound)) → IsPrintableTime p t
     → IsPrintableCost p c → ArePrintable (length p.start_names) rest
     → ArePrintable (length p.start_names) (spent_in t c ∷ rest)

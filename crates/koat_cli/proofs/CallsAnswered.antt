@@ -23,7 +23,7 @@ use Rattle.koat_cli.proofs.OneRequest.{answer_of, usage_for_nothing}
 wrote : (call : Call) (put : Put) (s : Status) → EndsWell s call put → WroteWhole s call put
 wrote call put s h = h.ends.wrote h.no_write_fault h.memory
 
--- where there is no request, the usage text comes
+-- if the words have no request, the answer is the usage text
 nothing_gets_usage : (call : Call) (s : Status) (x : List ℕ) → AsksForNothing call.words → Says call s x → s ≡ Usage
 nothing_gets_usage call s x none (ToNothing nothing h) = h.ends
 nothing_gets_usage call s x none (ToRequest r asked h) = absurd (none r asked)
@@ -53,11 +53,11 @@ module _ (laws : Determined) where
       last_exactly call.shelf files call.fetches_before (plan_of r) s w.text last (plans_lawful laws r)
       (answer_of call r s w.text asked w.says) t
 
-  -- the law
+  -- calls end as the law says
   pub calls_answered : CallsAreAnswered
   calls_answered = record { on_shelf = on_shelf; without_file = without_file; usage = usage }
 
--- two answers of a call are one where two answers of its request are
+-- two answers of a call are the same if two answers of its request are
 says_unique : (call : Call) (s t : Status) (x y : List ℕ)
     → ((r : Request) → Asks call.words r → AnswersOf call r s x → AnswersOf call r t y → (s ≡ t) × (x ≡ y))
     → Says call s x → Says call t y → AreOneAnswer s t x y
@@ -68,7 +68,7 @@ says_unique call s t x y one (ToRequest r asked h) said =
     let both = one r asked h (answer_of call r t y asked said) in record { status = both.0; text = both.1 }
 
 module _ (laws : Determined) (call : Call) (s t : Status) (x y : List ℕ) where
-  -- where a shelf discloses its contents, but for faults that came with a rise of its count
+  -- if a shelf discloses its contents, a call has one answer, except for faults that came with a rise of its count
   held_one : (held : Option Files) → call.shelf.held ≡ held → IsSome held → IsHonest call.shelf s
       → IsHonest call.shelf t → Says call s x → Says call t y → AreOneAnswer s t x y
   held_one None e some honest also = absurd (let never : ⊥ = cc in never)
@@ -76,11 +76,11 @@ module _ (laws : Determined) (call : Call) (s t : Status) (x y : List ℕ) where
       says_unique call s t x y (λ r asked.
       answer_unique call.shelf files call.fetches_before (plan_of r) e (plans_lawful laws r) s t x y honest also)
 
-  told_one : IsSome call.shelf.held → IsHonest call.shelf s → IsHonest call.shelf t → Says call s x → Says call t y
+  one_row : IsSome call.shelf.held → IsHonest call.shelf s → IsHonest call.shelf t → Says call s x → Says call t y
       → AreOneAnswer s t x y
-  told_one some = held_one call.shelf.held refl some
+  one_row some = held_one call.shelf.held refl some
 
--- the law
+-- answers exclude each other as the law says
 pub answers_exclude : Determined → AnswersExcludeEachOther
 answers_exclude laws = record {
   other_words = λ call t x y a b. nothing_gets_usage call t y (usage_for_nothing call x a) b;
@@ -88,7 +88,7 @@ answers_exclude laws = record {
       says_unique call s t x y (λ r asked.
       last_unique call.shelf call.fetches_before (plan_of r) s t x y (nothing r asked) (plans_lawful laws r));
   without_faults = λ call s t x y some steady.
-      told_one laws call s t x y some (honest_without_rise call.shelf steady s) (honest_without_rise call.shelf steady t);
+      one_row laws call s t x y some (honest_without_rise call.shelf steady s) (honest_without_rise call.shelf steady t);
   read_faults_aside = λ call s t x y some other also.
-      told_one laws call s t x y some (honest_other call.shelf s other) (honest_other call.shelf t also);
+      one_row laws call s t x y some (honest_other call.shelf s other) (honest_other call.shelf t also);
 }

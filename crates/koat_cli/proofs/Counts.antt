@@ -1,4 +1,4 @@
--- Counts of an outcome's entries are those of its report, and what a loop adds up.
+-- Counts of an outcome's entries are those of its report, as a loop adds them up.
 use Rattle.std.proofs.Common.{◌≡◌, ℕ, ◌+◌, ◌*◌, ◌<◌, ◌≤◌, Bool, cond, List, [], ◌∷◌, length, map, take, get_or, refl, sym}
 use Rattle.std.proofs.Common.{◌∙◌, ap, arith}
 use Rattle.std.specs.Prelude.{sum_by, count_by}
@@ -10,7 +10,7 @@ use Rattle.outcome.specs.Views.{size_of}
 use Rattle.koat_cli.specs.Figures.{is_sized}
 use Rattle.koat_cli.specs.Steps.{is_known_size}
 
--- the sum over a list is that over what is seen of it, where each counts the same
+-- the sum over a list is that over its plain data, if each element counts the same
 sum_seen : {X Y : Type 0} (f : X → ℕ) (g : Y → ℕ) (view : X → Y) → ((x : X) → f x ≡ g (view x)) → (xs : List X)
     → sum_by f xs ≡ sum_by g (map view xs)
 sum_seen f g view same [] = refl
@@ -19,11 +19,11 @@ sum_seen f g view same (x ∷ xs) =
     ∙ (ap (λ (n : ℕ). n + sum_by f xs) (same x)
     ∙ (ap (λ (n : ℕ). g (view x) + n) (sum_seen f g view same xs) ∙ sym (sum_by-cons g (view x) (map view xs))))
 
--- one where a test holds, and none where it doesn't
+-- 1 if a test succeeds, and 0 if it doesn't
 abbrev pub one_where : Bool → ℕ
 one_where b = cond b 1 0
 
--- a count over entries is the count over what they mean
+-- a count over entries is the count over their plain data
 count_seen : {X Y : Type 0} (p : X → Bool) (q : Y → Bool) (view : X → Y) → ((x : X) → p x ≡ q (view x)) → (xs : List X)
     → count_by p xs ≡ count_by q (map view xs)
 count_seen p q view same xs = sum_seen (λ x. one_where (p x)) (λ y. one_where (q y)) view (λ x. ap one_where (same x)) xs
@@ -38,7 +38,7 @@ known_is_sized (sizes.Nonlinear s) = refl
 known_is_sized (sizes.Untimed rule) = refl
 known_is_sized (sizes.Large nodes) = refl
 
--- the entries that are sizes are as many as the report has
+-- the number of entries that are sizes is that of the report
 pub sizes_counted : {R : Type 0} (items : R → List SizeEntry) (rows : List R)
     → sum_by (λ row. count_by is_known_size (items row)) rows
     ≡ sum_by (λ row. count_by is_sized row) (map (λ row. map size_of (items row)) rows)
@@ -46,18 +46,18 @@ sizes_counted items rows =
     sum_seen (λ row. count_by is_known_size (items row)) (λ row. count_by is_sized row) (λ row. map size_of (items row))
     (λ row. count_seen is_known_size is_sized size_of known_is_sized (items row)) rows
 
--- there are as many places as the report has
+-- the number of places is that of the report
 pub places_counted : {R : Type 0} (items : R → List SizeEntry) (rows : List R)
     → sum_by (λ row. length (items row)) rows ≡ sum_by (λ row. length row) (map (λ row. map size_of (items row)) rows)
 places_counted items rows =
     sum_seen (λ row. length (items row)) (λ row. length row) (λ row. map size_of (items row))
     (λ row. sym (length-map (items row) size_of)) rows
 
--- a number is the sum over the first of them, at most 2^64 for each
+-- a number is the sum over the first elements, at most 2^64 for each
 abbrev pub Adds : {X : Type 0} → (X → ℕ) → List X → ℕ → ℕ → Type 0
 Adds f xs i n = (n ≡ sum_by f (take i xs)) × (n ≤ i * 18446744073709551616)
 
--- such a sum and the number of one more element
+-- the sum with the number of one element more
 pub adds_more : {X : Type 0} (f : X → ℕ) (xs : List X) (i n m : ℕ) (x : X) → i < length xs → Adds f xs i n → x ≡ get_or xs i x
     → m ≡ f x → m < 18446744073709551616 → Adds f xs (i + 1) (n + m)
 adds_more f xs i n m x lt h e is small =

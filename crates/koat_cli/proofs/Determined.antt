@@ -1,4 +1,4 @@
--- The laws on which it rests that a call has one answer.
+-- The laws from which it follows that a call has one answer.
 use Rattle.its_reader.specs.its_text.Spelling.{OneProgram}
 use Rattle.its_reader.specs.its_text.Verdicts.{VerdictsAreSpelled}
 use Rattle.its_reader.proofs.its_text.ReaderLaws.{one_program}
@@ -13,9 +13,8 @@ use Rattle.time_bounds.proofs.OneAnalysis.{analysis_one}
 use Rattle.time_bounds.proofs.OneOutcome.{outcome_one}
 use Rattle.time_bounds.proofs.OneProgram.{program_searches_one}
 
--- a text spells one program, and is read as it exactly where it spells it within the limits, an analysis has one
--- outcome, one list of facts is kept, and one report found with it, and steps are a run in range or have one first bad
--- step
+-- a text spells one program, and is read as it exactly if it spells it within the limits; an analysis has one outcome;
+-- one list of facts is kept, with one report; and steps are a run in range or have one first bad step
 pub record Determined : Type 0 where
   pub programs : OneProgram
   pub verdicts : VerdictsAreSpelled
@@ -24,7 +23,7 @@ pub record Determined : Type 0 where
   pub derivations : ReportsWithFactsAreOne
   pub replays : ReplaysAreDecided
 
--- all of them hold, that of replays being the law of replays
+-- all these laws hold; that of replays is the law of replays
 pub determined : ReplaysAreDecided → Determined
 determined replays = record {
   programs = one_program;

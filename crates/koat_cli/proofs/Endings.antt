@@ -1,4 +1,4 @@
--- How a call ends, by what was prepared and what the sink did.
+-- How a call ends, by the prepared answer and the effect of the sink.
 use Rattle.std.proofs.Common.{◌≡◌, ◌≢◌, ◌<◌, List, ℕ, sym, subst, refl}
 use Rattle.outside_io.specs.Counts.{Rose, one_more}
 use Rattle.outside_io.specs.Putting.{AppendsPrefix}
@@ -11,7 +11,7 @@ use Rattle.koat_cli.specs.Answers.{Says}
 use Rattle.koat_cli.specs.Ends.{IsStatusOfFault, Ends}
 use Rattle.koat_cli.proofs.OneRequest.{never_write_fault, never_memory}
 
--- a call without memory ends so
+-- a call whose memory ran out ends in this way
 pub ended_without_memory : (call : Call) (put : Put) → put.puts_after ≡ put.puts_before → Ends Memory call put
 ended_without_memory call put same = record {
   wrote = λ other memory. absurd (memory refl);
@@ -28,7 +28,7 @@ not_write_fault call s x said e = never_write_fault call x (subst (λ (t : Statu
 pub not_memory : (call : Call) (s : Status) (x : List ℕ) → Says call s x → s ≢ Memory
 not_memory call s x said e = never_memory call x (subst (λ (t : Status). Says call t x) e said)
 
--- one whose text the sink took ends with its status
+-- a call whose text the sink took ends with its status
 pub ended_whole : (call : Call) (put : Put) (s : Status) (x : List ℕ) → Says call s x
     → (call.shelf.faults_before < call.shelf.faults_after → s ≡ ReadFault) → Appended put x
     → put.puts_after ≡ one_more put.puts_before → Ends s call put
@@ -40,7 +40,7 @@ ended_whole call put s x said fault appended counted = record {
   no_put = λ e. absurd (not_memory call s x said e);
 }
 
--- a call at whose text the sink had a fault ends with the status of this fault
+-- a call ends with the status of a fault of the sink if the sink had one
 pub ended_in_part : (call : Call) (put : Put) (s : Status) (x : List ℕ) → Says call s x
     → (call.shelf.faults_before < call.shelf.faults_after → s ≡ ReadFault) → Rose put.faults_before put.faults_after
     → AppendsPrefix put.written_before put.written_after x → put.puts_after ≡ one_more put.puts_before

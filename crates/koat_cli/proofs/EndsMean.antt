@@ -1,4 +1,4 @@
--- What the status means with which a call ends.
+-- The meaning of the status with which a call ends.
 use Rattle.std.proofs.Common.{◌≡◌, ◌≢◌, ℕ, List, Option, Some, None, IsSome, IsTrue, IsFalse, inl, inr, refl, sym, ◌∙◌, ap}
 use Rattle.std.proofs.Common.{subst}
 use Rattle.model.specs.Bounds.{Bound}
@@ -26,13 +26,13 @@ use Rattle.koat_cli.proofs.BoundedReports.{total_where_bounded}
 use Rattle.koat_cli.proofs.LawfulPlans.{plans_sorted}
 use Rattle.koat_cli.proofs.OneRequest.{answer_of, asked_where, answer_whole, refusal_whole, usage_for_nothing, usage_says}
 
--- a bound that is there
+-- a bound that exists
 bound_there : (o : Option Bound) → IsSome o → (b : Bound) × (o ≡ Some b)
 bound_there None some = absurd (let never : ⊥ = cc in never)
 bound_there (Some b) some = (b, refl)
 
 module _ (call : Call) (put : Put) (n : ℕ) (file : Word) where
-  -- a report that lacks no bound was written with `Done`, and one that lacks one with `Unknown`
+  -- a report that lacks no bound was written with `Done`, and one that lacks a bound with `Unknown`
   done_wrote : Wrote call.shelf put (plan_of (OfProgram Analyse n file)) Done
       → (report : Report) × WroteReport call put n file report × IsTrue (is_bounded report) × IsSome report.total
   done_wrote (p, (gives, (x, (inl told, appended)))) = (
@@ -106,7 +106,7 @@ module _ (s : Status) (call : Call) (put : Put) (ends : Ends s call put) where
       let found = asked_where call s wrote.text whole.1.1 wrote.says in
       (found.0, found.1.0)
 
-  -- with that of a refusal one that refuses a file of it
+  -- with the status of a refusal a text that refuses a file of the request was written
   refused : sort_of s ≡ Refusal
       → (r : Request) × (Asks call.words r × WroteRefusal call.shelf put (plan_of r) s)
   refused is =
@@ -115,7 +115,7 @@ module _ (s : Status) (call : Call) (put : Put) (ends : Ends s call put) where
       let found = asked_where call s wrote.text whole.1.1 wrote.says in
       (found.0, (found.1.0, refused_of call.shelf put call.fetches_before (plan_of found.0) s wrote.text (plans_sorted found.0) is found.1.1 wrote.appended))
 
-  -- with a fault of reading some file of it may fail
+  -- with a fault of reading some file of the request may fail
   fault_whole : s ≡ ReadFault → (s ≢ WriteFault) × ((s ≢ Memory) × (s ≢ Usage))
   fault_whole is = (
     λ e. let same : ReadFault ≡ WriteFault = sym is ∙ e in let never : ⊥ = cc in never,
@@ -148,7 +148,7 @@ module _ (s : Status) (call : Call) (put : Put) (ends : Ends s call put) where
         subst (λ (x : List ℕ). Appended put x) (usage_says call wrote.text said) wrote.appended,
       )
 
--- how a call ends says this of its status
+-- the status with which a call ends has its meaning
 pub ends_mean : (s : Status) (call : Call) (put : Put) → Ends s call put → Means s call put
 ends_mean s call put ends = record {
   done = λ n file made is.

@@ -1,4 +1,4 @@
--- A program that is spelled within the limits has few symbols, since each of its rules names two.
+-- A program that is spelled within the limits has few symbols, since each of its rules names two symbols.
 use Rattle.std.proofs.Common.{◌≡◌, ℕ, suc, ◌+◌, ◌^◌, ◌<◌, ◌≤◌, Bool, true, false, if◌then◌else◌, List, [], ◌∷◌, ◌++◌, length}
 use Rattle.std.proofs.Common.{length-append, Option, Some, None, subst, arith}
 use Rattle.model.specs.Programs.{Name, Symbol, Program}
@@ -9,7 +9,7 @@ use Rattle.its_reader.specs.its_text.Spelling.{HaveRulesWithin, SpellsWithin}
 use Rattle.text_grammar.specs.text_core.Names.{is_among}
 use Rattle.its_reader.proofs.its_text.Reading.{some_is, none_is_some}
 
--- a name makes one symbol more at most
+-- a name adds at most one symbol
 one_more : (symbols : List Symbol) (name : Name) (arity : ℕ) → length (with_symbol symbols name arity) ≤ suc (length symbols)
 one_more symbols name arity = go (is_among name (names_of symbols))
   where
@@ -17,7 +17,7 @@ one_more symbols name arity = go (is_among name (names_of symbols))
     go true = omega arith
     go false = let e = length-append symbols (record { name = name; arity = arity } ∷ []) in omega (arith, e)
 
--- a rule two
+-- a rule adds at most two symbols
 two_each : (rules : List WrittenRule) → length (symbols_of rules) ≤ length rules + length rules
 two_each [] = omega arith
 two_each (r ∷ rules) =
@@ -41,7 +41,7 @@ few_of_parts None (Some rules) p e within = absurd (none_is_some e)
 few_of_parts (Some start) None p e within = absurd (none_is_some e)
 few_of_parts (Some start) (Some rules) p e within = few_from start rules (first_leaving start rules) p e within.0
 
--- the symbols of a program that is read can be numbered in 32 bits
+-- the symbols of a program that was read can be numbered in 32 bits
 pub few_symbols : (bytes : List ℕ) (p : Program) → SpellsWithin bytes p → length p.symbols < 2 ^ 32
 few_symbols bytes p h =
     let few = few_of_parts (start_of h.spells.written) (rules_of h.spells.written) p h.spells.numbered h.within.rules in

@@ -1,4 +1,4 @@
--- Texts of lasso files are decided, and a lasso file has one answer.
+-- Texts of lasso files are decided, and there is one answer on a lasso file.
 use Rattle.std.proofs.Common.{◌≡◌, ℕ, List, None, IfSome, true, false, refl, sym, ◌∙◌, ap, subst, inl, inr}
 use Rattle.model.specs.Programs.{Program}
 use Rattle.run_replay.specs.ReplayLaws.{ReplaysAreDecided}
@@ -12,7 +12,7 @@ use Rattle.lasso_forms.proofs.FileTexts.{files_decided}
 use Rattle.lasso_forms.proofs.OneTurn.{turns_decided}
 use Rattle.call_plans.specs.declared.status.Status.TheVariants.{Done, NotARun}
 use Rattle.call_plans.specs.Lawful.{IsDecided, AreRows}
-use Rattle.call_plans.specs.Plans.{Tells}
+use Rattle.call_plans.specs.Plans.{HasRow}
 use Rattle.call_plans.proofs.Rows.{row_of}
 use Rattle.koat_cli.specs.LassoTexts.{lassos, turn_text, obstacle_text}
 use Rattle.koat_cli.specs.RunTexts.{run_refusal_text}
@@ -28,7 +28,7 @@ lasso_texts_decided p = record {
   apart = λ bytes f text stands refused. files_decided.apart p bytes f refused.subject stands refused.is;
 }
 
--- the rows of a lasso file's answers
+-- the rows of the answers on a lasso file
 module _ (law : ReplaysAreDecided) (p : Program) (f : LassoFile) where
   turn_text_unique : (x y : List ℕ) → StatesTurn p f x → StatesTurn p f y → x ≡ y
   turn_text_unique x y a b =
@@ -46,10 +46,10 @@ module _ (law : ReplaysAreDecided) (p : Program) (f : LassoFile) where
     ),
   )
 
--- a turn that can be repeated is answered with its text
-pub turn_told : EndlessTurnsHaveNoTime → (p : Program) (f : LassoFile) (t : EndlessTurn) (text : List ℕ)
-    → IsEndlessTurn p f t → text ≡ turn_text t → Tells (lasso_answers p f) Done text
-turn_told law p f t text is result_is =
+-- the answer on a turn that can be repeated is its text
+pub turn_answered : EndlessTurnsHaveNoTime → (p : Program) (f : LassoFile) (t : EndlessTurn) (text : List ℕ)
+    → IsEndlessTurn p f t → text ≡ turn_text t → HasRow (lasso_answers p f) Done text
+turn_answered law p f t text is result_is =
     inl (
       refl,
       record {
@@ -63,9 +63,9 @@ turn_told law p f t text is result_is =
       },
     )
 
--- an obstacle is answered with its text
-pub obstacle_told : (p : Program) (f : LassoFile) (e : TurnError) (text : List ℕ)
+-- the answer on an obstacle is its text
+pub obstacle_answered : (p : Program) (f : LassoFile) (e : TurnError) (text : List ℕ)
     → IfSome (obstacle_in e) (HasObstacle p f) → IfSome (obstacle_in e) (λ o. text ≡ obstacle_text o)
-    → (obstacle_in e ≡ None → false ≡ true) → Tells (lasso_answers p f) NotARun text
-obstacle_told p f e text right result_is given =
+    → (obstacle_in e ≡ None → false ≡ true) → HasRow (lasso_answers p f) NotARun text
+obstacle_answered p f e text right result_is given =
     inr (inl (refl, found_stated (HasObstacle p f) obstacle_text (obstacle_in e) text right result_is given))

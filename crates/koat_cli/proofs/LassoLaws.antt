@@ -1,5 +1,5 @@
--- A report whose bounds hold on all runs has no time for some rule of a lasso's turn, and none for any rule of a turn that
--- `lasso` wrote.
+-- A report whose bounds hold on all runs has no time for some rule of a lasso's turn, and none for any rule of a turn
+-- that `lasso` wrote.
 use Rattle.std.proofs.Common.{◌≡◌, ◌≢◌, Bool, true, false, ℕ, zero, suc, ◌-◌, ◌<◌, List, [], ◌∷◌, length}
 use Rattle.std.proofs.Common.{Some, refl, subst, arith, inl, inr}
 use Rattle.std.proofs.lemmas.Bool.{and_parts}
@@ -29,7 +29,7 @@ use Rattle.koat_cli.specs.LassoLaws.{WroteTurn, LassosLeaveTimesMissing}
 use Rattle.koat_cli.specs.RequestPlans.{plan_of}
 use Rattle.koat_cli.proofs.EndsMean.{ends_mean}
 
--- where every rule has a time, each entry is one
+-- if every rule has a time, each entry is one
 entry_timed : (times : List Time) (n : ℕ) → n < length times → list_all is_timed times ≡ true
     → (b : Bound) × (slice_get times n ≡ Some (Timed b))
 entry_timed [] n low all = absurd (omega (arith, low))
@@ -57,8 +57,8 @@ module _ (law : EndlessTurnsHaveNoTime) (p : Program) (f : LassoFile) (r : Repor
 done_differs : Done ≡ NotARun → ⊥
 done_differs e = cc
 
--- what was written of a lasso is its turn, and no report whose bounds hold on every run has a time for a rule of it, or a
--- total where it costs something
+-- the turn that was written is that of the lasso, and no report whose bounds hold on every run has a time for a rule of
+-- it, or a total if it costs something
 turn_written : (call : Call) (put : Put) (file second : Word)
     → Wrote call.shelf put (plan_of (OfPair LassoTask file second)) Done → WroteTurn call put file second
 turn_written call put file second (p, (gives, (f, (also, (x, (inl told, appended)))))) = record {

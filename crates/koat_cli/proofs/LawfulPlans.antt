@@ -49,7 +49,7 @@ check_rows p f = (
 )
 
 module _ (laws : Determined) where
-  -- of a replay
+  -- the rows of a replay
   replay_rows : (p : Program) (r : Run) → AreRows (replay_answers p r)
   replay_rows p r =
       let start = r.start in
@@ -63,7 +63,7 @@ module _ (laws : Determined) where
         ),
       )
 
-  -- of what is answered of a program
+  -- the rows of the answers on a program
   program_rows : (task : ProgramTask) (n : ℕ) (p : Program) → AreRows (program_answers task n p)
   program_rows Analyse n p =
       report_rows (IsAnalysis p n) (StatesReport p n) (laws.reports.each p n) (λ r x h. h.found.found)
@@ -75,7 +75,7 @@ module _ (laws : Determined) where
       report_rows (IsAnalysisWithFacts p n) (StatesFacts p n) (facts_report_unique laws p n)
       (λ r x h. record { facts = h.facts; kept = h.found.kept; found = h.found.found }) (facts_text_unique laws p n)
 
-  -- the answers about a number are rows
+  -- the rows of the answers on a number
   number_rows : (task : NumberTask) (n : ℕ) → AreRows (number_answers task n)
   number_rows Generate n = (row_of (λ x y a b. a.result_is ∙ sym b.result_is) (λ x a. tt) tt, tt)
   number_rows Selfrun n =
@@ -102,7 +102,7 @@ module _ (laws : Determined) where
   plans_lawful (OfFile Translate file) = (while_programs_decided, λ bytes s stands. translation_rows s)
   plans_lawful (While n file) = (while_programs_decided, λ bytes s stands. executions_rows s n laws)
 
--- its statuses are of their sorts
+-- the statuses of the plan are of their sorts
 second_sorted : (task : PairTask) (p : Program) (second : Word) → HasSorts (second_plan task p second)
 second_sorted Check p second = (refl, λ f. (refl, (refl, tt)))
 second_sorted Replay p second = (refl, λ r. (refl, (refl, tt)))
@@ -122,13 +122,13 @@ plans_sorted (OfFile Lp file) = (refl, λ p. (refl, (refl, tt)))
 plans_sorted (OfFile Translate file) = (refl, λ s. (refl, tt))
 plans_sorted (While n file) = (refl, λ s. (refl, (refl, tt)))
 
--- a second file is read behind the first of two
+-- the plan after the program in the first of two files reads a second file
 pub second_not_last : (task : PairTask) (p : Program) (second : Word) → ¬ (IsLast (second_plan task p second))
 second_not_last Check p second last = last
 second_not_last Replay p second last = last
 second_not_last Lasso p second last = last
 
--- a file of another kind is read
+-- the plan of a file of another kind reads a file
 pub file_not_last : (task : FileTask) (file : Word) → ¬ (IsLast (plan_of (OfFile task file)))
 file_not_last Lp file last = last
 file_not_last Translate file last = last

@@ -1,5 +1,5 @@
--- laws of the top call: that a program has one answer, what is read and refused, that plans are lawful, how calls end,
--- and what their statuses mean; worked values
+-- laws of the top call: that a program has one answer, how texts are read and refused, that plans are lawful, how calls
+-- end, and what their statuses mean; worked values
 pub mod Counts
 pub mod Determined
 pub mod Statements
@@ -17,7 +17,7 @@ pub mod WhileAnswers
 pub mod ProofFiles
 pub mod GeneratedTexts
 pub mod WithinBounds
-pub mod ToldTallies
+pub mod AnsweredTallies
 pub mod LassoAnswers
 pub mod LassoLaws
 pub mod LawfulPlans

@@ -1,4 +1,5 @@
--- The lines of two lists beside each other, as a loop writes them: what is written and what is left make the whole.
+-- The lines of two lists beside each other, as a loop writes them: the written text and the remaining one are the
+-- whole.
 use Rattle.std.proofs.Common.{◌≡◌, ℕ, suc, ◌+◌, ◌<◌, ◌≤◌, min, List, [], ◌∷◌, ◌++◌, length, map, drop, get_or, refl, sym, ◌∙◌}
 use Rattle.std.proofs.Common.{ap, append_assoc, arith, inl, inr, ◌⊎◌, Option}
 use Rattle.std.proofs.lemmas.List.{append-nil, at_drop_more}
@@ -14,7 +15,7 @@ use Rattle.koat_cli.specs.ReplayTexts.{lines_beside, count_line, spent_line, spe
 use Rattle.koat_cli.specs.ReplayTexts.{time_value, size_value}
 use Rattle.koat_cli.specs.Steps.{entry_value, cost_lines, place_lines}
 
--- the line of one more pair
+-- the lines with that of one pair more
 pub beside_more : {X Y : Type 0} (line : ℕ → X → Y → List ℕ) (xs : List X) (ys : List Y) (i : ℕ) (x : X) (y : Y)
     (old new all : List ℕ) → i < length xs → i < length ys
     → old ++ lines_beside line (i + 1) (drop i xs) (drop i ys) ≡ all
@@ -34,12 +35,12 @@ beside_more {X} {Y} line xs ys i x y old new all lx ly inv e =
     ∙ (append_assoc old (line (i + 1) (get_or xs i x) (get_or ys i y)) rest
     ∙ (ap (λ (t : List ℕ). old ++ t) (sym (first ∙ second)) ∙ inv)))
 
--- where one list is over there is no line
+-- if one list ends there are no more lines
 none_beside : {X Y : Type 0} (line : ℕ → X → Y → List ℕ) (n : ℕ) (xs : List X) → lines_beside line n xs [] ≡ []
 none_beside line n [] = refl
 none_beside line n (x ∷ xs) = refl
 
--- behind the last pair the lines are whole
+-- after the last pair the lines are whole
 pub beside_end : {X Y : Type 0} (line : ℕ → X → Y → List ℕ) (xs : List X) (ys : List Y) (i : ℕ) (old all : List ℕ)
     → min (length xs) (length ys) ≤ i → old ++ lines_beside line (i + 1) (drop i xs) (drop i ys) ≡ all → old ≡ all
 beside_end {X} {Y} line xs ys i old all over inv = go (nat_cases (length xs) (length ys) i over)
@@ -58,7 +59,7 @@ beside_end {X} {Y} line xs ys i old all over inv = go (nat_cases (length xs) (le
         ∙ none_beside line (i + 1) (drop i xs) in
         sym (append-nil old) ∙ (ap (λ (t : List ℕ). old ++ t) (sym step) ∙ inv)
 
--- pairs whose lines are those of what is seen of them
+-- pairs have the same lines as their plain data
 pub beside_same : {X Y U V : Type 0} (f : ℕ → X → Y → List ℕ) (g : ℕ → U → V → List ℕ) (u : X → U) (v : Y → V)
     → ((n : ℕ) (x : X) (y : Y) → f n x y ≡ g n (u x) (v y)) → (n : ℕ) (xs : List X) (ys : List Y)
     → lines_beside f n xs ys ≡ lines_beside g n (map u xs) (map v ys)
@@ -75,7 +76,7 @@ entry_is_time at gaps (times.Gap g) = refl
 entry_is_time at gaps (times.OutOfLimits t) = refl
 entry_is_time at gaps (times.Large nodes) = refl
 
--- a list as it is
+-- mapping the identity leaves a list unchanged
 same_list : {X : Type 0} (xs : List X) → map (λ x. x) xs ≡ xs
 same_list [] = refl
 same_list (x ∷ xs) = ap (λ (ys : List _). x ∷ ys) (same_list xs)
@@ -90,7 +91,7 @@ times_beside at gaps counts entries =
     ∙ ap (λ (ns : List ℕ). lines_beside (λ rule n t. count_line rule n (time_value at t)) 1 ns (map (time_of gaps) entries))
     (same_list counts)
 
--- the lines of costs are those of what they are as plain data
+-- the lines of costs are those of their plain data
 pub costs_beside : (at spent : List ℕ) (entries : List (Option CostEntry))
     → cost_lines at 1 spent entries ≡ spent_lines at spent (map rule_cost_of entries)
 costs_beside at spent entries =

@@ -5,7 +5,7 @@ use Rattle.lp_text.specs.Problems.{program_in}
 use Rattle.lp_text.specs.Spelled.{IsTextWithin}
 use Rattle.lp_text.specs.Texts.{lps}
 use Rattle.lp_text.proofs.LpParts.{lps_lawful}
-use Rattle.lp_text.proofs.LpTexts.{written_stands}
+use Rattle.lp_text.proofs.LpTexts.{written_parsed}
 use Rattle.lp_answer.specs.Texts.{refusal_text}
 use Rattle.lp_answer.proofs.OneAnswer.{one_answer}
 use Rattle.call_plans.specs.declared.status.Status.TheVariants.{ProgramRefused}
@@ -20,7 +20,7 @@ use Rattle.koat_cli.proofs.GrammarTexts.{texts_decided}
 -- texts of linear programs are decided
 pub lp_texts_decided : IsDecided linear_programs
 lp_texts_decided =
-    texts_decided lps lps_lawful tokens IsTextWithin written_stands program_limit ProgramRefused too_long_text
+    texts_decided lps lps_lawful tokens IsTextWithin written_parsed program_limit ProgramRefused too_long_text
     refusal_text
 
 -- the rows of `lp`

@@ -1,4 +1,4 @@
--- A call answers its one request, and what that says of its status.
+-- A call answers its one request; and what this says of its status.
 use Rattle.std.proofs.Common.{◌≡◌, ◌≢◌, ◌⊎◌, ℕ, List, inl, inr, refl, subst, sym, ◌∙◌, ap}
 use Rattle.command_line.specs.Requests.{Request, Asks}
 use Rattle.command_line.proofs.OneWay.{read_in_one_way}
@@ -12,14 +12,14 @@ use Rattle.koat_cli.specs.RequestPlans.{plan_of}
 use Rattle.koat_cli.specs.Answers.{AsksForNothing, AnswersOf, Says, ToNothing, ToRequest}
 use Rattle.koat_cli.proofs.LawfulPlans.{plans_sorted}
 
--- what a call answers is answered of the request that its words ask for
+-- the answer of a call is that to the request of its words
 pub answer_of : (call : Call) (r : Request) (s : Status) (x : List ℕ) → Asks call.words r → Says call s x
     → AnswersOf call r s x
 answer_of call r s x asked (ToNothing none h) = absurd (none r asked)
 answer_of call r s x asked (ToRequest q q_asked h) =
     subst (λ (p : Request). AnswersOf call p s x) (read_in_one_way.one_request call.words q r q_asked asked) h
 
--- the sort of a status that is answered of a request
+-- the sort of the status of an answer to a request
 pub sort_answered : (call : Call) (r : Request) (s : Status) (x : List ℕ) → AnswersOf call r s x
     → (sort_of s ≡ Answer) ⊎ ((sort_of s ≡ Refusal) ⊎ (s ≡ ReadFault))
 sort_answered call r s x h = sort_in call.shelf call.fetches_before (plan_of r) s x (plans_sorted r) h
@@ -31,14 +31,14 @@ other_apart s other differs (inl answer) = let e : Answer ≡ Other = sym answer
 other_apart s other differs (inr (inl refusal)) = let e : Refusal ≡ Other = sym refusal ∙ other in cc
 other_apart s other differs (inr (inr fault)) = differs fault
 
--- a request isn't answered with the usage text
+-- the answer to a request isn't the usage text
 usage_differs : Usage ≢ ReadFault
 usage_differs e = cc
 
 pub never_usage_of : (call : Call) (r : Request) (x : List ℕ) → ¬ (AnswersOf call r Usage x)
 never_usage_of call r x h = other_apart Usage refl usage_differs (sort_answered call r Usage x h)
 
--- where a call answers with the status of the usage text, there is no request, and the text is the usage text
+-- if the answer of a call has the status of the usage text, there is no request, and the text is the usage text
 pub usage_for_nothing : (call : Call) (x : List ℕ) → Says call Usage x → AsksForNothing call.words
 usage_for_nothing call x said r asked = never_usage_of call r x (answer_of call r Usage x asked said)
 

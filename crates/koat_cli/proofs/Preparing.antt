@@ -1,4 +1,4 @@
--- What is prepared is the answer of the call.
+-- The prepared answer is the answer of the call.
 use Rattle.std.proofs.Common.{◌≡◌, Option, Some, Result, IfOk, MatchOption, subst}
 use Rattle.std.proofs.lemmas.Result.{IfOk-weaker}
 use Rattle.command_line.specs.Lines.{Words}
@@ -9,7 +9,7 @@ use Rattle.call_plans.specs.declared.status_text.StatusText.{StatusText}
 use Rattle.koat_cli.specs.Calls.{Call}
 use Rattle.koat_cli.specs.Answers.{AnswersOf, Says, ToRequest}
 
--- the words ask for the request that was read of them
+-- the words have the request that was read of them
 pub asked : (words : Words) (o : Option declared.Request) (r : declared.Request) → o ≡ Some r
     → MatchOption o ((q : Request) → ¬ (Asks words q)) (λ q. Asks words (request_of q)) → Asks words (request_of r)
 asked words o r e h =

@@ -1,4 +1,4 @@
--- Bytes spell one program at most, or are refused for one first fault, and not both.
+-- Bytes spell at most one program, or are refused for one first fault, and not both.
 use Rattle.std.proofs.Common.{◌≡◌, sym, ◌∙◌, ap}
 use Rattle.model.specs.Programs.{Program}
 use Rattle.its_model.specs.text_core.Readers.{Fault}
@@ -9,7 +9,7 @@ use Rattle.koat_cli.specs.ProgramTexts.{programs}
 use Rattle.koat_cli.specs.Report.{refusal_text}
 use Rattle.koat_cli.proofs.Determined.{Determined}
 
--- two faults with which a text is refused are one
+-- the fault for which a text is refused is unique
 same_fault : (x y : Fault Kind) → ◌≡◌ {A = Answer Program Kind} (Refused x) (Refused y) → x ≡ y
 same_fault x y e = cc
 

@@ -41,7 +41,7 @@ refused_not_accepted p f x (AtNode b) accepts =
 refused_not_accepted p f x (AtGap b) accepts =
     ((file-refusals-in-line.none (setting_of p) (forms_at p) f).0 accepts).1.none b.gap b.fault b.refused
 
--- it is refused at one place, and with one text
+-- a proof file is refused at one place, with one text
 pub one_refusal : (p : Program) (f : ProofFile) (x y : List ℕ) → IsRefusal p f x → IsRefusal p f y → x ≡ y
 one_refusal p f x y (AtNode a) (AtNode b) =
     let one = refusals-in-line.one (setting_of p) f.lemmas a.lemma b.lemma a.node b.node a.reason b.reason a.refused b.refused in

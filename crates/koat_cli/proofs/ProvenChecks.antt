@@ -1,4 +1,4 @@
--- What `prove` wrote of a program is the text of a proof file of it, which is accepted; so `check` accepts it.
+-- The text that `prove` wrote for a program is that of a proof file, which is accepted; so `check` accepts it.
 use Rattle.std.proofs.Common.{◌≡◌, ◌⊎◌, ℕ, ◌≤◌, List, length, Option, Some, None, IsSome, refl, sym}
 use Rattle.std.proofs.Common.{◌∙◌, ap, subst, inl, inr, true, false}
 use Rattle.std.proofs.lemmas.List.{append_cancel_left}
@@ -20,7 +20,7 @@ use Rattle.call_plans.specs.Sorts.{Answer, sort_of}
 use Rattle.call_plans.specs.Calls.{Put}
 use Rattle.call_plans.specs.Gives.{Gives}
 use Rattle.call_plans.specs.Meanings.{Appended, Wrote}
-use Rattle.call_plans.specs.Endings.{Stands, EndsOn}
+use Rattle.call_plans.specs.Endings.{Represented, EndsOn}
 use Rattle.call_plans.proofs.GivenFiles.{given}
 use Rattle.koat_cli.specs.Calls.{Call}
 use Rattle.koat_cli.specs.ProgramTexts.{program_limit, programs}
@@ -32,7 +32,7 @@ use Rattle.koat_cli.proofs.CallsAnswered.{calls_answered}
 use Rattle.koat_cli.proofs.Determined.{Determined}
 use Rattle.koat_cli.proofs.EndsMean.{ends_mean}
 
--- what was appended to disclosed bytes is one text
+-- the text that was appended to disclosed bytes is unique
 one_appended : (before after : Option (List ℕ)) (x y : List ℕ) → IsSome before → Appends before after x → Appends before after y
     → x ≡ y
 one_appended None after x y result_is a b = absurd (different result_is)
@@ -42,11 +42,11 @@ one_appended None after x y result_is a b = absurd (different result_is)
 one_appended (Some old) None x y result_is a b = absurd a
 one_appended (Some old) (Some new) x y result_is a b = append_cancel_left old x y (sym a ∙ b)
 
--- what is there is one
+-- the contents of a file are unique
 there_one : (there : Option (List ℕ)) (a b : List ℕ) → there ≡ Some a → there ≡ Some b → a ≡ b
 there_one there a b left right = let e : Some a ≡ Some b = sym left ∙ right in cc
 
--- a status with which something is proved is that of an answer
+-- the status with which a proof file was written is that of an answer
 proved_answer : (s : Status) → (s ≡ Done) ⊎ (s ≡ Unknown) → sort_of s ≡ Answer
 proved_answer s (inl e) = ap sort_of e
 proved_answer s (inr e) = ap sort_of e
@@ -61,14 +61,14 @@ record Accepted (bytes text : List ℕ) : Type 0 where
   pub accepted : AcceptsFileFor program (file_of_outcome outcome)
 
 module _ (bytes text : List ℕ) (w : WroteProofText bytes text) where
-  -- by what was proved of the program that a file gives
+  -- the text is that of an accepted file for the program that a file gives
   by_proved : (p : Program) (gives : Gives programs w.call.shelf w.file ⊤ p) (o : Outcome) (x : List ℕ)
       → IsProved p w.pivots o x → Appended w.put x → Accepted bytes text
   by_proved p gives o x proved appended =
       let same : gives.bytes ≡ bytes =
       there_one (get w.files w.file) gives.bytes bytes
       (given w.call.shelf.held w.files w.file gives.bytes w.steady.held gives.held) w.held in
-      let is : x ≡ text = one_appended w.put.written_before w.put.written_after x text w.tells appended w.appended in
+      let is : x ≡ text = one_appended w.put.written_before w.put.written_after x text w.is_disclosed appended w.appended in
       record {
         within = subst (λ (b : List ℕ). length b ≤ program_limit) same gives.within;
         program = p;
@@ -92,10 +92,10 @@ module _ (bytes text : List ℕ) (w : WroteProofText bytes text) where
   ends_done : length text ≤ proof_limit → (call : Call) (put : Put) (h : AsksToCheck call put bytes text) → EndsOn h.files (plan_of (OfPair Check h.file h.second)) Done
   ends_done short call put h =
       let a : Accepted bytes text = accepted in
-      Stands bytes h.held a.within a.program a.spelled
-      (Stands text h.second_held short (file_of_outcome a.outcome) a.text_is (inl (refl, a.accepted)))
+      Represented bytes h.held a.within a.program a.spelled
+      (Represented text h.second_held short (file_of_outcome a.outcome) a.text_is (inl (refl, a.accepted)))
 
--- the law
+-- proof files that `prove` wrote are accepted by `check`
 pub proved_accepted : Determined → WhatIsProvedIsAccepted
 proved_accepted laws = record {
   each = λ bytes text w short call put s h ends memory.

@@ -1,4 +1,4 @@
--- What the text of a program is read as, and how it is refused.
+-- The result of reading the text of a program, and how it is refused.
 use Rattle.std.proofs.Common.{◌≡◌, ℕ, List, Option, Some, None, Ok, Err, IfSome, refl, sym, ◌∙◌, ap, subst}
 use Rattle.model.specs.Programs.{Program}
 use Rattle.its_model.specs.declared.program.Program as code
@@ -15,7 +15,7 @@ use Rattle.its_reader.proofs.its_text.VerdictLaws.{verdicts_are_right}
 use Rattle.koat_cli.specs.ProgramTexts.{IsProgramRefusedAs}
 use Rattle.koat_cli.specs.Report.{refusal_text}
 
--- what may be there is one
+-- the fault of a text, if there is one, is unique
 some_same : (x y : Fault Kind) → ◌≡◌ {A = Option (Fault Kind)} (Some x) (Some y) → x ≡ y
 some_same x y e = cc
 
@@ -27,9 +27,9 @@ some_not_none x e = absurd (apart e)
     apart h = cc
 
 -- a text that is read as a program has it as its verdict
-pub read_stands : (a : Answer Program Kind) (q : code.Program) → reader.Says a (Ok q) → a ≡ Stands (program_of q)
-read_stands (Stands p) q h = ap (λ (r : Program). Stands r) (sym h)
-read_stands (Refused x) q h = absurd h
+pub read_program_parsed : (a : Answer Program Kind) (q : code.Program) → reader.Says a (Ok q) → a ≡ Stands (program_of q)
+read_program_parsed (Stands p) q h = ap (λ (r : Program). Stands r) (sym h)
+read_program_parsed (Refused x) q h = absurd h
 
 -- a text that is refused has this fault as its verdict
 pub read_refused : (a : Answer Program Kind) (e : ReadError) (x : Fault Kind) → reader.fault_in e ≡ Some x

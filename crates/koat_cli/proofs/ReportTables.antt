@@ -4,22 +4,21 @@ use Rattle.std.proofs.lemmas.Bool.{both_ways}
 use Rattle.outcome.specs.Reports.{Report, is_bounded}
 use Rattle.call_plans.specs.declared.status.Status.{Status}
 use Rattle.call_plans.specs.declared.status.Status.TheVariants.{Done, Unknown}
-use Rattle.call_plans.specs.Plans.{Tells}
+use Rattle.call_plans.specs.Plans.{HasRow}
 use Rattle.call_plans.specs.Lawful.{AreRows}
 use Rattle.call_plans.proofs.Rows.{row_of}
 use Rattle.koat_cli.specs.Found.{status_of, OfReport, by_report}
 
--- the table answers with the report's status and a text of the report
-pub report_told : (Found : Report → Type 0) (Text : Report → List ℕ → Type 0) (r : Report) (s : Status) (x : List ℕ)
-    → s ≡ status_of r → Text r x → Tells (by_report Found Text) s x
-report_told Found Text r s x ends h = go (is_bounded r) refl ends
+-- the answer of the table is the report's status and a text of the report
+pub report_answered : (Found : Report → Type 0) (Text : Report → List ℕ → Type 0) (r : Report) (s : Status) (x : List ℕ)
+    → s ≡ status_of r → Text r x → HasRow (by_report Found Text) s x
+report_answered Found Text r s x ends h = go (is_bounded r) refl ends
   where
-    go : (v : Bool) → is_bounded r ≡ v → s ≡ (if v then Done else Unknown) → Tells (by_report Found Text) s x
+    go : (v : Bool) → is_bounded r ≡ v → s ≡ (if v then Done else Unknown) → HasRow (by_report Found Text) s x
     go true e is = inl (is, record { report = r; holds = h; bounded = e })
     go false e is = inr (inl (is, record { report = r; holds = h; bounded = e }))
 
--- where one report is found at most, it comes with its texts, and it has one text at most, the rows of the table are
--- rows
+-- the rows of the table are rows, if at most one report is found, it comes with its texts, and has at most one text
 module _ (Found : Report → Type 0) (Text : Report → List ℕ → Type 0)
     (one : (r q : Report) → Found r → Found q → r ≡ q) (comes : (r : Report) (x : List ℕ) → Text r x → Found r)
     (one_text : (r : Report) (x y : List ℕ) → Text r x → Text r y → x ≡ y) where
@@ -34,11 +33,11 @@ module _ (Found : Report → Type 0) (Text : Report → List ℕ → Type 0)
       (subst (λ (r : Report). Text r x) (one a.report b.report (comes a.report x a.holds) (comes b.report y b.holds)) a.holds)
       b.holds
 
-  text_comes : (all : Bool) (x : List ℕ) → OfReport (λ r. Text r x) all → OfReport Found all
-  text_comes all x a = record { report = a.report; holds = comes a.report x a.holds; bounded = a.bounded }
+  text_of_found : (all : Bool) (x : List ℕ) → OfReport (λ r. Text r x) all → OfReport Found all
+  text_of_found all x a = record { report = a.report; holds = comes a.report x a.holds; bounded = a.bounded }
 
   pub report_rows : AreRows (by_report Found Text)
   report_rows = (
-    row_of (texts_one true) (text_comes true) (bounded_apart, tt),
-    (row_of (texts_one false) (text_comes false) tt, tt),
+    row_of (texts_one true) (text_of_found true) (bounded_apart, tt),
+    (row_of (texts_one false) (text_of_found false) tt, tt),
   )

@@ -1,4 +1,4 @@
--- Texts of while programs are decided, and what is answered to one.
+-- Texts of while programs are decided; and the answers on one.
 use Rattle.std.proofs.Common.{◌≡◌, ℕ, List, ◌++◌, Bool, true, false, refl, sym, ◌∙◌, ap, subst, inl, inr}
 use Rattle.model.specs.Programs.{Program}
 use Rattle.its_writer.specs.Answers.{SpellsBack}
@@ -14,7 +14,7 @@ use Rattle.while_answer.proofs.Executed.{executions_follow}
 use Rattle.call_plans.specs.declared.status.Status.{Status}
 use Rattle.call_plans.specs.declared.status.Status.TheVariants.{Done}
 use Rattle.call_plans.specs.Lawful.{IsDecided, AreRows}
-use Rattle.call_plans.specs.Plans.{Tells}
+use Rattle.call_plans.specs.Plans.{HasRow}
 use Rattle.call_plans.proofs.Rows.{row_of}
 use Rattle.koat_cli.specs.Commands.Analyse.{StatesReport, analyse_answers}
 use Rattle.koat_cli.specs.Commands.While.{StatesExecutions, while_answers}
@@ -49,7 +49,7 @@ module _ (source : Source) (pivots : ℕ) where
       report_rows (IsAnalysis (translation_of source) pivots) (StatesExecutions source pivots)
       (laws.reports.each (translation_of source) pivots) (λ r x h. h.stated.found.found) executions_text_unique
 
-  -- the positions before what `analyse` writes of the translation
+  -- the positions before the text that `analyse` writes for the translation
   module _ (within : IsWithin source) (x y : List ℕ) (result_is : y ≡ point_lines 0 source.at ++ x) where
     executions_stated : (r : Report) → StatesReport (translation_of source) pivots r x
         → StatesExecutions source pivots r y
@@ -65,24 +65,24 @@ module _ (source : Source) (pivots : ℕ) where
         → OfReport (λ r. StatesExecutions source pivots r y) all
     of_report all h = record { report = h.report; holds = executions_stated h.report h.holds; bounded = h.bounded }
 
-    told_of_translation : (s : Status) → Tells (analyse_answers pivots (translation_of source)) s x
-        → Tells (while_answers pivots source) s y
-    told_of_translation s (inl told) = inl (told.0, of_report true told.1)
-    told_of_translation s (inr (inl told)) = inr (inl (told.0, of_report false told.1))
-    told_of_translation s (inr (inr never)) = absurd never
+    row_of_translation : (s : Status) → HasRow (analyse_answers pivots (translation_of source)) s x
+        → HasRow (while_answers pivots source) s y
+    row_of_translation s (inl told) = inl (told.0, of_report true told.1)
+    row_of_translation s (inr (inl told)) = inr (inl (told.0, of_report false told.1))
+    row_of_translation s (inr (inr never)) = absurd never
 
-    pub executions_told : (p : Program) (s : Status) → p ≡ translation_of source → Tells (analyse_answers pivots p) s x
-        → Tells (while_answers pivots source) s y
-    executions_told p s is told =
-        told_of_translation s (subst (λ (q : Program). Tells (analyse_answers pivots q) s x) is told)
+    pub executions_answered : (p : Program) (s : Status) → p ≡ translation_of source → HasRow (analyse_answers pivots p) s x
+        → HasRow (while_answers pivots source) s y
+    executions_answered p s is told =
+        row_of_translation s (subst (λ (q : Program). HasRow (analyse_answers pivots q) s x) is told)
 
 -- the rows of a translation, and its text
 pub translation_rows : (source : Source) → AreRows (translate_answers source)
 translation_rows source = (row_of (λ x y a b. a.result_is ∙ sym b.result_is) (λ x a. tt) tt, tt)
 
-pub translation_told : (source : Source) (p : Program) (x : List ℕ) → p ≡ translation_of source → x ≡ canonical_text p
-    → SpellsBack x p → Tells (translate_answers source) Done x
-translation_told source p x is result_is spelled =
+pub translation_answered : (source : Source) (p : Program) (x : List ℕ) → p ≡ translation_of source → x ≡ canonical_text p
+    → SpellsBack x p → HasRow (translate_answers source) Done x
+translation_answered source p x is result_is spelled =
     inl (
       refl,
       record {

@@ -20,7 +20,7 @@ use Rattle.run_replay.specs.Replays.{tally_along}
 use Rattle.koat_cli.specs.WithinBounds.{AreBeside, IsWithinTime, IsWithinCost, IsWithinSize, IsWithinTotal}
 use Rattle.koat_cli.specs.WithinBounds.{IsWithinBounds}
 
--- if each number from k on has its partner, as many as there are, all of them do
+-- if each number from k on has its partner, and the lists are equally long, all numbers do
 beside_numbers : {X Y : Type 0} (Beside : X → Y → Type 0) (f : ℕ → X) (k n : ℕ) (ys : List Y) → length ys ≡ n
     → ((j m : ℕ) (y : Y) → m ≡ k + j → slice_get ys j ≡ Some y → Beside (f m) y)
     → AreBeside Beside (map f (range_with_len k n)) ys
@@ -57,18 +57,18 @@ as_many_costs p r on =
     sym (length-map r.costs is_some)
     ∙ (ap length on.costs ∙ length-map p.rules (λ (rule : Rule). is_some rule.cost))
 
--- the lesser of two numbers is within what one of them is within
+-- the lesser of two numbers is at most what one of them is at most
 least_within : (n k m : ℕ) → n ≤ m → min n k ≤ m
 least_within n k m h = grind arith
 
 module _ (law : ReplaysAreDecided) (p : Program) (r : Report) (valid : IsValid p) (on : IsReportOn p r)
     (holds : ReportHolds p r) (start : List ℤ) (steps : List Step)
     (in_range : IsRunInRange p start steps) where
-  -- where the run leads
+  -- the run that the steps are
   run : IsRun p start steps in_range.0
   run = in_range.1.run
 
-  -- how often a rule occurs
+  -- the count of a rule is within its time
   count_within : (j : ℕ) (t : Time) → slice_get r.times j ≡ Some t
       → IsWithinTime (sizes_of_start start) (count (suc j) steps) t
   count_within j (Timed b) e = (holds.times (suc j) b e).each start steps in_range.0 run
@@ -81,7 +81,7 @@ module _ (law : ReplaysAreDecided) (p : Program) (r : Report) (valid : IsValid p
       (λ j m t e is. let next : suc j ≡ m = omega (arith, e) in
       subst (λ (k : ℕ). IsWithinTime (sizes_of_start start) (count k steps) t) next (count_within j t is))
 
-  -- what the steps by a rule cost together
+  -- the cost of the steps by a rule is within its bound
   cost_within : (j : ℕ) (c : Option RuleCost) → slice_get r.costs j ≡ Some c
       → IsWithinCost (sizes_of_start start) (capped (spent p (suc j) start steps)) c
   cost_within j None e = tt
@@ -97,14 +97,14 @@ module _ (law : ReplaysAreDecided) (p : Program) (r : Report) (valid : IsValid p
       (λ j m c e is. let next : suc j ≡ m = omega (arith, e) in
       subst (λ (k : ℕ). IsWithinCost (sizes_of_start start) (capped (spent p k start steps)) c) next (cost_within j c is))
 
-  -- what all steps cost together
+  -- the cost of all steps is within the total
   total_within : (o : Option Bound) → ((b : Bound) → o ≡ Some b → HoldsTotal p b)
       → IsWithinTotal (sizes_of_start start) (capped (spent_all p start steps)) o
   total_within None h = tt
   total_within (Some b) h =
       least_within (spent_all p start steps) cap (val b (sizes_of_start start)) ((h b refl).each start steps in_range.0 run)
 
-  -- the greatest absolute value at a place after a rule
+  -- the greatest absolute value at a place after a rule is within its size
   size_within : (j i : ℕ) (s : Size) → place_entry (numbered_entry r.sizes (suc j)) (suc i) ≡ Some s
       → IsWithinSize (sizes_of_start start) (greatest_size p start (suc j) (suc i) steps) s
   size_within j i (Sized b) e = go (law.greatest p start steps (suc j) (suc i) (omega arith) in_range).reached
@@ -135,7 +135,7 @@ module _ (law : ReplaysAreDecided) (p : Program) (r : Report) (valid : IsValid p
       subst (λ (k : ℕ). AreBeside (IsWithinSize (sizes_of_start start)) (greatest_sizes p start steps k) row) next
       (row_within j row is))
 
--- all numbers of the tally
+-- all numbers of the tally are within their bounds
 pub tally_within : ReplaysAreDecided → (p : Program) (r : Report) (start : List ℤ) (steps : List Step) → IsValid p
     → IsReportOn p r → ReportHolds p r → IsRunInRange p start steps → IsWithinBounds (sizes_of_start start) (tally_along p start steps) r
 tally_within law p r start steps valid on holds h = record {

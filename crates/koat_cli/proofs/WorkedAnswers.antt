@@ -1,4 +1,4 @@
--- What is answered to some words, the figures of a report, and the texts of what is found of a lasso.
+-- The answers to some words, the figures of a report, and the texts of answers on a lasso.
 use Rattle.std.proofs.Common.{◌≡◌, ◌≢◌, ℕ, List, [], ◌∷◌, get_or, Option, None, refl, ap, arith, codes, inl, inr}
 use Rattle.std.specs.Prelude.{⊤}
 use Rattle.std.specs.Fmt.{digits}
@@ -47,7 +47,7 @@ lasso_texts_worked = record {
   changes = refl;
 }
 
--- the number of the word
+-- the word `0` is the number 0
 no_loop : IsNumber 100 (codes "0") 0
 no_loop = record { some = λ e. cc; digits = refl; plain = refl; value = refl; in_range = omega arith }
 
@@ -75,7 +75,7 @@ selfrun_asked = record {
 abbrev pub call_with : Words → Option ℕ → Seen → Call
 call_with words before seen = record { words = words; fetches_before = before; shelf = seen }
 
--- a status that no row and no file of a request's plan has isn't answered
+-- a status that no row and no file of a request's plan has isn't that of its answer
 module _ (call : Call) (r : Request) (asked : Asks call.words r) where
   pub not_answered : (Holds : Status → Type 0) (s : Status) (x : List ℕ) → OfPlan Holds (plan_of r) → Says call s x → Holds s
   not_answered Holds s x all said =
@@ -84,7 +84,7 @@ module _ (call : Call) (r : Request) (asked : Asks call.words r) where
   pub not_usage : (x : List ℕ) → ¬ (Says call Usage x)
   not_usage x said = never_usage_of call r x (answer_of call r Usage x asked said)
 
--- statuses but one
+-- all statuses but `Unknown`
 abbrev pub IsNotUnknown : Status → Type 0
 IsNotUnknown Unknown = ⊥
 IsNotUnknown status = ⊤
@@ -109,7 +109,7 @@ abbrev IsNotReadFault : Status → Type 0
 IsNotReadFault ReadFault = ⊥
 IsNotReadFault status = ⊤
 
--- `generate 0`
+-- the words `generate 0`
 abbrev generate_words : Words
 generate_words = codes "generate" ∷ codes "0" ∷ []
 
@@ -123,7 +123,7 @@ generate_fetched : (before : Option ℕ) (seen : Seen) (s : Status) (x : List �
 generate_fetched before seen s x other said =
     other (answer_of (call_with generate_words before seen) (OfNumber Generate 0) s x generate_asked said).0
 
--- its text begins with a bracket
+-- the text of the answer begins with a bracket, so it isn't the usage text
 no_usage_text : (s : Status) (before : Option ℕ) (seen : Seen)
     → ¬ (AnswersOf (call_with generate_words before seen) (OfNumber Generate 0) s usage_text)
 no_usage_text s before seen (fetches, inl told) =
@@ -135,7 +135,7 @@ generate_its_text before seen s said =
     no_usage_text s before seen
     (answer_of (call_with generate_words before seen) (OfNumber Generate 0) s usage_text generate_asked said)
 
--- `lasso p q`
+-- the words `lasso p q`
 abbrev lasso_words : Words
 lasso_words = codes "lasso" ∷ codes "p" ∷ codes "q" ∷ []
 

@@ -1,4 +1,4 @@
--- What a fault of the sink leaves of the usage text.
+-- What remains of the usage text after a fault of the sink.
 use Rattle.std.proofs.Common.{◌≡◌, ℕ, zero, suc, ◌≤◌, ◌<◌, List, [], ◌++◌, length, take, get_or, Some, refl, ap, subst}
 use Rattle.std.proofs.Common.{arith, codes, inl, inr}
 use Rattle.std.proofs.lemmas.List.{length-take-le}
@@ -12,7 +12,7 @@ use Rattle.koat_cli.specs.Answers.{Says, ToNothing, ToRequest}
 use Rattle.koat_cli.specs.Ends.{WroteInPart}
 use Rattle.koat_cli.specs.WorkedEnds.{without_words, behind_fault, left_with, Left, FaultsLeaveFirstBytes}
 
--- no words ask for anything
+-- the empty list of words has no request
 none_asks : (request : Request) → Asks [] request → ⊥
 none_asks request h = omega (arith, ap length h.command)
 
@@ -25,21 +25,21 @@ only_text : (status : Status) (text : List ℕ) → Says without_words status te
 only_text status text (ToNothing none h) = h.result_is
 only_text status text (ToRequest request asked h) = absurd (none_asks request asked)
 
--- what is left of the usage text
+-- the bytes that remain of the usage text
 left : (bytes : List ℕ) → Left bytes → (k : ℕ) × (k ≤ length usage_text) × (bytes ≡ codes "old " ++ take k usage_text)
 left bytes h =
     let same : h.text ≡ usage_text = only_text h.status h.text h.says in
     let prefix : AppendsPrefix (Some (codes "old ")) (Some bytes) usage_text = subst (λ (t : List ℕ). AppendsPrefix (Some (codes "old ")) (Some bytes) t) same h.appended in
     (prefix.count, prefix.within, prefix.appends)
 
--- its shelf had no fault
+-- the shelf of the call had no fault
 no_fault : 0 < 0 → Usage ≡ ReadFault
 no_fault h = absurd (no_less h)
   where
     no_less : 0 < 0 → ⊥
     no_less less = omega (arith, less)
 
--- some first bytes are left
+-- each prefix of the usage text may remain
 leaves : (k : ℕ) → k ≤ length usage_text → Left (codes "old " ++ take k usage_text)
 leaves k within = record {
   fault = inl (omega arith);
@@ -50,7 +50,7 @@ leaves k within = record {
   appended = record { count = k; within = within; appends = refl };
 }
 
--- behind what was there the first byte, if there is one, is `u`, and what was there begins with `o`
+-- the first byte after the earlier text, if there is one, is `u`, and the earlier text begins with `o`
 first_bytes : (bytes : List ℕ) → Left bytes → (get_or bytes 4 117 ≡ 117) × (get_or bytes 0 0 ≡ 111)
 first_bytes bytes h = go (left bytes h)
   where
@@ -68,7 +68,7 @@ not_risen : ¬ (Rose 3 3)
 not_risen (inl greater) = omega (arith, greater)
 not_risen (inr at_the_end) = omega (arith, at_the_end)
 
--- behind a fault of the shelf no words have a text
+-- after a fault of the shelf no text is written in part
 no_text : (bytes : List ℕ) → ¬ (WroteInPart behind_fault (left_with 4 bytes))
 no_text bytes h = of_read_fault (subst (λ (s : Status). Says behind_fault s h.text) (h.behind_fault (omega arith)) h.says)
   where
@@ -76,7 +76,7 @@ no_text bytes h = of_read_fault (subst (λ (s : Status). Says behind_fault s h.t
     of_read_fault (ToNothing none u) = let e : ReadFault ≡ Usage = u.ends in cc
     of_read_fault (ToRequest request asked u) = none_asks request asked
 
--- faults leave what was worked out
+-- the worked values of faults hold
 pub faults_leave : FaultsLeaveFirstBytes
 faults_leave = record {
   none = leaves 0 (omega arith);

@@ -1,4 +1,4 @@
--- What is answered to a while program, and what statuses mean then.
+-- The answers on a while program, and what statuses mean then.
 use Rattle.std.proofs.Common.{◌≡◌, ℕ, List, [], ◌∷◌, ◌++◌, get_or, Some, refl, ◌∙◌, ap, inl, inr, arith}
 use Rattle.std.proofs.Common.{codes}
 use Rattle.std.specs.Prelude.{◌⊎◌, ⊤}
@@ -31,7 +31,7 @@ use Rattle.koat_cli.proofs.WorkedAnswers.{call_with, not_answered, not_usage, Is
 use Rattle.koat_cli.proofs.WorkedMeanings.{first_is, first_letter, report_first}
 use Rattle.koat_cli.proofs.WorkedMissingFiles.{only, lacks_checked, has_program}
 
--- a file that is lacking
+-- the answers if the file is lacking
 lacking : Answered while_words (Some 0) (holding (codes "q")) ReadFault read_fault_text
 lacking =
     ToRequest (While 10000 (codes "p")) command_lines.while_program
@@ -42,7 +42,7 @@ not_translated =
     ToRequest (OfFile Translate (codes "p")) command_lines.translation
     (Without refl (Unread (record { fault = inr lacks_checked; result_is = refl; ends = refl })))
 
--- one without bytes
+-- the answers if the file is empty
 empty : Answered while_words (Some 0) (holding (codes "p")) ProgramRefused (codes "program refused at 0: Syntax\n")
 unfolding digits
 empty =
@@ -54,7 +54,7 @@ empty =
       ends = refl;
     })))
 
--- one with a program
+-- the answers if the file has a program
 translated : (seen : Seen) (source : Source) → Gives while_programs seen (codes "p") ⊤ source
     → seen.fetches_after ≡ Some 1
     → Answered translate_words (Some 0) seen Done (canonical_text (translation_of source))
@@ -90,14 +90,14 @@ while_answers_worked laws = record {
   translated = translated;
 }
 
--- the first letter of a report behind positions
+-- the first letter of a text of positions followed by a report
 points_first : (positions lines : List ℕ)
     → (get_or (point_lines 0 positions ++ lines) 0 0 ≡ get_or lines 0 0)
     ⊎ (get_or (point_lines 0 positions ++ lines) 0 0 ≡ 112)
 points_first [] lines = inl refl
 points_first (at ∷ positions) lines = inr refl
 
--- with `Done` it is that of a position, or of a report that lacks no bound
+-- with `Done` the first letter is that of a position, or of a report that lacks no bound
 first_of_done : {a b c : ℕ} → a ≡ b → c ≡ 98 → (b ≡ c) ⊎ (b ≡ 112) → (a ≡ 98) ⊎ (a ≡ 112)
 first_of_done e f (inl g) = inl (e ∙ (g ∙ f))
 first_of_done e f (inr g) = inr (e ∙ g)
@@ -120,7 +120,7 @@ done_first seen bytes h = go (h.answered (While 10000 (codes "p")) command_lines
         absurd (let e : Done ≡ Unknown = told.0 in let never : ⊥ = cc in never)
     go (source, (gives, (x, (inr (inr never), e)))) = absurd never
 
--- nothing, or another headline, has another first letter
+-- the empty text, and another headline, don't begin with this letter
 done_unwritten : (seen : Seen) → ¬ (Meaning while_words 0 seen Done [])
 done_unwritten seen h = go (done_first seen [] h)
   where

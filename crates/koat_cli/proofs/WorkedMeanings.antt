@@ -1,4 +1,4 @@
--- What statuses mean, and which reports `analyse` may have written, come to what was worked out.
+-- The worked values of what statuses mean, and of which reports `analyse` may have written, hold.
 use Rattle.std.proofs.Common.{◌≡◌, ℕ, ◌<◌, Bool, true, false, cond, List, [], ◌∷◌, ◌++◌, length, get_or, Option, Some, None}
 use Rattle.std.proofs.Common.{refl, sym, ◌∙◌, ap, subst, arith, codes, inl, inr}
 use Rattle.std.proofs.lemmas.List.{append_cancel_left}
@@ -38,18 +38,18 @@ use Rattle.koat_cli.proofs.EndsMean.{ends_mean}
 use Rattle.koat_cli.proofs.WorkedAnswers.{generate_asked, answers_worked}
 use Rattle.koat_cli.proofs.WorkedMissingFiles.{steady, has_program, no_analysed, empty_analysed}
 
--- no words ask for anything
+-- the empty list of words has no request
 none_asks : (request : Request) → Asks [] request → ⊥
 none_asks request h = omega (arith, ap length h.command)
 
--- where nothing rises, nothing follows of a rise
+-- no count of faults rises from 0 to 0
 no_rise : (s t : Status) → 0 < 0 → s ≡ t
 no_rise s t less = absurd (none less)
   where
     none : 0 < 0 → ⊥
     none more = omega (arith, more)
 
--- a call that says a text, and wrote it, has what its status means
+-- a call with this answer, which wrote its text, has what its status means
 meant : (words : Words) (before : ℕ) (seen : Seen) (s : Status) (x : List ℕ)
     → Says (record { words = words; fetches_before = Some before; shelf = seen }) s x
     → (seen.faults_before < seen.faults_after → s ≡ ReadFault) → Meaning words before seen s x
@@ -61,14 +61,14 @@ meant words before seen s x said fault =
 pub first_is : (bytes x : List ℕ) → codes "old " ++ bytes ≡ codes "old " ++ x → get_or bytes 0 0 ≡ get_or x 0 0
 first_is bytes x e = ap (λ (w : List ℕ). get_or w 0 0) (append_cancel_left (codes "old ") bytes x e)
 
--- a call without words
+-- endings that a call without words doesn't have
 usage_unwritten : ¬ (WithoutWords Usage [])
 usage_unwritten h = let letter : 0 ≡ 117 = first_is [] usage_text (h.usage refl).1 in omega (arith, letter)
 
 done_without_request : (bytes : List ℕ) → ¬ (WithoutWords Done bytes)
 done_without_request bytes h = let asked = h.asked refl in none_asks asked.0 asked.1
 
--- `generate 0`: what words ask for is its request
+-- the request of `generate 0`
 module _ (bytes : List ℕ) where
   generating : (r : Request) → Asks (codes "generate" ∷ codes "0" ∷ []) r → r ≡ OfNumber Generate 0
   generating r asked =
@@ -108,7 +108,7 @@ generated_unwritten h = let bracket : 0 ≡ 40 = text_of_generated [] h in omega
 generated_otherwise : ¬ (Generating Done usage_text)
 generated_otherwise h = let bracket : 117 ≡ 40 = text_of_generated usage_text h in omega (arith, bracket)
 
--- `analyse p`: what words ask for is its request
+-- the request of `analyse p`
 analysing : (r : Request) → Asks (codes "analyse" ∷ codes "p" ∷ []) r → r ≡ OfProgram Analyse 10000 (codes "p")
 analysing r asked =
     read_in_one_way.one_request (codes "analyse" ∷ codes "p" ∷ []) r (OfProgram Analyse 10000 (codes "p")) asked
@@ -142,7 +142,7 @@ refused_unwritten h =
         omega (arith, letter)
     go (inr (p, (gives, never))) = never
 
--- the first letter of a report, by whether no bound is missing, is that of its headline
+-- the first letter of a report's headline, by whether no bound is missing
 abbrev pub first_letter : Bool → ℕ
 first_letter true = 98
 first_letter false = 117
@@ -156,7 +156,7 @@ pub report_first : (p : Program) (r : Report) → get_or (text_of_report p r) 0 
 unfolding text_of_report
 report_first p r = headline_first (is_bounded r) _ _
 
--- so it is that of what was written
+-- the first letter of the written text is that of the headline
 module _ (call : Call) (bytes : List ℕ) (pivots : ℕ) (file : Word) (r : Report)
     (wrote : WroteReport call (appended bytes) pivots file r) where
   written_first : get_or bytes 0 0 ≡ first_letter (is_bounded r)

@@ -1,4 +1,4 @@
--- What is answered to an analysis, a replay, a check, a lasso and a linear program where a shelf lacks a file.
+-- The answers to an analysis, a replay, a check, a lasso and a linear program, if a shelf lacks a file.
 use Rattle.std.proofs.Common.{◌≡◌, ℕ, List, [], ◌∷◌, Some, None, refl, ◌∙◌, inl, inr, arith, codes}
 use Rattle.std.specs.Fmt.{digits}
 use Rattle.std.specs.Cmp.Lexicographic.{slice_cmp, nat_list_cmp_total}
@@ -37,16 +37,16 @@ use Rattle.koat_cli.proofs.Determined.{Determined}
 use Rattle.koat_cli.proofs.LawfulPlans.{plans_lawful}
 use Rattle.koat_cli.proofs.OneRequest.{answer_of}
 
--- the files of such a shelf
+-- the files of a shelf with one file
 abbrev one_file : Word → Files
 one_file name = insert empty name []
 
--- it has no fault
+-- the shelf has no fault
 pub steady : ¬ (Rose 0 0)
 steady (inl more) = omega (arith, more)
 steady (inr most) = omega (arith, most)
 
--- the files that it holds, by name
+-- the look-up of names in the files that the shelf holds
 lacks_program : get (one_file (codes "-q")) (codes "p") ≡ None
 lacks_program = get-insert nat_list_cmp_total empty (codes "-q") [] (codes "p") ∙ get-empty (slice_cmp nat_cmp) (codes "p")
 
@@ -60,7 +60,7 @@ has_program = get-insert nat_list_cmp_total empty (codes "p") [] (codes "p")
 abbrev pub call_on : Words → Word → Call
 call_on words name = record { words = words; fetches_before = Some 0; shelf = holding name }
 
--- what is answered of its request is one
+-- the answer to a request on such a shelf is unique
 pub only : Determined → (words : Words) (name : Word) (r : Request) → Asks words r → (s t : Status) (x y : List ℕ)
     → Says (call_on words name) s x → Says (call_on words name) t y → s ≡ t
 only laws words name r asked s t x y a b =
@@ -68,7 +68,7 @@ only laws words name r asked s t x y a b =
     (honest_without_rise (holding name) steady s) (honest_without_rise (holding name) steady t)
     (answer_of (call_on words name) r s x asked a) (answer_of (call_on words name) r t y asked b)).0
 
--- a program that is lacking
+-- the answers if the program is lacking
 no_program : Replayed (holding (codes "-q")) ReadFault read_fault_text
 no_program =
     ToRequest (OfPair Replay (codes "p") (codes "-q")) command_lines.replay
@@ -94,7 +94,7 @@ no_solved =
     ToRequest (OfFile Lp (codes "p")) command_lines.linear_program
     (Without refl (Unread (record { fault = inr lacks_checked; result_is = refl; ends = refl })))
 
--- one without bytes
+-- the answers if the program's file is empty
 no_bytes : IsNoText programs (holding (codes "p")) (codes "p") ProgramRefused (codes "program refused at 0: MissingSection\n")
 unfolding digits
 no_bytes =
@@ -141,7 +141,7 @@ empty_solved : Solved (holding (codes "p")) ProgramRefused (codes "program refus
 empty_solved = ToRequest (OfFile Lp (codes "p")) command_lines.linear_program (Without refl empty_lp)
 
 module _ (laws : Determined) where
-  -- each is the only answer
+  -- each of these is the only answer
   only_replayed : (name : Word) (s t : Status) (x y : List ℕ) → Replayed (holding name) s x → Replayed (holding name) t y
       → s ≡ t
   only_replayed name =

@@ -1,10 +1,10 @@
--- Texts of replays come to what was worked out, and so do the tallies that are within bounds.
+-- The worked values of texts of replays, and of tallies within bounds, hold.
 use Rattle.std.proofs.Common.{ℕ, ◌≤◌, [], ◌∷◌, refl, arith}
 use Rattle.std.specs.Fmt.{digits}
 use Rattle.koat_cli.specs.WithinBounds.{IsWithinBounds}
 use Rattle.koat_cli.specs.WorkedReplayTexts.{paying, paid_steps, ReplaysAreTexts, TalliesAreBounded}
 
--- all of them by computing
+-- the worked texts of replays hold, by computation
 pub replays_texts : ReplaysAreTexts
 unfolding digits
 replays_texts = record {
@@ -34,7 +34,7 @@ replays_texts = record {
   most_bytes = refl;
 }
 
--- where the second rule's steps cost at most 9 together, and all at most 10, the tally is within the bounds
+-- if the second rule's steps cost at most 9 together, and all steps at most 10, the tally is within the bounds
 paid_within : (cost spent : ℕ) → cost ≤ 9 → spent ≤ 10
     → IsWithinBounds (3 ∷ []) (record paid_steps { costs = 1 ∷ cost ∷ []; spent = spent }) paying
 paid_within cost spent c s = record {
@@ -44,7 +44,7 @@ paid_within cost spent c s = record {
   greatest = ((omega arith, tt), ((omega arith, tt), tt));
 }
 
--- which tallies are within the bounds of a report
+-- the worked values of which tallies are within the bounds of a report hold
 pub tallies_bounded : TalliesAreBounded
 tallies_bounded = record {
   whole = record {

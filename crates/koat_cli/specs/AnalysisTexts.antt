@@ -22,7 +22,7 @@ pub record HasShortNumbers (g : Gap) : Type 0 where
   pub floor : IsPrintablePoint g.floor
   pub kept : AllByRecursion IsPrintablePoint g.kept
 
--- the numbers of a reason why a time is missing fit
+-- the numbers of a reason why a time is missing fit their types
 abbrev pub ReasonFits : NoTime → Type 0
 ReasonFits (NoFunction g) = HasShortNumbers g
 ReasonFits (TimeHitLimit t) = IsPrintableLimitHit t

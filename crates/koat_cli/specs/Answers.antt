@@ -1,4 +1,4 @@
--- What a call answers: its status, and its text.
+-- The answer of a call: its status, and its text.
 use Rattle.std.specs.Prelude.{◌≡◌, List, ℕ}
 use Rattle.command_line.specs.Lines.{Words}
 use Rattle.command_line.specs.Requests.{Request, Asks}
@@ -9,7 +9,7 @@ use Rattle.koat_cli.specs.Calls.{Call}
 use Rattle.koat_cli.specs.Report.{usage_text}
 use Rattle.koat_cli.specs.RequestPlans.{plan_of}
 
--- the words are no command line
+-- the words have no request
 abbrev pub AsksForNothing : Words → Type 0
 AsksForNothing words = (request : Request) → ¬ (Asks words request)
 
@@ -17,18 +17,18 @@ AsksForNothing words = (request : Request) → ¬ (Asks words request)
 abbrev pub FetchesNothing : Words → Type 0
 FetchesNothing words = (request : Request) → Asks words request → IsLast (plan_of request)
 
--- what words get that ask for nothing: the usage text, and no file is fetched
+-- the answer to words without a request: the usage text; and no file is fetched
 pub record IsUsage (call : Call) (status : Status) (text : List ℕ) : Type 0 where
   pub fetches : call.shelf.fetches_after ≡ call.fetches_before
   pub result_is : text ≡ usage_text
   pub ends : status ≡ Usage
 
--- this status and this text are answered of the request
+-- the answer to the request is this status and this text
 abbrev pub AnswersOf : Call → Request → Status → List ℕ → Type 0
 AnswersOf call request status text = OnPlan call.shelf call.fetches_before (plan_of request) status text
 
--- with this status and this text a call answers: the usage text to words that are no command line, and to others what
--- the plan of their request answers
+-- the answer of a call is this status and this text: for words without a request the usage text, and else the answer of
+-- the plan of their request
 pub data Says (call : Call) (status : Status) (text : List ℕ) : Type 0 where
   ToNothing : AsksForNothing call.words → IsUsage call status text → Says call status text
   ToRequest : (request : Request) → Asks call.words request → AnswersOf call request status text

@@ -12,7 +12,8 @@ pub record Call : Type 0 where
   pub fetches_before : Option ℕ
   pub shelf : Seen
 
--- the call with these words that found the shelf so and left it so, by what the shelf's type means
+-- the call with these words that found the shelf in this state and left it in that one, by the meanings of the shelf's
+-- type
 abbrev pub call_of : {F : Type 0} → shelf.Ghosts F → List (String Global) → F → F → Call
 call_of means words before after = record {
   words = map string_bytes words;

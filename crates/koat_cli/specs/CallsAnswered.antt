@@ -18,18 +18,18 @@ pub record IsOnShelf (status : Status) (call : Call) (files : Files) : Type 0 wh
   pub held : call.shelf.held ≡ Some files
   pub no_read_fault : status ≡ ReadFault → ¬ (Rose call.shelf.faults_before call.shelf.faults_after)
 
--- a call ends so, neither with the status of a fault of the sink nor because memory ran out
+-- a call ends with this status, which isn't that of a fault of the sink, nor that of memory that ran out
 pub record EndsWell (status : Status) (call : Call) (put : Put) : Type 0 where
   pub no_write_fault : status ≢ WriteFault
   pub ends : Ends status call put
   pub memory : status ≢ Memory
 
--- With which status a call ends, if memory suffices and the sink has no fault. Where the shelf discloses its contents,
--- and has no fault that the status would come of, a call with a request ends with a status exactly where the contents
--- say so by the request's plan: with that of a fault of reading where a file that is reached is lacking, with that of a
--- refusal where one is too long or its bytes stand for nothing, and with that of a row where the files stand for what
--- the row is for. A call with a request for which no file is read ends with a status exactly where its table says so,
--- whatever the shelf discloses. And a call ends with `Usage` exactly where its words make no request.
+-- With which status a call ends, if memory suffices and the sink has no fault. If the shelf discloses its contents, and
+-- has no fault that would give the status, a call with a request ends with a status exactly if the contents say so by
+-- the request's plan: with that of a fault of reading if a file that is reached is lacking, with that of a refusal if
+-- one is too long or its bytes have no meaning, and with that of a row if the files have the meaning that the row is
+-- for. A call with a request for which no file is read ends with a status exactly if its table says so, whatever the
+-- shelf discloses. And a call ends with `Usage` exactly if its words have no request.
 pub record CallsAreAnswered : Type 0 where
   pub on_shelf : (call : Call) (put : Put) (files : Files) (request : Request) (s t : Status)
       → Asks call.words request → IsOnShelf s call files → EndsWell s call put

@@ -1,4 +1,4 @@
--- What each command answers, a file a command: with which statuses, exactly when, and with which texts.
+-- The answers of each command, one command a file: with which statuses, exactly when, and with which texts.
 pub mod Analyse
 pub mod Prove
 pub mod Facts

@@ -10,14 +10,14 @@ use Rattle.call_plans.specs.Meanings.{Appended}
 use Rattle.koat_cli.specs.Calls.{Call}
 use Rattle.koat_cli.specs.Answers.{Says}
 
--- a text that the call answers with this status was appended, whole, to what was written
+-- the text that is the call's answer with this status was appended, whole, to what was written
 pub record WroteWhole (status : Status) (call : Call) (put : Put) : Type 0 where
   pub text : List ℕ
   pub says : Says call status text
   pub appended : Appended put text
 
 -- the sink had a fault in this call, and some first bytes of the text of the status that would have come were appended;
--- where the shelf's count of faults is greater than before, that is the status of a fault of reading
+-- if the shelf's count of faults is greater than before, that is the status of a fault of reading
 pub record WroteInPart (call : Call) (put : Put) : Type 0 where
   pub fault : Rose put.faults_before put.faults_after
   pub status : Status
@@ -41,8 +41,8 @@ IsStatusOfFault RunRefused = ⊥
 IsStatusOfFault NotARun = ⊥
 
 -- how a call ends: with each status but that of a fault of the sink and that of running out of memory its whole text
--- was written; where the shelf's count of faults is greater than before, only those of faults and of running out of
--- memory come; and there was one put, none where memory ran out
+-- was written; if the shelf's count of faults is greater than before, only those of faults and of running out of memory
+-- come; and there was one put, or none if memory ran out
 pub record Ends (status : Status) (call : Call) (put : Put) : Type 0 where
   pub wrote : status ≢ WriteFault → status ≢ Memory → WroteWhole status call put
   pub write_fault : status ≡ WriteFault → WroteInPart call put

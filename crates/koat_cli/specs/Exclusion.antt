@@ -11,10 +11,9 @@ pub record AreOneAnswer (s t : Status) (x y : List ℕ) : Type 0 where
   pub status : s ≡ t
   pub text : x ≡ y
 
--- a call that answers with the usage text has no other status to answer with, and one that fetches nothing has at most
--- one answer. Where the shelf discloses its contents, a call has at most one answer, apart from faults of reading that
--- came with a rise of the shelf's count; so each status comes exactly in its case, but for faults and running out of
--- memory
+-- a call whose answer is the usage text has no other status, and a call that fetches nothing has at most one answer. If
+-- the shelf discloses its contents, a call has at most one answer, apart from faults of reading that came with a rise
+-- of the shelf's count; so each status comes exactly in its case, except for faults and running out of memory
 pub record AnswersExcludeEachOther : Type 0 where
   pub other_words : (call : Call) (t : Status) (x y : List ℕ) → Says call Usage x → Says call t y → t ≡ Usage
   pub without_file : (call : Call) (s t : Status) (x y : List ℕ) → FetchesNothing call.words → Says call s x

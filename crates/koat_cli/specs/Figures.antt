@@ -9,7 +9,7 @@ abbrev pub is_sized : Size → Bool
 is_sized (Sized b) = true
 is_sized (Unsized w) = false
 
--- a number, and a part of one, at the end of a line
+-- a number, and how many of how many, at the end of a line
 abbrev pub number_end : ℕ → List ℕ
 number_end n = decimal n ++ codes "\n"
 
@@ -34,6 +34,6 @@ lemmas_line lemmas = codes "lemmas " ++ number_end lemmas
 abbrev pub head_of_figures : Program → Report → List ℕ
 head_of_figures p r = rules_line p ++ (times_line r ++ (sizes_line r ++ total_line p.start_names r.total))
 
--- the figures of a report on a program, which so many lemmas state
+-- the figures of a report on a program, which this many lemmas state
 abbrev pub text_of_figures : Program → Report → ℕ → List ℕ
 text_of_figures p r lemmas = head_of_figures p r ++ lemmas_line lemmas

@@ -1,4 +1,4 @@
--- What an analysis finds of a program, and tables by whether its report lacks a bound.
+-- The report of an analysis of a program, and tables by whether a report lacks a bound.
 use Rattle.std.specs.Prelude.{◌≡◌, ℕ, Bool, true, false, if◌then◌else◌, List}
 use Rattle.model.specs.Programs.{Program}
 use Rattle.outcome.specs.Reports.{Report, is_bounded}
@@ -21,15 +21,15 @@ pub record IsFound (program : Program) (pivots : ℕ) (report : Report) : Type 0
 abbrev pub status_of : Report → Status
 status_of report = if is_bounded report then Done else Unknown
 
--- this holds of a report in which every rule has a time, and every rule with a cost a bound on it, or of one in which
--- one of them is missing, as `all` says
+-- a report with this property, in which every rule has a time, and every rule with a cost a bound on it; or one in
+-- which one of these is missing, as `all` says
 pub record OfReport (Holds : Report → Type 0) (all : Bool) : Type 0 where
   pub report : Report
   pub holds : Holds report
   pub bounded : is_bounded report ≡ all
 
--- A table by the report of which `Found` holds: `Done` where in it every rule has a time, and every rule with a cost a
--- bound on it, and `Unknown` where one of them is missing; with either status the texts that `Text` gives it.
+-- A table by the report with the property `Found`: `Done` if in it every rule has a time, and every rule with a cost a
+-- bound on it, and `Unknown` if one of these is missing; with either status the texts that `Text` gives the report.
 abbrev pub by_report : (Report → Type 0) → (Report → List ℕ → Type 0) → Cases
 by_report Found Text =
     Case Done (OfReport Found true) (λ text. OfReport (λ report. Text report text) true)

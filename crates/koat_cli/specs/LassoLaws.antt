@@ -1,4 +1,4 @@
--- What a lasso says of reports.
+-- What a lasso implies for reports.
 use Rattle.std.specs.Prelude.{◌≡◌, ◌≢◌, ◌≤◌, ℕ, false, Some, ⊤}
 use Rattle.std.specs.List.{All, list_all}
 use Rattle.model.specs.Bounds.{Bound}
@@ -21,9 +21,9 @@ use Rattle.koat_cli.specs.Ends.{Ends}
 use Rattle.koat_cli.specs.LassoTexts.{turn_text, lassos}
 use Rattle.koat_cli.specs.ProgramTexts.{programs}
 
--- The first file gave a program, the second one a lasso of it, and the text of its turn was written, which leads back or
--- moves on. No report on this program whose bounds all hold on every run has a time for a rule of the turn, nor a total where the turn leads
--- back and costs something.
+-- The first file gave a program, the second one a lasso of it, and the text of its turn was written, which leads back
+-- or moves on. No report on this program whose bounds all hold on every run has a time for a rule of the turn, nor a
+-- total if the turn leads back and costs something.
 pub record WroteTurn (call : Call) (put : Put) (file second : Word) : Type 0 where
   pub program : Program
   pub given : Gives programs call.shelf file ⊥ program
@@ -37,9 +37,10 @@ pub record WroteTurn (call : Call) (put : Put) (file second : Word) : Type 0 whe
   pub no_total : (back : Turn) → turn ≡ Back back → 1 ≤ back.cost → (report : Report) → ReportHolds program report
       → (total : Bound) → report.total ≢ Some total
 
--- A report on a program that has a lasso whose turn leads back, or is seen to move on, misses a time, if all its bounds
--- hold on every run. A call that asks for a lasso and ends with `Done` wrote a turn, for whose rules no such report has a
--- time. And where one that asks for an analysis ends with `Done`, the program in its file has no such lasso.
+-- A report on a program that has a lasso whose turn leads back, or is shown to move on, misses a time, if all its
+-- bounds hold on every run. A call that requests a lasso and ends with `Done` wrote a turn, for whose rules no such
+-- report has a time. And if a call that requests an analysis ends with `Done`, the program in its file has no such
+-- lasso.
 pub record LassosLeaveTimesMissing : Type 0 where
   pub each : (p : Program) (f : LassoFile) (r : Report) → CanRepeat p f → IsReportOn p r → ReportHolds p r
       → list_all is_timed r.times ≡ false

@@ -1,5 +1,5 @@
--- Lasso files of both forms as the second file of a request: their limit, and the answers where one is refused; and the
--- texts of what is found of a turn.
+-- Lasso files of both forms as the second file of a request: their limit, and the answers if one is refused; and the
+-- texts of answers on a turn.
 use Rattle.std.specs.Prelude.{ℕ, List, [], ◌∷◌, ◌++◌, ℤ, codes, decimal}
 use Rattle.model.specs.Programs.{Program}
 use Rattle.lasso_forms.specs.lasso_check.Checks.{Turn}
@@ -29,7 +29,7 @@ lassos program = record {
   IsRefusedAs = IsLassoRefusedAs program;
 }
 
--- a rule that occurs without end, and a line for each of them
+-- a rule that occurs without end, and a line for each such rule
 abbrev pub rule_line : ℕ → List ℕ
 rule_line rule = codes "rule " ++ (decimal rule ++ codes "\n")
 
@@ -58,11 +58,11 @@ abbrev pub turn_text : EndlessTurn → List ℕ
 turn_text (Back turn) = back_text turn
 turn_text (On turn) = on_text turn
 
--- the text where a turn leads elsewhere: the first place with another value, or 0 where the symbol is another one
+-- the text if a turn leads elsewhere: the first place with another value, or 0 if the symbol is another one
 abbrev pub open_text : ℕ → List ℕ
 open_text place = codes "not a run: open at place " ++ (decimal place ++ codes "\n")
 
--- the text where a step isn't seen to go on: its number, and the atom or the place
+-- the text if it isn't shown that a step can be repeated: its number, and the atom or the place
 abbrev pub stop_line : ℕ → List ℕ → ℕ → List ℕ
 stop_line step what number =
     codes "not seen to move on at step " ++ (decimal step ++ (codes ": " ++ (what ++ (decimal number ++ codes "\n"))))
@@ -71,11 +71,12 @@ abbrev pub stop_text : ℕ → Stop → List ℕ
 stop_text step (AtomStops atom) = stop_line step (codes "atom ") atom
 stop_text step (PlaceBends place) = stop_line step (codes "place ") place
 
--- the text where the difference at a place is none for each turn: it passes 128 bits, or is another one behind the turn
+-- the text if the difference at a place isn't the same for each turn: it passes 128 bits, or is another one after the
+-- turn
 abbrev pub difference_text : ℕ → List ℕ → List ℕ
 difference_text place what = codes "not seen to move on: difference at place " ++ (decimal place ++ (what ++ codes "\n"))
 
--- the text of what is found of a turn that is to move on
+-- the text of the answer on a turn that is to move on
 abbrev pub finding_text : Finding → List ℕ
 finding_text (Moves turn) = on_text turn
 finding_text LeavesSymbol = codes "not seen to move on: other symbol\n"
@@ -83,7 +84,7 @@ finding_text (PassesAt place) = difference_text place (codes " passes 128 bits")
 finding_text (StopsAt stop) = stop_text stop.number stop.stop
 finding_text (ChangesAt place) = difference_text place (codes " changes")
 
--- the text of what keeps a turn from being repeated, or from being seen to
+-- the text of what prevents that a turn is repeated, or is shown to be
 abbrev pub obstacle_text : Obstacle → List ℕ
 obstacle_text (StepIsBad bad) = bad_step_text bad
 obstacle_text (TurnIsOpen place) = open_text place

@@ -1,4 +1,4 @@
--- Files of linear programs: their limit, and the answers where one is refused.
+-- Files of linear programs: their limit, and the answers if one is refused.
 use Rattle.std.specs.Prelude.{ℕ, List}
 use Rattle.lp_text.specs.Lps.{Lp}
 use Rattle.lp_text.specs.Spelled.{IsTextWithin}
@@ -10,8 +10,8 @@ use Rattle.koat_cli.specs.Statements.{StatesOne}
 use Rattle.koat_cli.specs.Report.{too_long_text}
 use Rattle.koat_cli.specs.ProgramTexts.{program_limit}
 
--- the bytes have a fault as the text of a linear program within the limits, and the text states the first: its kind, and
--- its byte
+-- the bytes have a fault as the text of a linear program within the limits, and the text states the first: its kind,
+-- and its byte
 abbrev pub IsLpRefusedAs : List ℕ → List ℕ → Type 0
 IsLpRefusedAs bytes text = StatesOne (IsFirstFault bytes) refusal_text text
 

@@ -1,4 +1,4 @@
--- What the status means with which a call ends.
+-- The meaning of the status with which a call ends.
 use Rattle.std.specs.Prelude.{◌≡◌, ℕ, IsSome, IsTrue, IsFalse}
 use Rattle.model.specs.Bounds.{Bound}
 use Rattle.command_line.specs.Lines.{Word}
@@ -18,14 +18,14 @@ use Rattle.koat_cli.specs.Answers.{AsksForNothing}
 use Rattle.koat_cli.specs.WroteReport.{WroteReport}
 use Rattle.koat_cli.specs.WroteTotal.{WroteTotal}
 
--- What statuses mean. Where `analyse` ends with `Done`, such a report was written, in which every rule has a time and
--- every rule with a cost a bound on it, and which has a total; and where it ends with `Unknown`, one in which a time or
--- a bound on a cost is missing. Where `while` ends with `Done`, a while program was read, and the report of its
+-- The meanings of statuses. If `analyse` ends with `Done`, such a report was written, in which every rule has a time
+-- and every rule with a cost a bound on it, and which has a total; and if it ends with `Unknown`, one in which a time
+-- or a bound on a cost is missing. If `while` ends with `Done`, a while program was read, and the report of its
 -- translation was written with a total, which bounds the steps of each execution. For every command: with the status of
--- an answer, the words make a request, its files gave all that its plan reads, and a text of the row with this status
--- was written, whole; with the status of a refusal, a text was written, whole, that refuses a file of the request, the
--- files before it having given what the plan reads; with `ReadFault`, a file of the request that is reached so may
--- fail; and with `Usage`, the words make no request, and the usage text was written.
+-- an answer, the words have a request, its files gave all that its plan reads, and a text of the row with this status
+-- was written, whole; with the status of a refusal, a text was written, whole, that refuses a file of the request, and
+-- the files before it gave what the plan reads; with `ReadFault`, a file of the request that is reached in this way may
+-- fail; and with `Usage`, the words have no request, and the usage text was written.
 pub record Means (status : Status) (call : Call) (put : Put) : Type 0 where
   pub done : (pivots : ℕ) (file : Word) → Asks call.words (OfProgram Analyse pivots file) → status ≡ Done
       → (report : Report) × WroteReport call put pivots file report × IsTrue (is_bounded report) × IsSome report.total

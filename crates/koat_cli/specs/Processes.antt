@@ -9,7 +9,7 @@ use Rattle.call_plans.specs.Numbers.{number_of}
 use Rattle.koat_cli.specs.Ends.{Ends}
 use Rattle.koat_cli.specs.Means.{Means}
 
--- the process ends with the number of the status with which the call ends, and this means what it does
+-- the process ends with the number of the status with which the call ends, and the status has its meaning
 pub record Exits (code : ExitCode) (call : Call) (put : Put) : Type 0 where
   pub status : Status
   pub numbered : exit_status code ≡ number_of status

@@ -1,4 +1,4 @@
--- Files of programs: their limit, and the answers where one is refused.
+-- Files of programs: their limit, and the answers if one is refused.
 use Rattle.std.specs.Prelude.{◌≡◌, ℕ, ◌^◌, List}
 use Rattle.model.specs.Programs.{Program}
 use Rattle.its_model.specs.text_core.Readers.{Fault}
@@ -23,7 +23,7 @@ pub record IsProgramRefusedAs (bytes text : List ℕ) : Type 0 where
   pub first : IsVerdict bytes (reading.Refused fault)
   pub result_is : text ≡ refusal_text fault
 
--- texts of programs: bytes stand for the program that they spell within the limits
+-- texts of programs: the meaning of bytes is the program that they spell within the limits
 abbrev pub programs : TextKind Program
 programs = record {
   limit = program_limit;

@@ -1,4 +1,4 @@
--- Proof files as the second file of a request: their limit, and the answers where one is refused.
+-- Proof files as the second file of a request: their limit, and the answers if one is refused.
 use Rattle.std.specs.Prelude.{ℕ, ◌^◌, List, length}
 use Rattle.model.specs.Programs.{Program}
 use Rattle.text_grammar.specs.text_core.Faults.{IsFirst}
@@ -21,7 +21,7 @@ abbrev pub IsProofRefusedAs : Program → List ℕ → List ℕ → Type 0
 IsProofRefusedAs program bytes text =
     StatesOne (IsFirst (reader (proofs_of program)) (length bytes) (tokens program bytes)) proof_refusal_text text
 
--- texts of proof files of a program: bytes stand for a file within the limits whose text they are
+-- texts of proof files of a program: the meaning of bytes is the file within the limits whose text they are
 abbrev pub proofs : Program → TextKind ProofFile
 proofs program = record {
   limit = proof_limit;

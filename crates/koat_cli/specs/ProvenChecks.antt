@@ -1,4 +1,4 @@
--- What `prove` writes is accepted by `check`.
+-- The text that `prove` writes is accepted by `check`.
 use Rattle.std.specs.Prelude.{◌≡◌, ◌≢◌, ◌⊎◌, ℕ, ◌≤◌, List, length, Some, IsSome}
 use Rattle.std.specs.FinMap.{get}
 use Rattle.outside_io.specs.Counts.{Rose}
@@ -21,9 +21,9 @@ pub record IsSteady (call : Call) (put : Put) (files : Files) : Type 0 where
   pub no_read_fault : ¬ (Rose call.shelf.faults_before call.shelf.faults_after)
   pub no_write_fault : ¬ (Rose put.faults_before put.faults_after)
 
--- of a program in a file with these bytes `prove` wrote this text: a call requested it, with some number of pivots, the
--- file being held and no count of faults rising; it ended with `Done` or `Unknown`; and the sink discloses that this
--- text was appended
+-- `prove` wrote this text for the program in a file with these bytes: a call requested it, with some number of pivots,
+-- the file being held and no count of faults rising; it ended with `Done` or `Unknown`; and the sink discloses that
+-- this text was appended
 pub record WroteProofText (bytes text : List ℕ) : Type 0 where
   pub call : Call
   pub put : Put
@@ -36,7 +36,7 @@ pub record WroteProofText (bytes text : List ℕ) : Type 0 where
   pub status : Status
   pub proved : (status ≡ Done) ⊎ (status ≡ Unknown)
   pub ends : Ends status call put
-  pub tells : IsSome put.written_before
+  pub is_disclosed : IsSome put.written_before
   pub appended : Appended put text
 
 -- the words request the check of one file against another, the shelf discloses that it holds them with these bytes, and
@@ -50,9 +50,9 @@ pub record AsksToCheck (call : Call) (put : Put) (bytes text : List ℕ) : Type 
   pub held : get files file ≡ Some bytes
   pub second_held : get files second ≡ Some text
 
--- what `prove` wrote of a program, if it has at most 67,108,864 bytes, is accepted by `check` of the same program:
--- whichever call asks for it, the two files being held and no count of faults rising, ends with `Done`, if memory
--- suffices
+-- the text that `prove` wrote for a program, if it has at most 67,108,864 bytes, is accepted by `check` for the same
+-- program: any call that requests it, the two files being held and no count of faults rising, ends with `Done`, if
+-- memory suffices
 pub record WhatIsProvedIsAccepted : Type 0 where
   pub each : (bytes text : List ℕ) → WroteProofText bytes text → length text ≤ proof_limit
       → (call : Call) (put : Put) (s : Status) → AsksToCheck call put bytes text → Ends s call put → s ≢ Memory

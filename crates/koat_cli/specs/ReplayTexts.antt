@@ -8,11 +8,11 @@ use Rattle.report_text.specs.Pieces.{place_text}
 use Rattle.run_replay.specs.Replays.{Sums}
 use Rattle.koat_cli.specs.Figures.{number_end}
 
--- a value up to 2^127, which stands for every greater one
+-- a value up to 2^127, which is also the text of every greater one
 abbrev pub value_text : ℕ → List ℕ
 value_text n = cond (nat_lt n cap) (decimal n) (codes "2^127 or more")
 
--- the value of a bound at these inputs, where there is one
+-- the value of a bound at these inputs, if there is one
 abbrev pub bound_value : List ℕ → Option Bound → List ℕ
 bound_value at None = codes "unknown"
 bound_value at (Some b) = value_text (capped_val b at)
@@ -73,7 +73,7 @@ count_lines at counts times = lines_beside (λ rule n t. count_line rule n (time
 abbrev pub spent_lines : List ℕ → List ℕ → List (Option RuleCost) → List ℕ
 spent_lines at spent costs = lines_beside (spent_line at) 1 spent costs
 
--- the greatest absolute values at the places after a rule, and after all
+-- the greatest absolute values at the places after a rule, and those after all rules
 abbrev pub greatest_lines : List ℕ → ℕ → List ℕ → List Size → List ℕ
 greatest_lines at rule numbers sizes =
     lines_beside (λ place n s. greatest_line rule place n (size_value at s)) 1 numbers sizes

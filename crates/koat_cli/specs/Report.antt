@@ -11,7 +11,7 @@ use Rattle.its_reader.specs.its_text.Kinds.{LeftNotVariable}
 use Rattle.its_reader.specs.its_text.Kinds.{LeftRepeated, ArityDiffers, NumberTooLarge, Limit, StartUnknown}
 use Rattle.its_reader.specs.its_text.Kinds.{Disjunction}
 
--- the text where a program's file is too long
+-- the text if a program's file is too long
 abbrev pub too_long_text : List ℕ
 too_long_text = codes "program refused: too long\n"
 

@@ -29,19 +29,19 @@ use Rattle.koat_cli.specs.Commands.Lp.{lp_answers}
 use Rattle.koat_cli.specs.Commands.While.{while_answers}
 use Rattle.koat_cli.specs.Commands.Translate.{translate_answers}
 
--- what is answered of a program
+-- the table of answers on a program
 abbrev pub program_answers : ProgramTask → ℕ → Program → Cases
 program_answers Analyse pivots program = analyse_answers pivots program
 program_answers Prove pivots program = prove_answers pivots program
 program_answers Facts pivots program = facts_answers pivots program
 
--- the plan behind the program of the first of two files
+-- the plan after the program in the first of two files was read
 abbrev pub second_plan : PairTask → Program → Word → Plan
 second_plan Check program second = Reads (proofs program) second (λ proof. Answers (check_answers program proof))
 second_plan Replay program second = Reads (runs program) second (λ run. Answers (replay_answers program run))
 second_plan Lasso program second = Reads (lassos program) second (λ file. Answers (lasso_answers program file))
 
--- what is answered of a number
+-- the table of answers on a number
 abbrev pub number_answers : NumberTask → ℕ → Cases
 number_answers Generate n = generate_answers n
 number_answers Selfrun n = selfrun_answers n

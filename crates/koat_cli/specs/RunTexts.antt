@@ -1,4 +1,4 @@
--- Run files as the second file of a request: their limit, and the answers where one is refused.
+-- Run files as the second file of a request: their limit, and the answers if one is refused.
 use Rattle.std.specs.Prelude.{ℕ, ◌^◌, List, length, ◌++◌, codes, decimal}
 use Rattle.model.specs.Programs.{Program}
 use Rattle.its_model.specs.Steps.{StepFault, OtherRule, AtomFails, PastRange}
@@ -21,7 +21,7 @@ use Rattle.koat_cli.specs.Statements.{StatesOne}
 abbrev pub run_limit : ℕ
 run_limit = 2 ^ 26
 
--- the text where a run's file is too long
+-- the text if a run's file is too long
 abbrev pub run_too_long_text : List ℕ
 run_too_long_text = codes "run refused: too long\n"
 
@@ -55,13 +55,13 @@ runs program = record {
   IsRefusedAs = IsRunRefusedAs program;
 }
 
--- what keeps a step from being one
+-- the fault of a step
 abbrev pub fault_text : StepFault → List ℕ
 fault_text OtherRule = codes "wrong rule"
 fault_text (AtomFails atom) = codes "atom " ++ decimal atom
 fault_text PastRange = codes "value passes 128 bits"
 
--- the text where steps are no run: the number of the first bad step, and what keeps it from being one
+-- the text if steps aren't a run: the number of the first bad step, and its fault
 abbrev pub bad_step_line : ℕ → List ℕ → List ℕ
 bad_step_line step fault = codes "not a run at step " ++ (decimal step ++ (codes ": " ++ (fault ++ codes "\n")))
 

@@ -1,7 +1,7 @@
 -- Texts that state something.
 use Rattle.std.specs.Prelude.{◌≡◌, ℕ, List}
 
--- this is true of some subject, and the text has the words for it
+-- some subject has this property, and the text has the words for it
 pub record StatesOne {X : Type 0} (IsTrueOf : X → Type 0) (words : X → List ℕ) (text : List ℕ) : Type 0 where
   pub subject : X
   pub is : IsTrueOf subject

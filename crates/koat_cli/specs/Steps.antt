@@ -21,7 +21,7 @@ is_known_size (sizes.Nonlinear s) = false
 is_known_size (sizes.Untimed rule) = false
 is_known_size (sizes.Large nodes) = false
 
--- the value of the bound of an entry at these inputs, where there is one
+-- the value of the bound of an entry at these inputs, if there is one
 abbrev pub entry_value : List ℕ → TimeEntry → List ℕ
 entry_value at (times.Known s) = value_text (capped_val (bound_of s.bound) at)
 entry_value at (times.Gap g) = codes "unknown"

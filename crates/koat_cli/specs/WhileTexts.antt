@@ -1,4 +1,4 @@
--- Files of while programs: their limit, and the answers where one is refused.
+-- Files of while programs: their limit, and the answers if one is refused.
 use Rattle.std.specs.Prelude.{ℕ, List}
 use Rattle.while_answer.specs.Spelled.{IsTextWithin, IsFirstFault}
 use Rattle.while_answer.specs.Texts.{refusal_text}

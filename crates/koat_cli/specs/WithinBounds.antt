@@ -11,8 +11,8 @@ AreBeside Beside [] (y ∷ ys) = ⊥
 AreBeside Beside (x ∷ xs) [] = ⊥
 AreBeside Beside (x ∷ xs) (y ∷ ys) = Beside x y × AreBeside Beside xs ys
 
--- a number is at most the value at these inputs of a time, of the bound on a rule's cost, of a size, or of a total,
--- where there is one
+-- a number is at most the value at these inputs of a time, of the bound on a rule's cost, of a size, or of a total, if
+-- there is one
 abbrev pub IsWithinTime : List ℕ → ℕ → Time → Type 0
 IsWithinTime at n (Timed b) = n ≤ val b at
 IsWithinTime at n (Untimed why) = ⊤

@@ -1,4 +1,5 @@
--- Worked values of the answers to some words, of the figures of a report as text, and of what is found of a lasso.
+-- Worked values of the answers to some words, of the figures of a report as text, and of the texts of answers on a
+-- lasso.
 use Rattle.std.specs.Prelude.{◌≡◌, ◌≢◌, ℕ, ◌^◌, List, [], ◌∷◌, pos, negsuc, Option, None, codes}
 use Rattle.model.specs.Programs.{Program}
 use Rattle.model.specs.Bounds.{Constant}
@@ -23,7 +24,7 @@ use Rattle.koat_cli.specs.Answers.{Says}
 abbrev pub two_rules : Program
 two_rules = record { symbols = []; start = 0; start_names = []; rules = entry_rule ∷ counting_rule 1 ∷ [] }
 
--- a report in which one of two rules has a time and one of three places a size, without a total
+-- a report in which one of two rules has a time, one of three places has a size, and the total is missing
 abbrev pub one_of_each : Report
 one_of_each = record {
   times = Timed (Constant 1) ∷ Untimed (TimeLarge 9) ∷ [];
@@ -37,9 +38,9 @@ pub record FiguresAreWorkedOut : Type 0 where
   pub figures : text_of_figures two_rules one_of_each 4
       ≡ codes "rules 2\ntimes 1 of 2\nsizes 1 of 3\ntotal: unknown\nlemmas 4\n"
 
--- the text of a turn by two rules that leads back and costs 5, that of one by one rule that costs 2^127 or more; those of
--- turns that move on at two places and at none; those of a bad step, and of turns that lead to another value at the second
--- place, and to another symbol; and those of turns that aren't seen to move on
+-- the text of a turn by two rules that leads back and costs 5, and of one by one rule that costs 2^127 or more; those
+-- of turns that move on at two places and at none; those of a bad step, and of turns that lead to another value at the
+-- second place, and to another symbol; and those of turns that aren't shown to move on
 pub record LassoTextsAreWorkedOut : Type 0 where
   pub turn : turn_text (Back (record { rules = 1 ∷ 12 ∷ []; cost = 5 })) ≡ codes "endless\nrule 1\nrule 12\nturn cost 5\n"
   pub great_cost : turn_text (Back (record { rules = 3 ∷ []; cost = 2 ^ 127 }))
@@ -61,18 +62,18 @@ pub record LassoTextsAreWorkedOut : Type 0 where
   pub changes : obstacle_text (TurnStops (ChangesAt 2))
       ≡ codes "not seen to move on: difference at place 2 changes\n"
 
--- a call with these words, with this count of fetches before, that saw this of the shelf answers with this status and
--- this text
+-- the answer of a call with these words, with this count of fetches before, which saw this of the shelf, is this status
+-- and this text
 abbrev pub Answered : Words → Option ℕ → Seen → Status → List ℕ → Type 0
 Answered words before seen status text =
     Says (record { words = words; fetches_before = before; shelf = seen }) status text
 
--- whatever a call sees of the shelf: `generate 0` is answered with `Done` and the program's text, where nothing was
--- fetched, neither with `Unknown` nor with the usage text, and not where something was; `analyse p`, `facts p` and
--- `prove --pivots=5 p` never with `Usage`, and the latter not with `No`; `check p q` neither with `Usage` nor with
--- `Unknown`, nor as a run is refused; `replay p -- -q` neither with `Usage` nor with `Unknown`; `lasso p q` neither
--- with `Usage` nor with `Unknown`, nor as a proof is refused; `lp p` neither with `Usage` nor as steps that are no run;
--- and `selfrun 0` never with a fault of reading
+-- whatever a call sees of the shelf: the answer to `generate 0` is `Done` with the program's text, if nothing was
+-- fetched, neither `Unknown` nor the usage text, and not if something was fetched; the answer to `analyse p`, `facts p`
+-- and `prove --pivots=5 p` is never `Usage`, and that to the last one isn't `No`; that to `check p q` is neither
+-- `Usage` nor `Unknown`, nor the refusal of a run; that to `replay p -- -q` neither `Usage` nor `Unknown`; that to
+-- `lasso p q` neither `Usage` nor `Unknown`, nor the refusal of a proof; that to `lp p` neither `Usage` nor that steps
+-- aren't a run; and that to `selfrun 0` never a fault of reading
 pub record AnswersAreWorkedOut : Type 0 where
   pub generate : (seen : Seen)
       → Answered (codes "generate" ∷ codes "0" ∷ []) seen.fetches_after seen Done (canonical_text (generated 0))

@@ -1,4 +1,4 @@
--- Worked values of what a fault of the sink leaves, for a call that gets the usage text.
+-- Worked values of what remains of a text after a fault of the sink, for a call that gets the usage text.
 use Rattle.std.specs.Prelude.{ℕ, List, [], ◌++◌, None, Some, codes}
 use Rattle.call_plans.specs.Calls.{Seen, Put}
 use Rattle.koat_cli.specs.Calls.{Call}
@@ -23,7 +23,7 @@ without_words = record { words = []; fetches_before = Some 7; shelf = untold 0 }
 abbrev pub behind_fault : Call
 behind_fault = record { words = []; fetches_before = Some 7; shelf = untold 1 }
 
--- a put that left these bytes behind the text `old`, after which the sink counts so many faults; before it counted 3
+-- a put after which these bytes follow the text `old`, and the sink counts this many faults; before it counted 3
 abbrev pub left_with : ℕ → List ℕ → Put
 left_with faults bytes = record {
   faults_before = 3;
@@ -34,13 +34,13 @@ left_with faults bytes = record {
   written_after = Some bytes;
 }
 
--- with a rise of the count from 3 to 4 the call without words left these bytes
+-- with a rise of the count from 3 to 4 the call without words wrote these bytes
 abbrev pub Left : List ℕ → Type 0
 Left bytes = WroteInPart without_words (left_with 4 bytes)
 
--- a prefix of the usage text, empty or whole or between, is appended to what was there; nothing else is, and nothing
--- replaces what was there; without a rise of the count there was no fault, and a fault of the shelf changes nothing
--- where the words request no file
+-- a prefix of the usage text, empty or whole or between, is appended to the earlier bytes; nothing else is, and nothing
+-- replaces the earlier bytes; without a rise of the count there was no fault, and a fault of the shelf changes nothing
+-- if the words request no file
 pub record FaultsLeaveFirstBytes : Type 0 where
   pub none : Left (codes "old ")
   pub some : Left (codes "old usa")

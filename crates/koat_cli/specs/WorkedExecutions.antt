@@ -1,4 +1,4 @@
--- Worked values of what is answered to a while program, and of what statuses mean then.
+-- Worked values of the answers on a while program, and of what statuses mean then.
 use Rattle.std.specs.Prelude.{◌≡◌, ℕ, List, [], ◌∷◌, ◌++◌, Option, Some, codes, ⊤}
 use Rattle.model.specs.Bounds.{Constant}
 use Rattle.its_writer.specs.Texts.{canonical_text}
@@ -25,9 +25,9 @@ while_words = codes "while" ∷ codes "p" ∷ []
 abbrev pub translate_words : Words
 translate_words = codes "translate" ∷ codes "p" ∷ []
 
--- Where `p` is lacking, the answer to both is a fault of reading and no other, and where it is empty, the refusal of a
--- program at its end. Neither is answered with the usage text, `while p` not as steps that are no run, and `translate
--- p` not as a report without a bound: where `p` gives a program, it is answered with the program's translation.
+-- If `p` is lacking, the answer to both is a fault of reading and no other, and if it is empty, the refusal of a
+-- program at its end. The answer to neither is the usage text; that to `while p` isn't that steps aren't a run, and
+-- that to `translate p` isn't a report without a bound: if `p` gives a program, it is the program's translation.
 pub record WhileAnswersAreWorkedOut : Type 0 where
   pub lacking : Answered while_words (Some 0) (holding (codes "q")) ReadFault read_fault_text
   pub lacking_alone : (status : Status) (text : List ℕ)
@@ -51,8 +51,8 @@ pub record WhileAnswersAreWorkedOut : Type 0 where
       → seen.fetches_after ≡ Some 1
       → Answered translate_words (Some 0) seen Done (canonical_text (translation_of source))
 
--- `while p` doesn't end with `Done` if nothing was written, nor if a report without a bound was; of the counting loop
--- no report was written with a total of 2. `translate p` doesn't end with `Done` if nothing was written.
+-- `while p` doesn't end with `Done` if nothing was written, nor if a report without a bound was; no report on the
+-- counting loop was written with a total of 2. `translate p` doesn't end with `Done` if nothing was written.
 pub record WhileStatusesMean : Type 0 where
   pub done_unwritten : (seen : Seen) → ¬ (Meaning while_words 0 seen Done [])
   pub done_as_unknown : (seen : Seen) (bytes : List ℕ) → ¬ (Meaning while_words 0 seen Done (codes "unknown\n" ++ bytes))

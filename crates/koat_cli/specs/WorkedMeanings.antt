@@ -32,7 +32,7 @@ appended bytes = record {
   written_after = Some (codes "old " ++ bytes);
 }
 
--- a call with these words, behind so many fetches, that saw this of the shelf and appended these bytes has what this
+-- a call with these words, after this many fetches, which saw this of the shelf and appended these bytes, has what this
 -- status means
 abbrev pub Meaning : Words → ℕ → Seen → Status → List ℕ → Type 0
 Meaning words before seen status bytes =
@@ -73,12 +73,12 @@ pub record StatusesMean : Type 0 where
   pub unknown_unwritten : (seen : Seen) → ¬ (Analysing seen Unknown [])
   pub unknown_as_done : (seen : Seen) (bytes : List ℕ) → ¬ (Analysing seen Unknown (codes "bounded\n" ++ bytes))
 
--- the file of a call gives this program alone
+-- the file of a call gives this program and no other
 abbrev pub GivesAlone : Call → Word → Program → Type 0
 GivesAlone call file p = (q : Program) → Gives programs call.shelf file ⊤ q → q ≡ p
 
--- of the program that counts down, of two rules, no report was written in which the time of its loop is one too small,
--- or the total; and no report on a program of one rule. Of no program one was written if nothing was
+-- on the program that counts down, of two rules, no report was written in which the time of its loop is one too small,
+-- or the total; and no report on a program of one rule. If nothing was written, no report on any program was
 pub record ReportsAreOfPrograms : Type 0 where
   pub time_less : (call : Call) (put : Put) (pivots : ℕ) (file : Word) (report : Report)
       → GivesAlone call file countdown → numbered_entry report.times 2 ≡ Some (Timed (Constant 8))

@@ -1,4 +1,4 @@
--- Worked values of the answers to an analysis, a replay, a check, a lasso and a linear program where a shelf lacks a
+-- Worked values of the answers to an analysis, a replay, a check, a lasso and a linear program, if a shelf lacks a
 -- file.
 use Rattle.std.specs.Prelude.{◌≡◌, ℕ, List, [], ◌∷◌, Some, codes}
 use Rattle.std.specs.FinMap.{empty, insert}
@@ -20,12 +20,12 @@ holding name = record {
   taken = 0;
 }
 
--- `analyse p`, on a shelf of which this was seen, is answered with this status and this text
+-- the answer to `analyse p`, on a shelf of which this was seen, is this status and this text
 abbrev pub Analysed : Seen → Status → List ℕ → Type 0
 Analysed seen status text =
     Says (record { words = codes "analyse" ∷ codes "p" ∷ []; fetches_before = Some 0; shelf = seen }) status text
 
--- `replay p -- -q`, on a shelf of which this was seen, is answered with this status and this text
+-- the answer to `replay p -- -q`, on a shelf of which this was seen, is this status and this text
 abbrev pub Replayed : Seen → Status → List ℕ → Type 0
 Replayed seen status text =
     Says (record {
@@ -34,27 +34,27 @@ Replayed seen status text =
       shelf = seen;
     }) status text
 
--- `check p q`, on a shelf of which this was seen, is answered with this status and this text
+-- the answer to `check p q`, on a shelf of which this was seen, is this status and this text
 abbrev pub Checked : Seen → Status → List ℕ → Type 0
 Checked seen status text =
     Says (record { words = codes "check" ∷ codes "p" ∷ codes "q" ∷ []; fetches_before = Some 0; shelf = seen })
     status text
 
--- `lasso p q`, on a shelf of which this was seen, is answered with this status and this text
+-- the answer to `lasso p q`, on a shelf of which this was seen, is this status and this text
 abbrev pub Turned : Seen → Status → List ℕ → Type 0
 Turned seen status text =
     Says (record { words = codes "lasso" ∷ codes "p" ∷ codes "q" ∷ []; fetches_before = Some 0; shelf = seen })
     status text
 
--- `lp p`, on a shelf of which this was seen, is answered with this status and this text
+-- the answer to `lp p`, on a shelf of which this was seen, is this status and this text
 abbrev pub Solved : Seen → Status → List ℕ → Type 0
 Solved seen status text =
     Says (record { words = codes "lp" ∷ codes "p" ∷ []; fetches_before = Some 0; shelf = seen }) status text
 
--- the program of `replay p -- -q` is `p`, and its run `-q`: where `p` is missing, the answer is a fault of reading and
--- no other, though `-q` exists and is no run; and where `p` exists and is empty, it is a refusal of `p` and no other,
--- though `-q` is missing; the same for `check p q` and its proof `q`, for `lasso p q` and its lasso `q`, and for
--- `analyse p` alone; and the linear program of `lp p` is `p`
+-- the program of `replay p -- -q` is `p`, and its run `-q`: if `p` is missing, the answer is a fault of reading and no
+-- other, though `-q` exists and is no run; and if `p` exists and is empty, it is a refusal of `p` and no other, though
+-- `-q` is missing; the same for `check p q` and its proof `q`, for `lasso p q` and its lasso `q`, and for `analyse p`
+-- alone; and the linear program of `lp p` is `p`
 pub record FilesAreReadInOrder : Type 0 where
   pub no_program : Replayed (holding (codes "-q")) ReadFault read_fault_text
   pub no_program_alone : (status : Status) (text : List ℕ) → Replayed (holding (codes "-q")) status text

@@ -21,7 +21,7 @@ counting = record {
   sizes = (Sized (Input 0) ∷ []) ∷ (Sized (Input 0) ∷ []) ∷ [];
 }
 
--- a report that gives nothing of its second rule
+-- a report that gives no bound for its second rule
 abbrev pub silent : Report
 silent = record {
   times = Timed (Constant 1) ∷ Untimed (TimeLarge 9) ∷ [];
@@ -39,7 +39,7 @@ paying = record {
   sizes = (Sized (Input 0) ∷ []) ∷ (Sized (Input 0) ∷ []) ∷ [];
 }
 
--- one that gives no bound on this cost
+-- a report that gives no bound on this cost
 abbrev pub silent_on_cost : Report
 silent_on_cost = record paying { costs = None ∷ Some (Uncosted (SizeLarge 9)) ∷ []; total = None }
 
@@ -61,10 +61,10 @@ four_steps = record {
 abbrev pub paid_steps : Sums
 paid_steps = record four_steps { costs = 1 ∷ 6 ∷ []; spent = 7 }
 
--- each number is beside the value of its bound at the inputs, a bound that is missing is unknown, and values are capped
--- at 2^127, for a time, for a cost and for a size; a rule without a cost has no line of a cost, whatever its steps
--- cost; what was spent is capped, too; the first bad step is stated by its number, and each kind of refusal
--- by its word; a run's text may have this many bytes
+-- each number is beside the value of its bound at the inputs, a missing bound is unknown, and values are capped at
+-- 2^127, for a time, for a cost and for a size; a rule without a cost has no line of a cost, whatever its steps cost;
+-- what was spent is capped, too; the first bad step is stated by its number, and each kind of refusal by its word; a
+-- run's text may have this many bytes
 pub record ReplaysAreTexts : Type 0 where
   pub whole : text_of_replay (3 ∷ []) four_steps counting
       ≡ codes "steps 4\ntime 1: 1 of 1\ntime 2: 3 of 3\ntotal: 4 of 4\nsize 1.1: 3 of 3\nsize 2.1: 2 of 3\n"
@@ -115,8 +115,8 @@ tally_with count greatest = record {
 }
 
 -- each number is at most the value of the bound beside it: of a count, of what the steps by a rule or all steps cost
--- together, and of a greatest value one more is too many, and where a bound is missing nothing is too many; more steps
--- than the total says are none too many, where they cost no more; no entry is left out on either side
+-- together, and of a greatest value one more is too many, and if a bound is missing nothing is too many; more steps
+-- than the total says are allowed, if they cost no more; no entry is left out on either side
 pub record TalliesAreBounded : Type 0 where
   pub whole : IsWithinBounds (3 ∷ []) four_steps counting
   pub count : ¬ (IsWithinBounds (3 ∷ []) (tally_with 4 2) counting)

@@ -4,7 +4,7 @@ ghost use Rattle.std.specs.Prelude.{◌≡◌, IfOk};
 ghost use Rattle.its_model.specs.Valid.{IsValid};
 ghost use Rattle.its_model.specs.Views.{program_of};
 ghost use Rattle.outcome.specs.Views.{report_of};
-ghost use Rattle.call_plans.specs.Plans.{Tells};
+ghost use Rattle.call_plans.specs.Plans.{HasRow};
 ghost use Rattle.koat_cli.specs.Commands.Analyse.{analyse_answers};
 ghost use Rattle.koat_cli.specs.Commands.Facts.{facts_answers};
 ghost use Rattle.koat_cli.specs.Found.{status_of as status_of_report};
@@ -21,7 +21,7 @@ use time_bounds::analyse;
 pub(crate) fn report(alloc: Global, program: &Program, pivots: u32) -> Result<StatusText, Memory>
     requires { IsValid (program_of program.now) }
     ensures { IfOk result (λ said.
-        Tells (analyse_answers pivots (program_of program.now)) said.status said.text.items) }
+        HasRow (analyse_answers pivots (program_of program.now)) said.status said.text.items) }
 {
     let found = analyse(alloc, program, pivots)?;
     let text = print(alloc, program, &found)?;
@@ -31,7 +31,7 @@ pub(crate) fn report(alloc: Global, program: &Program, pivots: u32) -> Result<St
     })
 }
 
-/// The facts that are kept at the locations of a program, and the report of the program that they strengthen, with this
+/// The facts that are kept at the locations of a program, and the report of the program strengthened by them, with this
 /// many pivots for each linear program.
 pub(crate) fn report_with_facts(
     alloc: Global,
@@ -40,7 +40,7 @@ pub(crate) fn report_with_facts(
 ) -> Result<StatusText, Memory>
     requires { IsValid (program_of program.now) }
     ensures { IfOk result (λ said.
-        Tells (facts_answers pivots (program_of program.now)) said.status said.text.items) }
+        HasRow (facts_answers pivots (program_of program.now)) said.status said.text.items) }
 {
     let found = facts_report::analyse(alloc, program, pivots)?;
     let text = facts_report::print(alloc, program, &found)?;

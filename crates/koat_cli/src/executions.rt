@@ -3,7 +3,7 @@
 ghost use Rattle.std.specs.Prelude.{IfOk};
 ghost use Rattle.while_answer.specs.Spelled.{IsWithin};
 ghost use Rattle.while_answer.specs.while_text.Views.{source_of};
-ghost use Rattle.call_plans.specs.Plans.{Tells};
+ghost use Rattle.call_plans.specs.Plans.{HasRow};
 ghost use Rattle.koat_cli.specs.Commands.While.{while_answers};
 ghost use Rattle.koat_cli.specs.Commands.Translate.{translate_answers};
 
@@ -19,7 +19,7 @@ use while_answer::{Whole, points_text, translate};
 pub(crate) fn executions(alloc: Global, source: &Whole, pivots: u32) -> Result<StatusText, Memory>
     requires { IsWithin (source_of source.now) }
     ensures { IfOk result (λ said.
-        Tells (while_answers pivots (source_of source.now)) said.status said.text.items) }
+        HasRow (while_answers pivots (source_of source.now)) said.status said.text.items) }
 {
     let program = translate(alloc, source)?;
     let found = report(alloc, &program, pivots)?;
@@ -35,7 +35,7 @@ pub(crate) fn executions(alloc: Global, source: &Whole, pivots: u32) -> Result<S
 pub(crate) fn translation(alloc: Global, source: &Whole) -> Result<StatusText, Memory>
     requires { IsWithin (source_of source.now) }
     ensures { IfOk result (λ said.
-        Tells (translate_answers (source_of source.now)) said.status said.text.items) }
+        HasRow (translate_answers (source_of source.now)) said.status said.text.items) }
 {
     let program = translate(alloc, source)?;
     Ok(StatusText {

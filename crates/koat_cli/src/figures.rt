@@ -80,7 +80,7 @@ fn push_lemmas(text: &mut Vec<u8>, o: &Outcome) -> Result<(), Memory>
     text.extend_from_slice(b"\n")
 }
 
-// A part of a number, and the end of the line.
+// How many of how many, and the end of the line.
 fn push_part(text: &mut Vec<u8>, part: u128, whole: u128) -> Result<(), Memory>
     ensures { OnOk result (text.new.items ≡ text.old.items ++ part_end part whole) }
 {

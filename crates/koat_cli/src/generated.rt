@@ -1,7 +1,7 @@
 //! The generated program of a number, and the figures of its analysis.
 
 ghost use Rattle.std.specs.Prelude.{◌≤◌, IfOk};
-ghost use Rattle.call_plans.specs.Plans.{Tells};
+ghost use Rattle.call_plans.specs.Plans.{HasRow};
 ghost use Rattle.koat_cli.specs.Commands.Generate.{generate_answers};
 ghost use Rattle.koat_cli.specs.Commands.Selfrun.{selfrun_answers};
 
@@ -17,7 +17,7 @@ use time_bounds::analyse;
 /// The text of the generated program of a number.
 pub(crate) fn generated(alloc: Global, n: u32) -> Result<StatusText, Memory>
     requires { n ≤ 100 }
-    ensures { IfOk result (λ said. Tells (generate_answers n) said.status said.text.items) }
+    ensures { IfOk result (λ said. HasRow (generate_answers n) said.status said.text.items) }
 {
     let program = generate(alloc, n)?;
     Ok(StatusText {
@@ -29,7 +29,7 @@ pub(crate) fn generated(alloc: Global, n: u32) -> Result<StatusText, Memory>
 /// The figures of the analysis of the generated program of a number.
 pub(crate) fn summary(alloc: Global, n: u32) -> Result<StatusText, Memory>
     requires { n ≤ 100 }
-    ensures { IfOk result (λ said. Tells (selfrun_answers n) said.status said.text.items) }
+    ensures { IfOk result (λ said. HasRow (selfrun_answers n) said.status said.text.items) }
 {
     let program = generate(alloc, n)?;
     let found = analyse(alloc, &program, DEFAULT_PIVOTS)?;

@@ -1,4 +1,4 @@
-//! Answers whether the turn of a lasso leads back, or is seen to move on.
+//! Answers whether the turn of a lasso leads back, or moves on.
 
 ghost use Rattle.std.specs.Prelude.{◌≡◌, ◌++◌, IfOk, IfSome, IsErr, None, OnOk};
 ghost use Rattle.its_model.specs.Valid.{IsValid};
@@ -7,7 +7,7 @@ ghost use Rattle.lasso_forms.specs.lasso_check.CheckAnswers as back;
 ghost use Rattle.lasso_forms.specs.lasso_check.Spelled.{IsWithin};
 ghost use Rattle.lasso_forms.specs.Files.{lasso_in};
 ghost use Rattle.lasso_forms.specs.Views.{file_of, turn_of, obstacle_to_back, obstacle_in};
-ghost use Rattle.call_plans.specs.Plans.{Tells};
+ghost use Rattle.call_plans.specs.Plans.{HasRow};
 ghost use Rattle.koat_cli.specs.Commands.Lasso.{lasso_answers};
 ghost use Rattle.koat_cli.specs.LassoTexts.{back_text, turn_text, rule_line, rule_lines, cost_line, open_text};
 ghost use Rattle.koat_cli.specs.LassoTexts.{obstacle_text};
@@ -25,8 +25,8 @@ use lasso_forms::{
 use model::Memory;
 use std::alloc::{AllocError, Global};
 
-/// The rules of a lasso's turn and what it costs, where it leads back or is seen to move on, then by which differences; or
-/// what keeps it from that.
+/// The rules of a lasso's turn and what it costs, if it leads back or is shown to move on, in that case with its
+/// differences; or what prevents this.
 pub(crate) fn lasso_answer(
     alloc: Global,
     program: &Program,
@@ -35,7 +35,7 @@ pub(crate) fn lasso_answer(
     requires valid { IsValid (program_of program.now) }
     requires within { IsWithin (program_of program.now) (lasso_in (file_of file.now)) }
     ensures { IfOk result (λ said.
-        Tells (lasso_answers (program_of program.now) (file_of file.now)) said.status said.text.items) }
+        HasRow (lasso_answers (program_of program.now) (file_of file.now)) said.status said.text.items) }
 {
     endless_turns_have_no_time();
     match check_lasso_file(alloc, program, file) {
@@ -98,7 +98,7 @@ pub(crate) fn push_cost(text: &mut Vec<u8>, cost: u128) -> Result<(), Memory>
     text.extend_from_slice(b"\n")
 }
 
-// The text of what keeps a turn from being repeated, or from being seen to.
+// The text of what prevents that a turn is repeated, or is shown to be.
 fn obstacle_lines(alloc: Global, error: &TurnError) -> Result<Vec<u8>, Memory>
     ensures result_is { IfOk result (λ text. IfSome (obstacle_in error.now) (λ o. text.items ≡ obstacle_text o)) }
     ensures memory { obstacle_in error.now ≡ None → IsErr result }

@@ -1,4 +1,4 @@
-//! Reads the text of a lasso file of either form for a program, and answers it.
+//! Reads the text of a lasso file of either form for a program, and answers on it.
 
 ghost use Rattle.its_model.specs.Valid.{IsValid};
 ghost use Rattle.its_model.specs.Views.{program_of};

@@ -16,32 +16,32 @@ ghost use Rattle.koat_cli.specs.WorkedReplayTexts.{ReplaysAreTexts, TalliesAreBo
 use lasso_forms::endless_turns_have_no_time;
 use run_replay::replays_are_decided;
 
-/// The law that a call of `run` has at most one answer where no file is fetched for its words, or the shelf discloses
-/// its contents: one status, and one text. So each status comes exactly in its case, but for faults and running out of
-/// memory. Where a file is fetched, a fault of reading that came with a rise of the shelf's count of faults is left
-/// out. Its contract is the law; it has no code but the law of replays.
+/// The law that a call of `run` has at most one answer, one status and one text, if no file is fetched for its words or
+/// the shelf discloses its contents. So each status comes exactly in its case, except for faults and running out of
+/// memory. If a file is fetched, this is without a fault of reading that came with a rise of the shelf's count of
+/// faults. The contract is the law; the function has no code but the law of replays.
 pub fn answers_exclude_each_other()
     ensures { AnswersExcludeEachOther }
 {
     replays_are_decided();
 }
 
-/// The law on the status with which a call ends, if memory suffices. Where the shelf discloses its contents, and no
-/// count of faults rises, a call with a request ends with a status exactly where these contents say so by the plan of
-/// the request: with `ReadFault` where a file that is reached is lacking, with the status of a refusal where one is too
-/// long or its bytes stand for nothing, and with that of an answer where the files stand for what it is for. A call for
-/// which no file is fetched ends by its number alone, whatever the shelf discloses; and one ends with `Usage` exactly
-/// where its words make no request. Its contract is the law; it has no code but the law of replays.
+/// The law on the status with which a call ends, if memory suffices. If the shelf discloses its contents, and no count
+/// of faults rises, a call with a request ends with a status exactly if these contents say so by the plan of the
+/// request: with `ReadFault` if a file that is reached is lacking, with the status of a refusal if one is too long or
+/// its bytes have no meaning, and with that of an answer if the files have the meaning that it is for. A call for which
+/// no file is fetched ends by its number alone, whatever the shelf discloses; and a call ends with `Usage` exactly if
+/// its words have no request. The contract is the law; the function has no code but the law of replays.
 pub fn calls_are_answered()
     ensures { CallsAreAnswered }
 {
     replays_are_decided();
 }
 
-/// The law that `check` accepts what `prove` wrote of a program, with `Done` or with `Unknown`, where that has at most
-/// 67,108,864 bytes: a call that requests its check for the same program, where the shelf discloses that it holds both
-/// files, and no count of faults rises, ends with `Done` or `Memory`. Its contract is the law; it has no code but the
-/// law of replays.
+/// The law that `check` accepts what `prove` wrote for a program, with `Done` or with `Unknown`, if that has at most
+/// 67,108,864 bytes: a call that requests its check for the same program, if the shelf discloses that it holds both
+/// files, and no count of faults rises, ends with `Done` or `Memory`. The contract is the law; the function has no code
+/// but the law of replays.
 pub fn what_is_proved_is_accepted()
     ensures { WhatIsProvedIsAccepted }
 {
@@ -55,25 +55,25 @@ pub fn analysis_texts_state_one_report()
     ensures { AnalysisTextsStateOneReport }
 {}
 
-/// The law that no report on a program with a lasso, whose turn leads back or is seen to move on, has a time for every
-/// rule, where its bounds hold on all runs; that where `lasso` ended with `Done`, no such report on the program in its
-/// first file has a time for a rule of the turn that was written, which is that of the lasso in its second file, nor a
-/// total where that leads back and costs something; and that where `analyse` ended with `Done`, the program in its file
-/// has no lasso.
-/// Its contract is the law; it has no code but the law of lassos.
+/// The law that no report on a program with a lasso, whose turn leads back or is shown to move on, has a time for every
+/// rule, if its bounds hold on all runs; that if `lasso` ended with `Done`, no such report on the program in its first
+/// file has a time for a rule of the turn that was written, which is that of the lasso in its second file, nor a total
+/// if that leads back and costs something; and that if `analyse` ended with `Done`, the program in its file has no
+/// lasso. The contract is the law; the function has no code but the law of lassos.
 pub fn lassos_leave_times_missing()
     ensures { LassosLeaveTimesMissing }
 {
     endless_turns_have_no_time();
 }
 
-/// Worked values of what a fault of the sink leaves of a text. The function has no code: its contract is these values.
+/// Worked values of what remains of a text after a fault of the sink. The function has no code: its contract is these
+/// values.
 pub fn worked_ends_hold()
     ensures { FaultsLeaveFirstBytes }
 {}
 
-/// Worked values of the figures of a report as text, of the texts of what is found of a lasso, and of the answers to
-/// some words. The function has no code: its contract is these values.
+/// Worked values of the figures of a report as text, of the texts of answers on a lasso, and of the answers to some
+/// words. The function has no code: its contract is these values.
 pub fn worked_answers_hold()
     ensures figures { FiguresAreWorkedOut }
     ensures lassos { LassoTextsAreWorkedOut }
@@ -87,7 +87,7 @@ pub fn worked_replay_texts_hold()
     ensures bounds { TalliesAreBounded }
 {}
 
-/// Worked values of the answers to an analysis, a replay, a check, a lasso and a linear program, where a shelf lacks a
+/// Worked values of the answers for an analysis, a replay, a check, a lasso and a linear program, if a shelf lacks a
 /// file: the first word is the program, and is read first. The function has no code but the law of replays: its
 /// contract is these values.
 pub fn worked_missing_files_hold()
@@ -103,8 +103,8 @@ pub fn worked_meanings_hold()
     ensures reports { ReportsAreOfPrograms }
 {}
 
-/// Worked values of what is answered to a while program, and of what statuses mean then. The function has no code but
-/// the law of replays and the worked values below it: its contract is these values.
+/// Worked values of the answers for a while program, and of what statuses mean then. The function has no code but the
+/// law of replays and the worked values below it: its contract is these values.
 pub fn worked_executions_hold()
     ensures answers { WhileAnswersAreWorkedOut }
     ensures statuses { WhileStatusesMean }

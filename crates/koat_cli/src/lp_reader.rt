@@ -1,4 +1,4 @@
-//! Reads the text of a linear program's file, and answers it.
+//! Reads the text of a linear program's file, and answers on it.
 
 ghost use Rattle.std.specs.Prelude.{⊤};
 ghost use Rattle.lp_text.specs.Lps.{Lp};

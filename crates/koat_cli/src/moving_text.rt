@@ -1,4 +1,4 @@
-//! The texts of what is found of a turn that is to move on.
+//! The texts of answers on a turn that is to move on.
 
 ghost use Rattle.std.specs.Prelude.{◌≡◌, ◌++◌, map, IfOk, IfSome, IsErr, None, OnOk};
 ghost use Rattle.std.specs.Fmt.{signed_decimal};
@@ -72,7 +72,7 @@ fn push_signed(text: &mut Vec<u8>, n: i128) -> Result<(), Memory>
     text.extend_from_slice(Buffer::new().format(n).as_bytes())
 }
 
-/// The text of the first bad step, and of a turn that isn't seen to move on.
+/// The text of the first bad step, and of a turn that isn't shown to move on.
 pub(crate) fn stop_lines(alloc: Global, error: &MovingError) -> Result<Vec<u8>, Memory>
     ensures result_is { IfOk result (λ text.
         IfSome (obstacle_to_on error.now) (λ o. text.items ≡ obstacle_text o)) }
@@ -96,7 +96,7 @@ pub(crate) fn stop_lines(alloc: Global, error: &MovingError) -> Result<Vec<u8>, 
     }
 }
 
-// The text of a step that isn't seen to go on, by an atom or a place.
+// The text of a step for which it isn't shown that it can be repeated, by an atom or a place.
 fn stops_at(alloc: Global, step: u64, what: &[u8], number: u64) -> Result<Vec<u8>, Memory>
     ensures { IfOk result (λ text. text.items ≡ stop_line step what.now number) }
 {
@@ -109,7 +109,7 @@ fn stops_at(alloc: Global, step: u64, what: &[u8], number: u64) -> Result<Vec<u8
     Ok(text)
 }
 
-// The text of a place whose difference is none for each turn.
+// The text of a place whose difference isn't the same for each turn.
 fn difference_at(alloc: Global, place: u64, what: &[u8]) -> Result<Vec<u8>, Memory>
     ensures { IfOk result (λ text. text.items ≡ difference_text place what.now) }
 {

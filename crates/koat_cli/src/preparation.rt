@@ -1,11 +1,11 @@
-//! Prepares the program's answer, before it is written: reads the files of the request, and answers by what they give.
+//! Prepares the program's answer, before it is written: reads the files of the request, and answers by their contents.
 
 ghost use Rattle.std.specs.Prelude.{◌≡◌, ◌≤◌, ◌<◌, ◌^◌, length, map, string_bytes, IfOk};
 ghost use Rattle.its_model.specs.Valid.{IsValid};
 ghost use Rattle.its_model.specs.Views.{program_of};
 ghost use Rattle.command_line.specs.Requests.{OfProgram, OfPair, OfFile, While};
 ghost use Rattle.call_plans.specs.Calls.{seen_of};
-ghost use Rattle.call_plans.specs.Plans.{OnPlan, Tells};
+ghost use Rattle.call_plans.specs.Plans.{OnPlan, HasRow};
 ghost use Rattle.koat_cli.specs.Answers.{FetchesNothing, Says};
 ghost use Rattle.koat_cli.specs.Calls.{call_of};
 ghost use Rattle.koat_cli.specs.RequestPlans.{plan_of, program_answers, second_plan, number_answers};
@@ -55,7 +55,7 @@ pub(crate) fn prepare<F: Shelf>(
     }
 }
 
-// What is answered of the program in a file.
+// The answer on the program in a file.
 fn on_program<F: Shelf>(
     alloc: Global,
     task: ProgramTask,
@@ -76,7 +76,7 @@ fn on_program<F: Shelf>(
     }
 }
 
-// What is answered of a program.
+// The answer on a program.
 fn of_program(
     alloc: Global,
     task: ProgramTask,
@@ -85,7 +85,7 @@ fn of_program(
 ) -> Result<StatusText, Memory>
     requires { IsValid (program_of program.now) }
     ensures { IfOk result (λ said.
-        Tells (program_answers task pivots (program_of program.now)) said.status said.text.items) }
+        HasRow (program_answers task pivots (program_of program.now)) said.status said.text.items) }
 {
     match task {
         ProgramTask::Analyse => report(alloc, program, pivots),
@@ -94,7 +94,7 @@ fn of_program(
     }
 }
 
-// What is answered of the program in a file and what a second file has about it.
+// The answer on the program in a file and a second file about it.
 fn on_pair<F: Shelf>(
     alloc: Global,
     task: PairTask,
@@ -115,7 +115,7 @@ fn on_pair<F: Shelf>(
     }
 }
 
-// What is answered of a program and what a file has about it.
+// The answer on a program and a file about it.
 fn on_second<F: Shelf>(
     alloc: Global,
     task: PairTask,
@@ -139,7 +139,7 @@ fn on_second<F: Shelf>(
     }
 }
 
-// What is answered of a file of another kind than a program's.
+// The answer on a file of another kind than a program's.
 fn on_file<F: Shelf>(
     alloc: Global,
     task: FileTask,
@@ -166,7 +166,7 @@ fn on_file<F: Shelf>(
     }
 }
 
-// What is answered of the executions of the while program in a file.
+// The answer on the executions of the while program in a file.
 fn on_while<F: Shelf>(
     alloc: Global,
     pivots: u32,
@@ -190,10 +190,10 @@ fn on_while<F: Shelf>(
     )
 }
 
-// What is answered of a number.
+// The answer on a number.
 fn of_number(alloc: Global, task: NumberTask, n: u32) -> Result<StatusText, Memory>
     requires { n ≤ 100 }
-    ensures { IfOk result (λ said. Tells (number_answers task n) said.status said.text.items) }
+    ensures { IfOk result (λ said. HasRow (number_answers task n) said.status said.text.items) }
 {
     match task {
         NumberTask::Generate => generated(alloc, n),

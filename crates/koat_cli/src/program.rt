@@ -20,8 +20,8 @@ use std::process::ExitCode;
 /// line, the program's name first.
 ///
 /// The words after the name go to [`run`](crate::run). If one of the words isn't UTF-8, `run` gets none, so that the
-/// usage text comes. If the words can't be had because memory ran out, or the system refuses them, nothing is written
-/// and the status is 5.
+/// usage text comes. If the words can't be obtained because memory ran out, or the system refuses them, nothing is
+/// written and the status is 5.
 pub fn run_program<F: Shelf, S: Sink>(
     alloc: Global,
     words: io::Result<Vec<String>>,

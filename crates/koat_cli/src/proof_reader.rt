@@ -1,4 +1,4 @@
-//! Reads the text of a proof's file for a program, and answers it.
+//! Reads the text of a proof's file for a program, and answers on it.
 
 ghost use Rattle.std.specs.Prelude.{◌<◌, ◌^◌, length};
 ghost use Rattle.its_model.specs.Valid.{IsValid};

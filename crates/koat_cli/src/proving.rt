@@ -4,7 +4,7 @@ ghost use Rattle.std.specs.Prelude.{IfOk};
 ghost use Rattle.its_model.specs.Valid.{IsValid};
 ghost use Rattle.its_model.specs.Views.{program_of};
 ghost use Rattle.cert_types.specs.AnswerViews.{file_of};
-ghost use Rattle.call_plans.specs.Plans.{Tells};
+ghost use Rattle.call_plans.specs.Plans.{HasRow};
 ghost use Rattle.koat_cli.specs.Commands.Check.{check_answers};
 ghost use Rattle.koat_cli.specs.Commands.Prove.{prove_answers};
 
@@ -23,7 +23,7 @@ use time_bounds::analyse;
 pub(crate) fn proved(alloc: Global, program: &Program, pivots: u32) -> Result<StatusText, Memory>
     requires { IsValid (program_of program.now) }
     ensures { IfOk result (λ said.
-        Tells (prove_answers pivots (program_of program.now)) said.status said.text.items) }
+        HasRow (prove_answers pivots (program_of program.now)) said.status said.text.items) }
 {
     let found = analyse(alloc, program, pivots)?;
     let status = status_of(&found);
@@ -40,7 +40,7 @@ pub(crate) fn checked(
 ) -> Result<StatusText, Memory>
     requires { IsValid (program_of program.now) }
     ensures { IfOk result (λ said.
-        Tells (check_answers (program_of program.now) (file_of proof.now)) said.status said.text.items) }
+        HasRow (check_answers (program_of program.now) (file_of proof.now)) said.status said.text.items) }
 {
     match verdict_on(alloc, program, proof)? {
         Verdict::Accepted(text) => Ok(StatusText {

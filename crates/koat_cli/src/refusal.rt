@@ -35,7 +35,7 @@ pub(crate) fn refusal(alloc: Global, error: &ReadError) -> Result<Vec<u8>, Memor
     }
 }
 
-// Which limit is passed.
+// The limit that is exceeded.
 fn limit_text(kind: LimitKind) -> &'static [u8]
     ensures { result.now ≡ text_of_limit (limit_of kind) }
 {

@@ -206,7 +206,7 @@ fn push_greatest(
     Ok(())
 }
 
-// Those at the places after a rule.
+// The greatest absolute values at the places after a rule.
 fn push_places(
     text: &mut Vec<u8>,
     at: &[u128],
@@ -223,7 +223,7 @@ fn push_places(
     Ok(())
 }
 
-// That at a place after a rule.
+// The greatest absolute value at a place after a rule.
 fn push_place(
     text: &mut Vec<u8>,
     at: &[u128],

@@ -6,7 +6,7 @@ ghost use Rattle.its_model.specs.Views.{program_of};
 ghost use Rattle.run_replay.specs.ReplayAnswers.{IsReplay, sums_of};
 ghost use Rattle.run_replay.specs.Spelled.{IsWithin};
 ghost use Rattle.run_replay.specs.Views.{run_of};
-ghost use Rattle.call_plans.specs.Plans.{Tells};
+ghost use Rattle.call_plans.specs.Plans.{HasRow};
 ghost use Rattle.koat_cli.specs.Commands.Replay.{replay_answers};
 
 use crate::replay_text::replay_text;
@@ -29,7 +29,7 @@ pub(crate) fn replayed(
     requires valid { IsValid (program_of program.now) }
     requires within { IsWithin (program_of program.now) (run_of run.now) }
     ensures { IfOk result (λ said.
-        Tells (replay_answers (program_of program.now) (run_of run.now)) said.status said.text.items) }
+        HasRow (replay_answers (program_of program.now) (run_of run.now)) said.status said.text.items) }
 {
     match replay(alloc, program, run) {
         Ok(tally) => beside_bounds(alloc, program, run, &tally),
@@ -51,7 +51,7 @@ fn beside_bounds(
     requires within { IsWithin (program_of program.now) (run_of run.now) }
     requires replayed { IsReplay (program_of program.now) (run_of run.now) (sums_of tally.now) }
     ensures { IfOk result (λ said.
-        Tells (replay_answers (program_of program.now) (run_of run.now)) said.status said.text.items) }
+        HasRow (replay_answers (program_of program.now) (run_of run.now)) said.status said.text.items) }
 {
     replays_are_decided();
     let found = analyse(alloc, program, DEFAULT_PIVOTS)?;

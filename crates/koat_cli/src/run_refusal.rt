@@ -43,7 +43,7 @@ fn refused_at(alloc: Global, at: u64, kind: &[u8]) -> Result<Vec<u8>, Memory>
     Ok(text)
 }
 
-/// The first bad step of a run, and why it is none.
+/// The first bad step of a run, and its fault.
 ///
 /// # Errors
 ///

@@ -33,7 +33,8 @@ use std::alloc::Global;
 ///   `unknown` if there is none. The bounds are those that an analysis with 10,000 pivots finds.
 /// - `lasso FILE RUN` fetches the file of a program, and then that of a lasso, of at most 67,108,864 bytes, and writes
 ///   the rules of its turn, and what the turn costs, up to 2^127, if all steps are steps of the program and the turn
-///   leads back to where it begins.
+///   leads back to where it begins; or, of a lasso of the second form, if the turn is shown to move on by the same
+///   differences each time, and then these differences, too.
 /// - `generate N` writes the generated program of a number from 0 to 100 as its canonical text, which spells it.
 /// - `selfrun N` analyses that program, with 10,000 pivots for each linear program, and writes the figures of what was
 ///   found: how many rules there are, how many of them have a time, how many of all places have a size, the total, and
@@ -58,19 +59,20 @@ use std::alloc::Global;
 ///   every rule with a cost a bound on it, and the run a total. On every run of the program, from any integers and by
 ///   any choice of rules, each rule occurs at most as often as its time says, its steps together cost at most what its
 ///   cost says, if it has one, all steps together cost at most what the total says, and each argument after a rule
-///   stays within its size, if it has one. With `facts`, the same with the report behind the facts, and each fact
+///   stays within its size, if it has one. With `facts`, the same with the report after the facts, and each fact
 ///   holds on every run, too. With `prove`, the proof file of the same analysis was written. With `check`, the files
 ///   spell a program and a proof file that is accepted, and its facts were written: each of them holds on every run of
 ///   the program, whoever made the proof. With `replay`, the steps are a run of the program, no value exceeds 128 bits
 ///   on the way, that of a step's cost included, and the tally was written: each number of it is at most the value of
 ///   the bound beside it. With `lasso`, the steps are a run of the program, no value exceeds 128 bits on the way, and
-///   the turn leads back: each rule that was written occurs without end, so no bound on its use holds, and where the
-///   turn costs something, no bound on what all steps cost. With `selfrun`, its figures were written, and every rule
-///   of the generated program has a time. With `generate`, that program's text was written. With `lp`, the end of the
-///   sequence of tableaux was written. With `while`, the file spells a while program, and the report of its translation
-///   was written behind the positions: from a value for each input, each execution has at most as many steps as the
-///   total says, and some execution of n steps ends with these values exactly where some run of n steps of the
-///   translation does. With `translate`, the translation was written.
+///   the turn leads back, or is shown to move on by the differences that were written: each rule that was written
+///   occurs without end, so no bound on its use holds; and if a turn that leads back costs something, no bound on what
+///   all steps cost. With `selfrun`, its figures were written, and every rule of the generated program has a time. With
+///   `generate`, that program's text was written. With `lp`, the end of the sequence of tableaux was written. With
+///   `while`, the file spells a while program, and the report of its translation was written after the positions: from
+///   a value for each input, each execution has at most as many steps as the total says, and some execution of n steps
+///   ends with these values exactly where some run of n steps of the translation does. With `translate`, the
+///   translation was written.
 /// - `Unknown`: with `analyse`, `facts` and `while`, the same, where some rule has no time, or some rule with a cost no
 ///   bound on it: the report says why, and every bound that it gives holds on every run. With `facts` the reasons are
 ///   those of the strengthened program. With `prove`, the proof file of such an analysis was written. With `selfrun`,
@@ -93,7 +95,7 @@ use std::alloc::Global;
 /// - `NotARun`: with `replay` and `lasso`, the files spell a program and steps of it, of which some isn't a step from
 ///   where the run is, or a value of it or of its cost exceeds 128 bits: the text states the first one, and why. With
 ///   `lasso` also where the turn leads elsewhere: the text states the first place with another value, or 0 where the
-///   symbol is another one.
+///   symbol is another one; and where a turn of the second form isn't shown to move on: the text says why.
 /// - `WriteFault`: the sink had a fault; a prefix of the text of the status that would have come was written.
 /// - `Memory`: memory ran out; the sink is unchanged.
 ///

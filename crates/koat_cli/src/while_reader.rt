@@ -1,4 +1,4 @@
-//! Reads the text of a while program's file, and answers it.
+//! Reads the text of a while program's file, and answers on it.
 
 ghost use Rattle.std.specs.Prelude.{⊤};
 ghost use Rattle.while_answer.specs.while_text.Reading.{Source};
@@ -16,7 +16,7 @@ use while_answer::{Whole, read_while, refusal_text};
 /// The reader of while programs, each of at most 4,194,304 bytes.
 #[derive(Drop)]
 pub(crate) struct WhilePrograms {
-    /// What is done with the program.
+    /// What the command does with the program.
     pub(crate) task: WhileTask,
 }
 

@@ -4,7 +4,7 @@ use Rattle.std.proofs.lemmas.List.{take_all, take_more_same, get_or_read}
 use Rattle.its_model.specs.model.Runs.{Config}
 use Rattle.lasso_check.specs.Checks.{IsFirstDifference}
 
--- configurations with the same symbol and values are the same
+-- Configurations with the same symbol and values are the same.
 same_config : (b c : Config) → b.at ≡ c.at → b.values ≡ c.values → b ≡ c
 same_config b c e f = λ i. record { at = e i; values = f i }
 

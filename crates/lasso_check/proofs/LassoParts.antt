@@ -75,7 +75,7 @@ lasso_parts (suc (suc zero)) t = rest_parts (turn_of t)
 lasso_parts (suc (suc (suc zero))) ss = rest_parts ss
 lasso_parts (suc (suc (suc (suc n)))) b = absurd b
 
--- kinds with one number are one
+-- Kinds with the same number are the same.
 differ : (a b : RunKind) → number_of a ≡ number_of b → a ≡ b
 differ Syntax Syntax h = refl
 differ NumberTooLarge NumberTooLarge h = refl
@@ -99,7 +99,7 @@ module _ (p : Program) where
     below_signed = λ s negative m n some l e. absurd (some_none Syntax e);
   }
 
-  -- the grammar can be read, and has the rules of numbers
+  -- The grammar can be read, and has the rules of numbers.
   pub readable : is_readable (grammar_of (lasso_bytes p)) ≡ true
   readable = refl
 

@@ -56,16 +56,16 @@ module _ (p : Program) where
   from l rule b = at (record { lasso = l; rule = rule; in_turn = b })
 
   -- parts have no fault from a state on, and what they come to
-  abbrev StandsFrom : Spelling State → List (Part ℕ Numbered) → Type 0
-  StandsFrom s xs = Stand (fold_of (lasso_bytes p)) (numbers_of (lasso_bytes p)) s xs
+  abbrev HaveNoFaultFrom : Spelling State → List (Part ℕ Numbered) → Type 0
+  HaveNoFaultFrom s xs = Stand (fold_of (lasso_bytes p)) (numbers_of (lasso_bytes p)) s xs
 
   abbrev comes : Spelling State → List (Part ℕ Numbered) → Spelling State
   comes s xs = come (fold_of (lasso_bytes p)) (numbers_of (lasso_bytes p)) s xs
 
   -- a step of the program has no fault where there is room for it, before parts that have none behind it
   step_stands : (s : Step) (xs : List (Part ℕ Numbered)) (l : Lasso) (rule : ℕ) (b : Bool) → IsStepOf p s
-      → steps_in l + 1 ≤ step_limit → StandsFrom (from (with_step b s l) s.rule b) xs
-      → StandsFrom (from l rule b) (step_parts s xs)
+      → steps_in l + 1 ≤ step_limit → HaveNoFaultFrom (from (with_step b s l) s.rule b) xs
+      → HaveNoFaultFrom (from l rule b) (step_parts s xs)
   step_stands s xs l rule b h few behind =
       let named = rule_some p s.rule h.rule h.numbered in
       let free = h.free ∙ sym (ap (free_or (arity_of p p.start)) h.numbered) in
@@ -75,15 +75,15 @@ module _ (p : Program) where
       (rule_taken p s.rule named.0 named.1 h.held) in
       let line = when_none (not (length s.free == wanted p s.rule)) ArityDiffers
       (differs_not (wanted p s.rule) (length s.free) free) in
-      let others = subst (λ (t : State). StandsFrom (at t) xs) (sym (stepped l b s named.0 h.held)) behind in
+      let others = subst (λ (t : State). HaveNoFaultFrom (at t) xs) (sym (stepped l b s named.0 h.held)) behind in
       let bytes = bytes_stand (lasso_bytes p) (record { lasso = l; rule = s.rule; in_turn = b }) s.free refl refl in
       (first, (refl, (refl, (refl, (refl, (number, ((h.small, bytes, line), others)))))))
 
   -- and only then
   stand_step : (s : Step) (xs : List (Part ℕ Numbered)) (l : Lasso) (rule : ℕ) (b : Bool)
-      → StandsFrom (from l rule b) (step_parts s xs)
+      → HaveNoFaultFrom (from l rule b) (step_parts s xs)
       → IsStepOf p s × (steps_in l ≤ step_limit → steps_in l + 1 ≤ step_limit)
-      × StandsFrom (from (with_step b s l) s.rule b) xs
+      × HaveNoFaultFrom (from (with_step b s l) s.rule b) xs
   stand_step s xs l rule b h =
       let no = none_when (is_no_rule p s.rule) BadReference h.1.1.1.1.1.0 in
       let named = rule_passed p s.rule no in
@@ -101,7 +101,7 @@ module _ (p : Program) where
           small = line.0.0;
         },
         (λ k. omega (arith, one)),
-        subst (λ (t : State). StandsFrom (at t) xs) (stepped l b s named.0 named.2) line.1,
+        subst (λ (t : State). HaveNoFaultFrom (at t) xs) (stepped l b s named.0 named.2) line.1,
       )
 
   -- a step comes to the lasso with it
@@ -113,13 +113,13 @@ module _ (p : Program) where
 
   -- what is left of a turn has no fault exactly where its steps are of the program and there is room for them
   rest_stands : (ss : List Step) (l : Lasso) (rule : ℕ) → AreStepsOf p ss → steps_in l + length ss ≤ step_limit
-      → StandsFrom (from l rule true) (rest_parts ss)
+      → HaveNoFaultFrom (from l rule true) (rest_parts ss)
   rest_stands [] l rule h few = (refl, (refl, (refl, (refl, tt))))
   rest_stands (s ∷ ss) l rule h few =
       step_stands s (rest_parts ss) l rule true h.0 (omega (arith, few))
       (rest_stands ss (with_step true s l) s.rule h.1 (omega (arith, few, one_more true s l)))
 
-  stand_rest : (ss : List Step) (l : Lasso) (rule : ℕ) → StandsFrom (from l rule true) (rest_parts ss)
+  stand_rest : (ss : List Step) (l : Lasso) (rule : ℕ) → HaveNoFaultFrom (from l rule true) (rest_parts ss)
       → AreStepsOf p ss × (steps_in l ≤ step_limit → steps_in l + length ss ≤ step_limit)
   stand_rest [] l rule h = (tt, λ k. omega (arith, k))
   stand_rest (s ∷ ss) l rule h =
@@ -143,14 +143,14 @@ module _ (p : Program) where
   -- so have the stem, the line `loop` and the turn
   stem_stands : (ss : List Step) (t : TurnSteps) (l : Lasso) (rule : ℕ) → AreStepsOf p ss → AreStepsOf p (turn_of t)
       → steps_in l + (length ss + length (turn_of t)) ≤ step_limit
-      → StandsFrom (from l rule false) (stem_parts ss t)
+      → HaveNoFaultFrom (from l rule false) (stem_parts ss t)
   stem_stands [] t l rule h k few =
       (refl, (refl, (refl, (refl, (refl, rest_stands (turn_of t) l rule k (omega (arith, few)))))))
   stem_stands (s ∷ ss) t l rule h k few =
       step_stands s (stem_parts ss t) l rule false h.0 (omega (arith, few))
       (stem_stands ss t (with_step false s l) s.rule h.1 k (omega (arith, few, one_more false s l)))
 
-  stand_stem : (ss : List Step) (t : TurnSteps) (l : Lasso) (rule : ℕ) → StandsFrom (from l rule false) (stem_parts ss t)
+  stand_stem : (ss : List Step) (t : TurnSteps) (l : Lasso) (rule : ℕ) → HaveNoFaultFrom (from l rule false) (stem_parts ss t)
       → AreStepsOf p ss × AreStepsOf p (turn_of t)
       × (steps_in l ≤ step_limit → steps_in l + (length ss + length (turn_of t)) ≤ step_limit)
   stand_stem [] t l rule h =
@@ -188,7 +188,7 @@ module _ (p : Program) where
   started w = record { start = w.start; stem = []; turn = [] }
 
   -- a lasso has no fault exactly where it is within the limits
-  lasso_stands : (w : WholeLasso) → IsWithin p (whole_of w) → StandsFrom (from empty 0 false) (lasso_parts 0 w)
+  lasso_stands : (w : WholeLasso) → IsWithin p (whole_of w) → HaveNoFaultFrom (from empty 0 false) (lasso_parts 0 w)
   lasso_stands w h =
       word_stands (lasso_bytes p) (from empty 0 false) (codes "koat-lasso 1\nstart")
       (behind_start w) refl (
@@ -202,7 +202,7 @@ module _ (p : Program) where
             (let l = h.count in omega (arith, l)),
       )
 
-  stand_lasso : (w : WholeLasso) → StandsFrom (from empty 0 false) (lasso_parts 0 w) → IsWithin p (whole_of w)
+  stand_lasso : (w : WholeLasso) → HaveNoFaultFrom (from empty 0 false) (lasso_parts 0 w) → IsWithin p (whole_of w)
   stand_lasso w h =
       let line =
       stand_word (lasso_bytes p) (from empty 0 false) (codes "koat-lasso 1\nstart")
@@ -235,9 +235,9 @@ module _ (p : Program) where
           (record { start = l.start; parts = record { stem = l.stem; turn = record { first = s; rest = ss } } }, refl)
 
   -- where a lasso is answered, the bytes are its text, within the limits
-  pub stands_written : (bytes : List ℕ) (l : Lasso)
+  pub parsed_written : (bytes : List ℕ) (l : Lasso)
       → answer (reader (lassos_of p)) (length bytes) (tokens bytes) ≡ Stands l → IsTextWithin p bytes l
-  stands_written bytes l e =
+  parsed_written bytes l e =
       let w = answered (lasso_bytes p) (bounded p) (numbers p) (readable p) LassoValue lasso_parts (lassos_made p)
       (lassos_lawful p) bytes l e in
       let h = stand_lasso w.0 w.2 in
@@ -248,9 +248,9 @@ module _ (p : Program) where
       }
 
   -- bytes that are the text of a lasso within the limits have no fault
-  pub written_stands : (bytes : List ℕ) (l : Lasso) → IsTextWithin p bytes l
+  pub written_parsed : (bytes : List ℕ) (l : Lasso) → IsTextWithin p bytes l
       → answer (reader (lassos_of p)) (length bytes) (tokens bytes) ≡ Stands l
-  written_stands bytes l h =
+  written_parsed bytes l h =
       let v = whole l h.within.nonempty in
       let w = v.0 in
       let within : IsWithin p (whole_of w) = subst (IsWithin p) (sym v.1) h.within in

@@ -157,15 +157,15 @@ rules_more used i j x d old low e next before f are =
     ∙ (ap (λ (b : Bool). filter f (range_with_len 1 i) ++ cond b (j ∷ []) []) passes ∙ sym (passing_more f i j next))
 
 -- of a valid program there are at most 1,000 rules to note
-pub few_noted : (p : Program) (l : Lasso) (n : ℕ) (t : Turning) → IsValid p → HasTurned p l n t → length t.used.items ≤ 1000
-few_noted p l n t valid h =
-    let noted = ap length h.used in
+pub few_recorded : (p : Program) (l : Lasso) (n : ℕ) (t : Turning) → IsValid p → HasTurned p l n t → length t.used.items ≤ 1000
+few_recorded p l n t valid h =
+    let recorded = ap length h.used in
     let all = length-map-range_with_len (is_used_in (first_of_turn l n)) 1 (length p.rules) in
-    omega (arith, noted, all, valid.few_rules)
+    omega (arith, recorded, all, valid.few_rules)
 
 -- as many as the program has rules
-pub noted_length : (p : Program) (l : Lasso) (n : ℕ) (t : Turning) → HasTurned p l n t → length t.used.items ≡ length p.rules
-noted_length p l n t h =
+pub recorded_length : (p : Program) (l : Lasso) (n : ℕ) (t : Turning) → HasTurned p l n t → length t.used.items ≡ length p.rules
+recorded_length p l n t h =
     ap length h.used ∙ length-map-range_with_len (is_used_in (first_of_turn l n)) 1 (length p.rules)
 
 -- where a walk ends at the symbol at which the turn begins, there are as many values

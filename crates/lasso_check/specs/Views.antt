@@ -15,7 +15,7 @@ use Rattle.lasso_check.specs.Spelled.{IsTextWithin}
 abbrev pub lasso_of : file.Lasso → Lasso
 lasso_of l = record { start = l.start.items; stem = map step_of l.stem.items; turn = map step_of l.turn.items }
 
--- what is remembered, as plain data
+-- The parser state as plain data.
 abbrev pub own_of : code.State → State
 own_of s = record { lasso = lasso_of s.file; rule = s.rule; in_turn = s.in_turn }
 

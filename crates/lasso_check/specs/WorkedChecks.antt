@@ -91,7 +91,7 @@ pub record BadTurnsAreFound : Type 0 where
   pub past_range : HasVerdict (looping_by squared) (along (pos 18446744073709551616) (1 ∷ []) (2 ∷ []))
       (bad 2 PastRange)
 
--- all of it
+-- All worked values of this file.
 pub record ChecksAreWorkedOut : Type 0 where
   pub rounds : RoundsAreFound
   pub opens : OpenTurnsAreFound

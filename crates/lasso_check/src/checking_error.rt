@@ -20,7 +20,7 @@ pub enum LassoError {
     /// The atom with this number, from 1, doesn't hold.
     #[error("atom {atom} fails at step {step}")]
     GuardFails { step: u64, atom: u32 },
-    /// A value passes 128 bits.
+    /// A value exceeds 128 bits.
     #[error("a value passes 128 bits at step {step}")]
     PassedRange { step: u64 },
     /// All steps are good, and the turn leads from a configuration to another one: with another symbol where this is 0,

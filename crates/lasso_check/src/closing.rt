@@ -29,7 +29,7 @@ pub(crate) fn first_difference(before: &Config, behind: &Config) -> Option<u64>
 ///
 /// # Errors
 ///
-/// Where an allocation fails.
+/// If an allocation fails.
 pub fn rules_used(alloc: Global, used: &[bool]) -> Result<Vec<u32>, AllocError>
     requires { length used.now ≤ 1000 }
     ensures { IfOk result (λ rules. (f : ℕ → Bool) → used.now ≡ map f (range_with_len 1 (length used.now))

@@ -17,7 +17,7 @@ use Rattle.lasso_check.specs.Lassos.{Lasso}
 use Rattle.lasso_check.specs.Spelled.{text_of, IsWithin, IsTextWithin}
 use Rattle.lasso_check.specs.Texts.{lassos_of}
 use Rattle.lasso_check.proofs.LassoParts.{lassos_lawful}
-use Rattle.lasso_check.proofs.LassoText.{written_stands}
+use Rattle.lasso_check.proofs.LassoText.{written_parsed}
 use Rattle.moving_check.specs.Texts.{exchanged, is_moving_form, moving_text, IsMovingText}
 use Rattle.moving_check.proofs.Forms.{text_of_moving}
 use Rattle.lasso_forms.specs.Files.{LassoFile, FirstForm, SecondForm, lasso_in}
@@ -94,7 +94,7 @@ stands-unique : (a b : Lasso) → ◌≡◌ {A = Answer Lasso RunKind} (Stands a
 stands-unique a b e = cc
 
 one_lasso : (p : Program) (bytes : List ℕ) (a b : Lasso) → IsTextWithin p bytes a → IsTextWithin p bytes b → a ≡ b
-one_lasso p bytes a b h k = stands-unique a b (sym (written_stands p bytes a h) ∙ written_stands p bytes b k)
+one_lasso p bytes a b h k = stands-unique a b (sym (written_parsed p bytes a h) ∙ written_parsed p bytes b k)
 
 -- bytes are the text of one lasso file at most
 one_file : (p : Program) (bytes : List ℕ) (f g : LassoFile) → IsFileText p bytes f → IsFileText p bytes g → f ≡ g
@@ -112,7 +112,7 @@ no_fault : (p : Program) (bytes : List ℕ) (l : Lasso) (x : Fault RunKind) → 
 no_fault p bytes l x h first =
     let r = reader (lassos_of p) in
     let right : Answers r (length bytes) (tokens bytes) (Stands l) =
-    subst (λ (a : Answer Lasso RunKind). Answers r (length bytes) (tokens bytes) a) (written_stands p bytes l h)
+    subst (λ (a : Answer Lasso RunKind). Answers r (length bytes) (tokens bytes) a) (written_parsed p bytes l h)
     (answer_is r (reader_laws (lassos_of p) (lassos_lawful p)) (length bytes) (tokens bytes)) in
     right.faultless x first.is
 

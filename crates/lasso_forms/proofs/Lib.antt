@@ -3,6 +3,6 @@ pub mod FileTexts
 pub mod OneTurn
 mod EndlessTurns
 mod WorkedFiles
--- the lemmas of the crates below, which callers name through this one
+-- The lemmas of the crates below, which callers name through this one.
 pub use Rattle.lasso_check.proofs as lasso_check
 pub use Rattle.moving_check.proofs as moving_check

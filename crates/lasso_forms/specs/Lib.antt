@@ -1,11 +1,11 @@
--- what the contracts of this crate, and of those above it, cite
+-- The specs that contracts of this crate and of other crates cite.
 pub mod Files
 pub mod Texts
 pub mod Turns
 pub mod Views
--- laws, and values that were worked out by hand
+-- Laws and worked values.
 pub mod Laws
 pub mod Worked
--- the crates below, which callers name through this one
+-- The crates below, which callers name through this one.
 pub use Rattle.lasso_check.specs as lasso_check
 pub use Rattle.moving_check.specs as moving_check

@@ -1,5 +1,5 @@
-//! Answers each line of the standard input by one line: what is found of the lasso in it. A line without a `;`, as a
-//! remark that begins with `#`, is written as it is.
+//! Answers each line of the standard input by one line: the result for the lasso in it. A line without a `;`, such as a
+//! remark that begins with `#`, is written unchanged.
 #![tactic(auto)]
 
 mod moving;

@@ -1,4 +1,4 @@
-//! What is found of lassos whose turns are to move on.
+//! The results for lassos whose turns are to move on.
 
 ghost use Rattle.its_model.specs.Valid.{IsValid};
 ghost use Rattle.its_model.specs.Views.{program_of};
@@ -9,8 +9,8 @@ use model::Memory;
 use moving_check::{Moving, MovingError, Program, check_moving, read_moving};
 use std::alloc::{AllocError, Global};
 
-/// By how much the turn of a lasso of the program moves on, with its rules and the cost of the first turn; or why it isn't
-/// found to.
+/// By how much the turn of a lasso of the program moves on, with its rules and the cost of the first turn; or why this
+/// isn't shown.
 pub(crate) fn answer_moving(
     alloc: Global,
     program: &Program,
@@ -20,14 +20,14 @@ pub(crate) fn answer_moving(
 {
     match read_moving(alloc, program, lasso) {
         Ok(file) => match check_moving(alloc, program, &file) {
-            Ok(moving) => moving_told(alloc, &moving),
-            Err(error) => error_told(alloc, &error),
+            Ok(moving) => moving_line(alloc, &moving),
+            Err(error) => error_line(alloc, &error),
         },
         Err(error) => refused(alloc, &error),
     }
 }
 
-fn error_told(alloc: Global, error: &MovingError) -> Result<String, Memory> {
+fn error_line(alloc: Global, error: &MovingError) -> Result<String, Memory> {
     match error {
         MovingError::WrongRule { step } => format!(in alloc; "WrongRule at {step}"),
         MovingError::GuardFails { step, atom } => {
@@ -51,8 +51,8 @@ fn error_told(alloc: Global, error: &MovingError) -> Result<String, Memory> {
     }
 }
 
-// The differences, and behind a `:` the rules and the cost.
-fn moving_told(alloc: Global, moving: &Moving) -> Result<String, Memory> {
+// The differences, and after a `:` the rules and the cost.
+fn moving_line(alloc: Global, moving: &Moving) -> Result<String, Memory> {
     let mut out = Vec::from_slice(alloc, b"moves")?;
     for difference in &moving.differences {
         out.push(b' ')?;

@@ -1,4 +1,4 @@
-//! Lassos: a line is rules, and behind a `;` a lasso file in which `|` stands for a line feed.
+//! Lassos: a line is rules, and after a `;` a lasso file in which `|` stands for a line feed.
 
 use crate::moving::answer_moving;
 use itoa::Buffer;
@@ -8,9 +8,9 @@ use model::Memory;
 use moving_check::is_moving_form;
 use std::alloc::{AllocError, Global};
 
-/// What is found of the lasso of a program with these rules, which starts at `l0`: the rules of its turn and what the turn
-/// costs, behind the differences where its text is of the second form; or its first bad step, or why the turn isn't one of
-/// a lasso. Where the program's text is refused there is no program, and where the lasso's is, the refusal.
+/// The result for the lasso of a program with these rules, which starts at `l0`: the rules of its turn and what the
+/// turn costs, after the differences if its text is of the second form; or its first bad step, or why the turn isn't
+/// one of a lasso. If the program's text is refused there is no program, and if the lasso's is, the refusal.
 pub(crate) fn found(alloc: Global, line: &str) -> Result<String, Memory> {
     match line.split_once(';') {
         Some((rules, lasso)) => {
@@ -42,7 +42,7 @@ fn answer(alloc: Global, program: &[u8], lasso: &[u8]) -> Result<String, Memory>
     match read(alloc, program) {
         Ok(program) if is_moving_form(lasso) => answer_moving(alloc, &program, lasso),
         Ok(program) => match read_lasso(alloc, &program, lasso) {
-            Ok(file) => told(alloc, &check_lasso(alloc, &program, &file)),
+            Ok(file) => turn_result_line(alloc, &check_lasso(alloc, &program, &file)),
             Err(error) => refused(alloc, &error),
         },
         Err(_) => String::from_str(alloc, "no program"),
@@ -61,9 +61,9 @@ pub(crate) fn refused(alloc: Global, error: &LassoTextError) -> Result<String, M
     }
 }
 
-fn told(alloc: Global, checked: &Result<Turn, LassoError>) -> Result<String, Memory> {
+fn turn_result_line(alloc: Global, checked: &Result<Turn, LassoError>) -> Result<String, Memory> {
     match checked {
-        Ok(turn) => turn_told(alloc, turn),
+        Ok(turn) => turn_line(alloc, turn),
         Err(LassoError::WrongRule { step }) => format!(in alloc; "WrongRule at {step}"),
         Err(LassoError::GuardFails { step, atom }) => {
             format!(in alloc; "GuardFails at {step}, atom {atom}")
@@ -74,8 +74,8 @@ fn told(alloc: Global, checked: &Result<Turn, LassoError>) -> Result<String, Mem
     }
 }
 
-// The rules of a turn, and behind a `:` what it costs.
-fn turn_told(alloc: Global, turn: &Turn) -> Result<String, Memory> {
+// The rules of a turn, and after a `:` what it costs.
+fn turn_line(alloc: Global, turn: &Turn) -> Result<String, Memory> {
     let mut out = Vec::new(alloc);
     push_rules(&mut out, &turn.rules)?;
     push_cost(&mut out, turn.cost)?;

@@ -1,5 +1,5 @@
 pub mod Lassos
--- laws, and values that were worked out by hand
+-- Laws and worked values.
 pub mod Laws
 pub mod Worked
 -- the crate below, which callers name through this one

@@ -13,5 +13,5 @@ pub mod FormLaws
 pub mod CertificateLaws
 pub mod CertificateValues
 pub mod CauseLaws
--- the lemmas of the crates below, which callers name through this one
+-- The lemmas of the crates below, which callers name through this one.
 pub use Rattle.int_laws.proofs as int_laws

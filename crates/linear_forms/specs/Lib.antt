@@ -1,4 +1,4 @@
--- what the contracts of this crate, and of those above it, cite
+-- The specs that contracts of this crate and of other crates cite.
 pub mod Forms
 pub mod Combinations
 pub mod Points
@@ -10,11 +10,11 @@ pub mod Losses
 pub mod Causes
 pub mod Limits
 pub mod Sizes
--- laws, and values that were worked out by hand
+-- Laws and worked values.
 pub mod RuleQuestionLaws
 pub mod QuestionLaws
 pub mod QuestionValues
 pub mod ProgramLaws
 pub mod CertificateLaws
--- the crates below, which callers name through this one
+-- The crates below, which callers name through this one.
 pub use Rattle.int_laws.specs as int_laws

@@ -24,9 +24,9 @@ use Rattle.cert_types.specs.cert_rules.Combined.{form_at}
 use Rattle.cert_types.specs.cert_program.Setting.{rows_in, new_values_in, setting_of}
 use Rattle.cert_types.specs.declared.answer.GuardFeasibility.{GuardFeasibility}
 use Rattle.rule_questions.proofs.EmptyLaws.{prepared-shaped}
-use Rattle.local_size.specs.Sides.{SideBoundFound, kind_program, ComesTo}
+use Rattle.local_size.specs.Sides.{SideBoundFound, kind_program, HasResult}
 use Rattle.local_size.specs.Places.{local_forms, value_on, is_nonlinear_at, kinds_of}
-use Rattle.local_size.specs.LocalAnswers.{HasBound, SideComesTo, IsLocal}
+use Rattle.local_size.specs.LocalAnswers.{HasBound, SideHasResult, IsLocal}
 use Rattle.local_size.specs.LocalLaws.{IsResultVariableOf, LocalBoundsAreAccepted}
 use Rattle.local_size.proofs.Columns.{form-long, form-small, parameter-small, multipliers-small, multipliers-long}
 use Rattle.local_size.proofs.Polynomials.{polynomial-accepted}
@@ -54,7 +54,7 @@ module _ (p : Program) (r : Rule) (result_variable : ResultVariable) (pivots : �
   fits side = value-fits m (prepared-shaped 0 0 r (preparable p result_variable.rule r valid is.numbered)) side result_variable.place
 
   module _ (side : Side) (kind : Kind) (side_bound : SideBound)
-      (c : ComesTo (local_forms m) (value_on side m result_variable.place) pivots kind (SideBoundFound side_bound)) where
+      (c : HasResult (local_forms m) (value_on side m result_variable.place) pivots kind (SideBoundFound side_bound)) where
     abbrev column : ℕ → ℤ
     column = at c.0
 
@@ -104,14 +104,14 @@ module _ (p : Program) (r : Rule) (result_variable : ResultVariable) (pivots : �
     side_bound-accepted k = subst (λ (a : SideBound). AcceptsSideBound (setting_of p) result_variable side a) (sym c.1.2) (implied k)
 
   -- a side bound that is the result of a side has the right shape
-  side-shaped : (side : Side) (side_bound : SideBound) → SideComesTo m result_variable.place pivots side (SideBoundFound side_bound)
+  side-shaped : (side : Side) (side_bound : SideBound) → SideHasResult m result_variable.place pivots side (SideBoundFound side_bound)
       → HasSideBoundShape (setting_of p) result_variable.rule (left_of p result_variable.rule) side_bound
   side-shaped side side_bound h =
       let f = found (local_forms m) (value_on side m result_variable.place) pivots (kinds_of m result_variable.place) side_bound h in
       side_bound-shaped side f.kind side_bound f.comes
 
   -- a side bound that is the result of a side is accepted
-  side-accepted : (side : Side) (side_bound : SideBound) → SideComesTo m result_variable.place pivots side (SideBoundFound side_bound)
+  side-accepted : (side : Side) (side_bound : SideBound) → SideHasResult m result_variable.place pivots side (SideBoundFound side_bound)
       → AcceptsSideBound (setting_of p) result_variable side side_bound
   side-accepted side side_bound h =
       let f = found (local_forms m) (value_on side m result_variable.place) pivots (kinds_of m result_variable.place) side_bound h in

@@ -22,7 +22,7 @@ use Rattle.rule_questions.specs.EmptyAnswers.{IsEmptyAnswer}
 use Rattle.rule_questions.specs.OneEmptyAnswer.{IsSameEmptyAnswer}
 use Rattle.local_size.specs.Sides.{SideBoundFound}
 use Rattle.local_size.specs.Places.{local_forms, value_on, is_polynomial_at, kinds_of}
-use Rattle.local_size.specs.LocalAnswers.{Local, HasBound, IsUnboundedOn, HasHitLimit, SideComesTo, IsLocal}
+use Rattle.local_size.specs.LocalAnswers.{Local, HasBound, IsUnboundedOn, HasHitLimit, SideHasResult, IsLocal}
 use Rattle.local_size.specs.LocalLaws.{IsResultVariableOf, IsUnboundedSide, PlaceHitsLimit, SaysUnbounded, SaysHitLimit, LocalAnswersAreExact}
 use Rattle.local_size.proofs.Accepted.{at-least-one, found-fits}
 use Rattle.local_size.proofs.FirstSideBounds.{fails, side_bound-of_kind, side_bound-above}
@@ -66,7 +66,7 @@ module _ (p : Program) (r : Rule) (result_variable : ResultVariable) (pivots : �
   m = prepared r
 
   -- a side with a side bound isn't unbounded
-  side_bound-not_unbounded : (side : Side) (side_bound : SideBound) → SideComesTo m result_variable.place pivots side (SideBoundFound side_bound)
+  side_bound-not_unbounded : (side : Side) (side_bound : SideBound) → SideHasResult m result_variable.place pivots side (SideBoundFound side_bound)
       → IsUnboundedSide m result_variable.place side → ⊥
   side_bound-not_unbounded side side_bound h unbounded =
       (unbounded-has-none m.rows m.left (value_on side m result_variable.place) unbounded.z unbounded.point unbounded.ray).each _ f.comes.1.0

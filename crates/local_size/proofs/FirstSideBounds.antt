@@ -17,9 +17,9 @@ use Rattle.guard_prep.specs.Prepared.{Prepared, prepared}
 use Rattle.cert_types.specs.cert_rules.Nodes.{ResultVariable, SideBound, LocalBound}
 use Rattle.cert_types.specs.cert_rules.AcceptsSizes.{Side, Up, Low}
 use Rattle.cert_types.specs.declared.answer.GuardFeasibility.{GuardFeasibility}
-use Rattle.local_size.specs.Sides.{SideBoundFound, ComesTo}
+use Rattle.local_size.specs.Sides.{SideBoundFound, HasResult}
 use Rattle.local_size.specs.Places.{local_forms, value_on, is_polynomial_at, kinds_of}
-use Rattle.local_size.specs.LocalAnswers.{HasBound, SideComesTo, IsLocal}
+use Rattle.local_size.specs.LocalAnswers.{HasBound, SideHasResult, IsLocal}
 use Rattle.local_size.specs.LocalLaws.{IsResultVariableOf, IsFirstSideBound, LocalBoundsAreFirst}
 use Rattle.local_size.proofs.Accepted.{at-least-one, fits, found-fits}
 use Rattle.local_size.proofs.KindsAsked.{HasDual, Found, found}
@@ -36,7 +36,7 @@ module _ (p : Program) (r : Rule) (result_variable : ResultVariable) (pivots : �
 
   -- the form of a side bound of a kind is of the kind, and at least the value
   module _ (kind : Kind) (side_bound : SideBound) (k : IsKindOf m.left kind)
-      (c : ComesTo (local_forms m) w pivots kind (SideBoundFound side_bound))
+      (c : HasResult (local_forms m) w pivots kind (SideBoundFound side_bound))
     where
       abbrev form : Form
       form = solved_form (local_forms m) kind (at c.0) (pos c.1.0)
@@ -59,7 +59,7 @@ module _ (p : Program) (r : Rule) (result_variable : ResultVariable) (pivots : �
         dual-excludes (local_forms m) w (get_or before i d) (at dual.1.0) (fits p r result_variable pivots valid is side) (k i d l)
         point dual.1.1.1.certified
 
-    pub side_bound-first : (side_bound : SideBound) → SideComesTo m result_variable.place pivots side (SideBoundFound side_bound)
+    pub side_bound-first : (side_bound : SideBound) → SideHasResult m result_variable.place pivots side (SideBoundFound side_bound)
         → is_polynomial_at m result_variable.place ≡ false → IsFirstSideBound m result_variable.place side side_bound
     side_bound-first side_bound h straight =
         subst (λ (a : SideBound). IsFirstSideBound m result_variable.place side a) (sym f.comes.1.2) (

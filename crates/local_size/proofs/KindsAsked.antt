@@ -10,7 +10,7 @@ use Rattle.cert_types.specs.rule_forms.Kinds.{Kind, Number, Argument, Affine, Pl
 use Rattle.cert_types.specs.rule_forms.Kinds.{kinds_for}
 use Rattle.cert_types.specs.rule_forms.Questions.{IsKindOf}
 use Rattle.cert_types.specs.cert_rules.Nodes.{SideBound}
-use Rattle.local_size.specs.Sides.{SideBoundFound, NoneFound, ComesTo, SearchComesTo}
+use Rattle.local_size.specs.Sides.{SideBoundFound, NoneFound, HasResult, SearchHasResult}
 
 -- a place of a left argument
 abbrev IsLeft : ℕ → ℕ → Type 0
@@ -59,7 +59,7 @@ kinds-end false left place = (Number ∷ arguments (places_from left place), ref
 module _ (r : RuleForms) (w : Form) (pivots : ℕ) where
   -- the question of a kind has no form as its result
   abbrev pub HasDual : Kind → Type 0
-  HasDual kind = (ray : List ℤ) × ComesTo r w pivots kind (NoneFound ray)
+  HasDual kind = (ray : List ℤ) × HasResult r w pivots kind (NoneFound ray)
 
   -- a side bound that is found is the result of the question of its kind, and the kinds before have none
   pub record Found (kinds : List Kind) (side_bound : SideBound) : Type 0 where
@@ -68,10 +68,10 @@ module _ (r : RuleForms) (w : Form) (pivots : ℕ) where
     pub behind : List Kind
     pub order : kinds ≡ before ++ kind ∷ behind
     pub none : All HasDual before
-    pub comes : ComesTo r w pivots kind (SideBoundFound side_bound)
+    pub comes : HasResult r w pivots kind (SideBoundFound side_bound)
 
   -- a side bound that is the result of a search is found so
-  pub found : (kinds : List Kind) (side_bound : SideBound) → SearchComesTo r w pivots kinds (SideBoundFound side_bound) → Found kinds side_bound
+  pub found : (kinds : List Kind) (side_bound : SideBound) → SearchHasResult r w pivots kinds (SideBoundFound side_bound) → Found kinds side_bound
   found [] side_bound h = absurd h
   found (kind ∷ []) side_bound h =
       record { kind = kind; before = []; behind = []; order = refl; none = All-nil HasDual; comes = h }
@@ -89,7 +89,7 @@ module _ (r : RuleForms) (w : Form) (pivots : ℕ) where
 
   -- a search without a result has tried the last kind
   pub last-asked : (kinds : List Kind) (kind : Kind) (ray : List ℤ)
-      → SearchComesTo r w pivots (kinds ++ kind ∷ []) (NoneFound ray) → ComesTo r w pivots kind (NoneFound ray)
+      → SearchHasResult r w pivots (kinds ++ kind ∷ []) (NoneFound ray) → HasResult r w pivots kind (NoneFound ray)
   last-asked [] kind ray h = h
   last-asked (first ∷ []) kind ray (inl h) = absurd h.0
   last-asked (first ∷ []) kind ray (inr h) = h.1

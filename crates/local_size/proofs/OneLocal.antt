@@ -17,7 +17,7 @@ use Rattle.rule_questions.specs.OneEmptyAnswer.{IsSameEmptyAnswer}
 use Rattle.rule_questions.specs.RuleAnswers.{point_in, limit_hit_in}
 use Rattle.local_size.specs.Sides.{SideOutcome, SideBoundFound, NoneFound, LimitPassed}
 use Rattle.local_size.specs.Places.{local_forms, value_on, kinds_of}
-use Rattle.local_size.specs.LocalAnswers.{Local, HasBound, IsUnboundedOn, HasHitLimit, SideComesTo, HasSideBounds}
+use Rattle.local_size.specs.LocalAnswers.{Local, HasBound, IsUnboundedOn, HasHitLimit, SideHasResult, HasSideBounds}
 use Rattle.local_size.specs.LocalAnswers.{PassesNone, LacksForm, IsLocal}
 use Rattle.local_size.specs.LocalLaws.{LocalAnswersAreOne}
 use Rattle.local_size.proofs.OneSideOutcome.{search-once}
@@ -105,14 +105,14 @@ not-both (empties.OutOfLimits u) z t e f = no-point z e
 
 module _ (m : Prepared) (place pivots : ℕ) where
   -- each side has one result
-  side-once : (side : Side) (x y : SideOutcome) → SideComesTo m place pivots side x → SideComesTo m place pivots side y
+  side-once : (side : Side) (x y : SideOutcome) → SideHasResult m place pivots side x → SideHasResult m place pivots side y
       → x ≡ y
   side-once side x y g h =
       search-once (local_forms m) (value_on side m place) pivots (kinds_of m place) x y g h
 
   -- a side that exceeds no limit passes none
   unpassed : (side : Side) (c : Cause) → PassesNone m place pivots side
-      → SideComesTo m place pivots side (LimitPassed c)
+      → SideHasResult m place pivots side (LimitPassed c)
       → ⊥
   unpassed side c (inl n) h = side_bound-no_limit n.0 c (side-once side (SideBoundFound n.0) (LimitPassed c) n.1 h)
   unpassed side c (inr n) h = ray-no_limit n.0 c (side-once side (NoneFound n.0) (LimitPassed c) n.1 h)
@@ -143,8 +143,8 @@ module _ (m : Prepared) (place pivots : ℕ) where
 
   -- a limit that is passed first, the up side before the low side
   abbrev PassesFirst : Cause → Type 0
-  PassesFirst c = SideComesTo m place pivots Up (LimitPassed c)
-      ⊎ (PassesNone m place pivots Up × SideComesTo m place pivots Low (LimitPassed c))
+  PassesFirst c = SideHasResult m place pivots Up (LimitPassed c)
+      ⊎ (PassesNone m place pivots Up × SideHasResult m place pivots Low (LimitPassed c))
 
   -- a side that hits a limit contradicts that neither does
   first-apart : (c : Cause) → PassesFirst c → PassesNone m place pivots Up × PassesNone m place pivots Low → ⊥

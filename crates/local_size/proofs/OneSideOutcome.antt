@@ -7,14 +7,14 @@ use Rattle.simplex_core.specs.linear_forms.RuleQuestions.{RuleForms}
 use Rattle.cert_types.specs.rule_forms.Kinds.{Kind}
 use Rattle.simplex_core.proofs.OneWholeAnswer.{causes-same}
 use Rattle.rule_questions.proofs.OneEmptyAnswer.{solution-once, dual-once, apart}
-use Rattle.local_size.specs.Sides.{SideOutcome, SideBoundFound, NoneFound, LimitPassed, kind_program, solved_side_bound, ComesTo}
+use Rattle.local_size.specs.Sides.{SideOutcome, SideBoundFound, NoneFound, LimitPassed, kind_program, solved_side_bound, HasResult}
 use Rattle.local_size.specs.Sides.{IsEnd}
-use Rattle.local_size.specs.Sides.{SearchComesTo}
+use Rattle.local_size.specs.Sides.{SearchHasResult}
 use Rattle.local_size.proofs.WholeNumbers.{solved-hits_no_limit, refuted-hits_no_limit}
 
 module _ (r : RuleForms) (w : Form) (pivots : ℕ) where
   -- the question of one kind has one result
-  pub comes-once : (kind : Kind) (x y : SideOutcome) → ComesTo r w pivots kind x → ComesTo r w pivots kind y → x ≡ y
+  pub comes-once : (kind : Kind) (x y : SideOutcome) → HasResult r w pivots kind x → HasResult r w pivots kind y → x ≡ y
   comes-once kind (SideBoundFound a) (SideBoundFound b) g h =
       let e = solution-once (kind_program r w kind) pivots g.0 h.0 g.1.0 h.1.0 g.1.1 h.1.1 in
       ap SideBoundFound
@@ -40,13 +40,13 @@ module _ (r : RuleForms) (w : Form) (pivots : ℕ) where
       ap LimitPassed (causes-same (kind_program r w kind) pivots c d g h)
 
   -- where a question has no form, the search doesn't end there
-  goes-on : (kind : Kind) (x : SideOutcome) (ray : List ℤ) → IsEnd x → ComesTo r w pivots kind x
-      → ComesTo r w pivots kind (NoneFound ray) → ⊥
+  goes-on : (kind : Kind) (x : SideOutcome) (ray : List ℤ) → IsEnd x → HasResult r w pivots kind x
+      → HasResult r w pivots kind (NoneFound ray) → ⊥
   goes-on kind x ray end g h = subst IsEnd (comes-once kind x (NoneFound ray) g h) end
 
   -- the search has one result
-  pub search-once : (kinds : List Kind) (x y : SideOutcome) → SearchComesTo r w pivots kinds x
-      → SearchComesTo r w pivots kinds y → x ≡ y
+  pub search-once : (kinds : List Kind) (x y : SideOutcome) → SearchHasResult r w pivots kinds x
+      → SearchHasResult r w pivots kinds y → x ≡ y
   search-once [] x y g h = absurd g
   search-once (kind ∷ []) x y g h = comes-once kind x y g h
   search-once (kind ∷ next ∷ kinds) x y (inl g) (inl h) = comes-once kind x y g.1 h.1

@@ -9,8 +9,8 @@ use Rattle.cert_types.specs.declared.answer.GuardFeasibility.{GuardFeasibility}
 use Rattle.cert_types.specs.declared.answer.Question.TheVariants as questions
 use Rattle.cert_types.specs.declared.answer.LimitHit.{LimitHit}
 use Rattle.local_size.specs.declared.search.SideAnswer.{SideAnswer}
-use Rattle.local_size.specs.Asking.{side_outcome_of, IsLoosened}
-use Rattle.local_size.specs.LocalAnswers.{Local, HasBound, IsUnboundedOn, HasHitLimit, SideComesTo, PassesNone, LacksForm}
+use Rattle.local_size.specs.Asking.{side_outcome_of, IsUnboundedResult}
+use Rattle.local_size.specs.LocalAnswers.{Local, HasBound, IsUnboundedOn, HasHitLimit, SideHasResult, PassesNone, LacksForm}
 use Rattle.local_size.specs.LocalAnswers.{both_polynomial, IsLocal}
 use Rattle.local_size.specs.Places.{is_polynomial_at}
 use Rattle.local_size.specs.Sides.{SideOutcome, SideBoundFound, NoneFound, LimitPassed}
@@ -23,13 +23,13 @@ module _ (m : Prepared) (result_variable : ResultVariable) (pivots : ℕ) (empty
 
   module _ (no : is_polynomial_at m result_variable.place ≡ false) where
     -- both sides have a side bound
-    pub both-side_bounds : (l : LocalBound) → SideComesTo m result_variable.place pivots Up (SideBoundFound l.up)
-        → SideComesTo m result_variable.place pivots Low (SideBoundFound l.low) → IsLocal m result_variable pivots empty (HasBound l)
+    pub both-side_bounds : (l : LocalBound) → SideHasResult m result_variable.place pivots Up (SideBoundFound l.up)
+        → SideHasResult m result_variable.place pivots Low (SideBoundFound l.low) → IsLocal m result_variable pivots empty (HasBound l)
     both-side_bounds l up low = inr (record { asked = no; up = up; low = low })
 
     -- a side has no form
     pub lacking : (side : Side) (ray : List ℤ) (a : Local) → LacksForm m result_variable.place pivots side ray
-        → IsLoosened side ray empty a → IsLocal m result_variable pivots empty a
+        → IsUnboundedResult side ray empty a → IsLocal m result_variable pivots empty a
     lacking side ray (HasBound l) lacks h = absurd h
     lacking side ray (IsUnboundedOn s r kept) lacks h = record {
       asked = no;
@@ -41,12 +41,12 @@ module _ (m : Prepared) (result_variable : ResultVariable) (pivots : ℕ) (empty
 
     -- the up side exceeds a limit, or the low side after it
     pub hit_limit-up : (t : LimitHit) → t.question ≡ questions.Local result_variable.rule result_variable.place
-        → SideComesTo m result_variable.place pivots Up (LimitPassed (cause_of t.cause))
+        → SideHasResult m result_variable.place pivots Up (LimitPassed (cause_of t.cause))
         → IsLocal m result_variable pivots empty (HasHitLimit t)
     hit_limit-up t e up = inl (record { asked = no; question = e; first = inl up })
 
     pub hit_limit-low : (t : LimitHit) → t.question ≡ questions.Local result_variable.rule result_variable.place → PassesNone m result_variable.place pivots Up
-        → SideComesTo m result_variable.place pivots Low (LimitPassed (cause_of t.cause))
+        → SideHasResult m result_variable.place pivots Low (LimitPassed (cause_of t.cause))
         → IsLocal m result_variable pivots empty (HasHitLimit t)
     hit_limit-low t e up low = inl (record { asked = no; question = e; first = inr (up, low) })
 
@@ -54,8 +54,8 @@ module _ (m : Prepared) (result_variable : ResultVariable) (pivots : ℕ) (empty
 pub passes : {A B : Type 0} (m : Prepared) (place pivots : ℕ) (side : Side) (s : SideAnswer) (f : A → SideAnswer)
     (g : B → SideAnswer) (side_bound : A → SideBound) (ray : B → List ℤ) → ((a : A) → side_outcome_of (f a) ≡ SideBoundFound (side_bound a))
     → ((b : B) → side_outcome_of (g b) ≡ NoneFound (ray b)) → ((x : A) × (s ≡ f x)) ⊎ ((y : B) × (s ≡ g y))
-    → SideComesTo m place pivots side (side_outcome_of s) → PassesNone m place pivots side
+    → SideHasResult m place pivots side (side_outcome_of s) → PassesNone m place pivots side
 passes m place pivots side s f g side_bound ray e h (inl (x, is)) comes =
-    inl (side_bound x, subst (λ (y : SideOutcome). SideComesTo m place pivots side y) (ap side_outcome_of is ∙ e x) comes)
+    inl (side_bound x, subst (λ (y : SideOutcome). SideHasResult m place pivots side y) (ap side_outcome_of is ∙ e x) comes)
 passes m place pivots side s f g side_bound ray e h (inr (y, is)) comes =
-    inr (ray y, subst (λ (z : SideOutcome). SideComesTo m place pivots side z) (ap side_outcome_of is ∙ h y) comes)
+    inr (ray y, subst (λ (z : SideOutcome). SideHasResult m place pivots side z) (ap side_outcome_of is ∙ h y) comes)

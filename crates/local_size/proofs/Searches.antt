@@ -26,10 +26,10 @@ use Rattle.rule_questions.specs.Programs.{IsProblemOf}
 use Rattle.rule_questions.proofs.Lists.{listed-agree}
 use Rattle.local_size.specs.declared.kinds.Kind.{Kind}
 use Rattle.local_size.specs.Asking.{kind_of}
-use Rattle.local_size.specs.LocalAnswers.{SideComesTo}
+use Rattle.local_size.specs.LocalAnswers.{SideHasResult}
 use Rattle.local_size.specs.Places.{local_forms, value_on, kinds_of}
-use Rattle.local_size.specs.Sides.{SideOutcome, SideBoundFound, NoneFound, LimitPassed, kind_program, ComesTo, IsEnd}
-use Rattle.local_size.specs.Sides.{SearchComesTo}
+use Rattle.local_size.specs.Sides.{SideOutcome, SideBoundFound, NoneFound, LimitPassed, kind_program, HasResult, IsEnd}
+use Rattle.local_size.specs.Sides.{SearchHasResult}
 use Rattle.local_size.proofs.Readings as readings
 
 module _ (r : RuleForms) (w : Form) (kind : plain.Kind) (pivots : ℕ) (problem : Problem)
@@ -50,7 +50,7 @@ module _ (r : RuleForms) (w : Form) (kind : plain.Kind) (pivots : ℕ) (problem 
       → rows ≡ length r.rows
       → side_bound ≡ Linear s.den (form_of r.left kind (parameters_of (at s.numbers.items)) (pos s.den))
       (listed rows (λ j. nat_abs (at s.numbers.items (2 * length (sought_places r.left kind) + j))))
-      → ComesTo r w pivots kind (SideBoundFound side_bound)
+      → HasResult r w pivots kind (SideBoundFound side_bound)
   side_bound-found s rows side_bound h e f =
       (s.numbers.items, (s.den, moved (Solution s) h, f ∙ readings.solved-is r w kind s.numbers.items s.den rows e))
 
@@ -63,7 +63,7 @@ module _ (r : RuleForms) (w : Form) (kind : plain.Kind) (pivots : ℕ) (problem 
 
   -- where the solver gives a dual, the question's result is that there is none, with the ray that is read off it
   pub none-found : (s : Numerators) (ns ray : List ℤ) → IsWholeAnswer (program_of problem) pivots (Dual s)
-      → ns ≡ s.numbers.items → ray ≡ listed r.unknowns (λ u. at ns (0 + u)) → ComesTo r w pivots kind (NoneFound ray)
+      → ns ≡ s.numbers.items → ray ≡ listed r.unknowns (λ u. at ns (0 + u)) → HasResult r w pivots kind (NoneFound ray)
   none-found s ns ray h e f = (
     s.numbers.items,
     (
@@ -76,43 +76,43 @@ module _ (r : RuleForms) (w : Form) (kind : plain.Kind) (pivots : ℕ) (problem 
 
   -- a limit
   pub limit-passed : (c : LimitCause) (cause : Cause) → IsWholeAnswer (program_of problem) pivots (OutOfLimits c)
-      → cause ≡ cause_of c → ComesTo r w pivots kind (LimitPassed cause)
+      → cause ≡ cause_of c → HasResult r w pivots kind (LimitPassed cause)
   limit-passed c cause h e = subst (λ (k : Cause). HitsLimit (kind_program r w kind) pivots k) (sym e) (moved (OutOfLimits c) h)
 
 module _ (r : RuleForms) (w : Form) (pivots : ℕ) where
   -- the only kind decides
   pub search-last : (kinds others : List Kind) (kind : Kind) (x : SideOutcome) → kinds ≡ kind ∷ others → others ≡ []
-      → ComesTo r w pivots (kind_of kind) x → SearchComesTo r w pivots (map kind_of kinds) x
+      → HasResult r w pivots (kind_of kind) x → SearchHasResult r w pivots (map kind_of kinds) x
   search-last kinds others kind x e f h =
-      subst (λ (ks : List Kind). SearchComesTo r w pivots (map kind_of ks) x)
+      subst (λ (ks : List Kind). SearchHasResult r w pivots (map kind_of ks) x)
       (sym (e ∙ ap (λ (ks : List Kind). kind ∷ ks) f)) h
 
   -- the first kind decides where it ends the search
   pub search-ended : (kinds others : List Kind) (kind : Kind) (x : SideOutcome) → kinds ≡ kind ∷ others → IsEnd x
-      → ComesTo r w pivots (kind_of kind) x → SearchComesTo r w pivots (map kind_of kinds) x
+      → HasResult r w pivots (kind_of kind) x → SearchHasResult r w pivots (map kind_of kinds) x
   search-ended kinds others kind x e end h =
-      subst (λ (ks : List Kind). SearchComesTo r w pivots (map kind_of ks) x) (sym e) (go others)
+      subst (λ (ks : List Kind). SearchHasResult r w pivots (map kind_of ks) x) (sym e) (go others)
     where
-      go : (others : List Kind) → SearchComesTo r w pivots (map kind_of (kind ∷ others)) x
+      go : (others : List Kind) → SearchHasResult r w pivots (map kind_of (kind ∷ others)) x
       go [] = h
       go (next ∷ rest) = inl (end, h)
 
   -- the others decide where it gives none
   pub search-on : (kinds others : List Kind) (kind : Kind) (ray : List ℤ) (x : SideOutcome) → kinds ≡ kind ∷ others
-      → ¬ (others ≡ []) → ComesTo r w pivots (kind_of kind) (NoneFound ray)
-      → SearchComesTo r w pivots (map kind_of others) x → SearchComesTo r w pivots (map kind_of kinds) x
+      → ¬ (others ≡ []) → HasResult r w pivots (kind_of kind) (NoneFound ray)
+      → SearchHasResult r w pivots (map kind_of others) x → SearchHasResult r w pivots (map kind_of kinds) x
   search-on kinds others kind ray x e some h rest =
-      subst (λ (ks : List Kind). SearchComesTo r w pivots (map kind_of ks) x) (sym e) (go others some rest)
+      subst (λ (ks : List Kind). SearchHasResult r w pivots (map kind_of ks) x) (sym e) (go others some rest)
     where
-      go : (others : List Kind) → ¬ (others ≡ []) → SearchComesTo r w pivots (map kind_of others) x
-          → SearchComesTo r w pivots (map kind_of (kind ∷ others)) x
+      go : (others : List Kind) → ¬ (others ≡ []) → SearchHasResult r w pivots (map kind_of others) x
+          → SearchHasResult r w pivots (map kind_of (kind ∷ others)) x
       go [] some rest = absurd (some refl)
       go (next ∷ behind) some rest = inr ((ray, h), rest)
 
 -- the result of the kinds of a side of a place
 pub side-comes : (m : Prepared) (place pivots : ℕ) (side : Side) (w : Form) (kinds : List Kind) (x : SideOutcome)
     → w ≡ value_on side m place → map kind_of kinds ≡ kinds_of m place
-    → SearchComesTo (local_forms m) w pivots (map kind_of kinds) x → SideComesTo m place pivots side x
+    → SearchHasResult (local_forms m) w pivots (map kind_of kinds) x → SideHasResult m place pivots side x
 side-comes m place pivots side w kinds x e f h =
-    subst (λ (ks : List plain.Kind). SearchComesTo (local_forms m) (value_on side m place) pivots ks x) f
-    (subst (λ (v : Form). SearchComesTo (local_forms m) v pivots (map kind_of kinds) x) e h)
+    subst (λ (ks : List plain.Kind). SearchHasResult (local_forms m) (value_on side m place) pivots ks x) f
+    (subst (λ (v : Form). SearchHasResult (local_forms m) v pivots (map kind_of kinds) x) e h)

@@ -28,9 +28,9 @@ use Rattle.cert_types.specs.declared.answer.GuardFeasibility.TheVariants as answ
 use Rattle.rule_questions.specs.EmptyAnswers.{IsEmptyAnswer}
 use Rattle.rule_questions.specs.RuleAnswers.{point_in}
 use Rattle.rule_questions.proofs.Lists.{value-seen}
-use Rattle.local_size.specs.Sides.{NoneFound, kind_program, ComesTo, SearchComesTo}
+use Rattle.local_size.specs.Sides.{NoneFound, kind_program, HasResult, SearchHasResult}
 use Rattle.local_size.specs.Places.{local_forms, value_on, is_nonlinear_at}
-use Rattle.local_size.specs.LocalAnswers.{IsUnboundedOn, SideComesTo, LacksForm, IsLocal}
+use Rattle.local_size.specs.LocalAnswers.{IsUnboundedOn, SideHasResult, LacksForm, IsLocal}
 use Rattle.local_size.specs.LocalLaws.{IsResultVariableOf, UnboundedAnswersAreUnbounded}
 use Rattle.local_size.proofs.Accepted.{fits}
 use Rattle.local_size.proofs.KindsAsked.{last-asked, kinds-end}
@@ -61,7 +61,7 @@ module _ (r : RuleForms) (w : Form) (fit : Fits r w) where
       seen : (j : ℕ) → j < r.unknowns → y j ≡ at (listed r.unknowns y) j
       seen j l = sym (listed-is r.unknowns y j (pos 0) l)
 
-  module _ (pivots : ℕ) (ray : List ℤ) (c : ComesTo r w pivots Affine (NoneFound ray)) where
+  module _ (pivots : ℕ) (ray : List ℤ) (c : HasResult r w pivots Affine (NoneFound ray)) where
     pub ray-unbounded : IsUnboundedRay r.rows r.left w (at ray)
     ray-unbounded =
         subst (λ (xs : List ℤ). IsUnboundedRay r.rows r.left w (at xs)) (sym c.1.2)
@@ -78,16 +78,16 @@ module _ (r : RuleForms) (w : Form) (fit : Fits r w) where
 
 -- a side without a form has tried the kind of any affine form
 pub affine-asked : (m : Prepared) (place pivots : ℕ) (side : Side) (ray : List ℤ)
-    → SideComesTo m place pivots side (NoneFound ray)
-    → ComesTo (local_forms m) (value_on side m place) pivots Affine (NoneFound ray)
+    → SideHasResult m place pivots side (NoneFound ray)
+    → HasResult (local_forms m) (value_on side m place) pivots Affine (NoneFound ray)
 affine-asked m place pivots side ray h =
     let e = kinds-end (is_nonlinear_at m place) m.left place in
     last-asked (local_forms m) (value_on side m place) pivots e.0 Affine ray
-    (subst (λ (ks : List Kind). SearchComesTo (local_forms m) (value_on side m place) pivots ks (NoneFound ray)) e.1 h)
+    (subst (λ (ks : List Kind). SearchHasResult (local_forms m) (value_on side m place) pivots ks (NoneFound ray)) e.1 h)
 
 -- the reported side lacks a form
 pub side-lacks : (m : Prepared) (place pivots : ℕ) (side : Side) (ray : List ℤ) → LacksForm m place pivots side ray
-    → SideComesTo m place pivots side (NoneFound ray)
+    → SideHasResult m place pivots side (NoneFound ray)
 side-lacks m place pivots Up ray h = h.0
 side-lacks m place pivots Low ray h = h.1
 
@@ -116,7 +116,7 @@ module _ (p : Program) (r : Rule) (result_variable : ResultVariable) (pivots : �
   m = prepared r
 
   -- the kind of any affine form was tried
-  asked : ComesTo (local_forms m) (value_on side m result_variable.place) pivots Affine (NoneFound ray)
+  asked : HasResult (local_forms m) (value_on side m result_variable.place) pivots Affine (NoneFound ray)
   asked = affine-asked m result_variable.place pivots side ray (side-lacks m result_variable.place pivots side ray h.lacks)
 
   -- its ray

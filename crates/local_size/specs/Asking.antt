@@ -79,7 +79,7 @@ pub record AreWritableWithin (places : List ℕ) (goals : List Goal) : Type 0 wh
 
 -- the answer for a side without a form along a ray, where no question of a side hits a limit: the side is unbounded,
 -- with the point of the rule, or the feasibility question for that point hit a limit
-abbrev pub IsLoosened : nodes.Side → List ℤ → GuardFeasibility → Local → Type 0
-IsLoosened side ray empty (HasBound l) = ⊥
-IsLoosened side ray empty (IsUnboundedOn s r kept) = (s ≡ side) × (r ≡ ray) × (point_in (Some empty) ≡ Some kept)
-IsLoosened side ray empty (HasHitLimit t) = limit_hit_in (Some empty) ≡ Some t
+abbrev pub IsUnboundedResult : nodes.Side → List ℤ → GuardFeasibility → Local → Type 0
+IsUnboundedResult side ray empty (HasBound l) = ⊥
+IsUnboundedResult side ray empty (IsUnboundedOn s r kept) = (s ≡ side) × (r ≡ ray) × (point_in (Some empty) ≡ Some kept)
+IsUnboundedResult side ray empty (HasHitLimit t) = limit_hit_in (Some empty) ≡ Some t

@@ -14,7 +14,7 @@ use Rattle.cert_types.specs.declared.answer.GuardFeasibility.{GuardFeasibility}
 use Rattle.rule_questions.specs.RuleAnswers.{point_in, limit_hit_in}
 use Rattle.local_size.specs.declared.answer.LocalAnswer.{LocalAnswer}
 use Rattle.local_size.specs.declared.answer.LocalAnswer.TheVariants as answers
-use Rattle.local_size.specs.Sides.{SideOutcome, SideBoundFound, NoneFound, LimitPassed, SearchComesTo}
+use Rattle.local_size.specs.Sides.{SideOutcome, SideBoundFound, NoneFound, LimitPassed, SearchHasResult}
 use Rattle.local_size.specs.Places.{local_forms, value_on, is_polynomial_at, kinds_of}
 
 -- an answer as plain data: both side bounds; a side that is unbounded, along a ray and from a point; or a limit hit
@@ -29,9 +29,9 @@ local_answer_of (answers.UnboundedSide l) = IsUnboundedOn (side_by l.up) l.ray.i
 local_answer_of (answers.OutOfLimits t) = HasHitLimit t
 
 -- the questions of a side of a place have this result
-abbrev pub SideComesTo : Prepared → ℕ → ℕ → Side → SideOutcome → Type 0
-SideComesTo m place pivots side x =
-    SearchComesTo (local_forms m) (value_on side m place) pivots (kinds_of m place) x
+abbrev pub SideHasResult : Prepared → ℕ → ℕ → Side → SideOutcome → Type 0
+SideHasResult m place pivots side x =
+    SearchHasResult (local_forms m) (value_on side m place) pivots (kinds_of m place) x
 
 -- the polynomial itself bounds both sides; no question is needed
 abbrev pub both_polynomial : LocalBound
@@ -40,20 +40,20 @@ both_polynomial = record { up = Poly; low = Poly }
 -- both sides have a side bound
 pub record HasSideBounds (m : Prepared) (place pivots : ℕ) (l : LocalBound) : Type 0 where
   pub asked : is_polynomial_at m place ≡ false
-  pub up : SideComesTo m place pivots Up (SideBoundFound l.up)
-  pub low : SideComesTo m place pivots Low (SideBoundFound l.low)
+  pub up : SideHasResult m place pivots Up (SideBoundFound l.up)
+  pub low : SideHasResult m place pivots Low (SideBoundFound l.low)
 
 -- a side exceeds no limit
 abbrev pub PassesNone : Prepared → ℕ → ℕ → Side → Type 0
-PassesNone m place pivots side = ((side_bound : SideBound) × SideComesTo m place pivots side (SideBoundFound side_bound))
-    ⊎ ((ray : List ℤ) × SideComesTo m place pivots side (NoneFound ray))
+PassesNone m place pivots side = ((side_bound : SideBound) × SideHasResult m place pivots side (SideBoundFound side_bound))
+    ⊎ ((ray : List ℤ) × SideHasResult m place pivots side (NoneFound ray))
 
 -- the up side has no form, and the low side hits no limit; or the up side has a side bound, and the low side has no
 -- form
 abbrev pub LacksForm : Prepared → ℕ → ℕ → Side → List ℤ → Type 0
-LacksForm m place pivots Up ray = SideComesTo m place pivots Up (NoneFound ray) × PassesNone m place pivots Low
-LacksForm m place pivots Low ray = ((side_bound : SideBound) × SideComesTo m place pivots Up (SideBoundFound side_bound))
-    × SideComesTo m place pivots Low (NoneFound ray)
+LacksForm m place pivots Up ray = SideHasResult m place pivots Up (NoneFound ray) × PassesNone m place pivots Low
+LacksForm m place pivots Low ray = ((side_bound : SideBound) × SideHasResult m place pivots Up (SideBoundFound side_bound))
+    × SideHasResult m place pivots Low (NoneFound ray)
 
 -- a side has no form, the up side first, and the rows of the rule have a point
 pub record IsUnboundedPlace (m : Prepared) (place pivots : ℕ) (empty : GuardFeasibility) (side : Side) (ray : List ℤ)
@@ -66,8 +66,8 @@ pub record IsUnboundedPlace (m : Prepared) (place pivots : ℕ) (empty : GuardFe
 pub record IsOwnLimitHit (m : Prepared) (result_variable : ResultVariable) (pivots : ℕ) (t : LimitHit) : Type 0 where
   pub asked : is_polynomial_at m result_variable.place ≡ false
   pub question : t.question ≡ questions.Local result_variable.rule result_variable.place
-  pub first : SideComesTo m result_variable.place pivots Up (LimitPassed (cause_of t.cause))
-      ⊎ (PassesNone m result_variable.place pivots Up × SideComesTo m result_variable.place pivots Low (LimitPassed (cause_of t.cause)))
+  pub first : SideHasResult m result_variable.place pivots Up (LimitPassed (cause_of t.cause))
+      ⊎ (PassesNone m result_variable.place pivots Up × SideHasResult m result_variable.place pivots Low (LimitPassed (cause_of t.cause)))
 
 -- none does, a side has no form, and the question whether the rows have a point exceeded a limit
 pub record IsFeasibilityLimitHit (m : Prepared) (place pivots : ℕ) (empty : GuardFeasibility) (t : LimitHit) : Type 0 where

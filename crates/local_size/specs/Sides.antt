@@ -29,13 +29,13 @@ solved_side_bound r w kind numbers den =
 
 -- the result of the question of one kind within a number of pivots: a side bound, by the solution at which its linear
 -- program's sequence of tableaux ends; none, with a part of the dual for each unknown; or a limit hit
-abbrev pub ComesTo : RuleForms → Form → ℕ → Kind → SideOutcome → Type 0
-ComesTo r w pivots kind (SideBoundFound side_bound) = (numbers : List ℤ)
+abbrev pub HasResult : RuleForms → Form → ℕ → Kind → SideOutcome → Type 0
+HasResult r w pivots kind (SideBoundFound side_bound) = (numbers : List ℤ)
     × ((den : ℕ) × IsScaledSolution (kind_program r w kind) pivots numbers den
     × (side_bound ≡ solved_side_bound r w kind numbers den))
-ComesTo r w pivots kind (NoneFound ray) = (numbers : List ℤ)
+HasResult r w pivots kind (NoneFound ray) = (numbers : List ℤ)
     × ((den : ℕ) × IsScaledDual (kind_program r w kind) pivots numbers den × (ray ≡ listed r.unknowns (at numbers)))
-ComesTo r w pivots kind (LimitPassed cause) = HitsLimit (kind_program r w kind) pivots cause
+HasResult r w pivots kind (LimitPassed cause) = HitsLimit (kind_program r w kind) pivots cause
 
 -- the search ends with this result: a side bound, or a limit hit
 abbrev pub IsEnd : SideOutcome → Type 0
@@ -44,8 +44,8 @@ IsEnd (NoneFound ray) = ⊥
 IsEnd (LimitPassed cause) = ⊤
 
 -- the kinds are tried in order: the first that gives a side bound or hits a limit decides, and else the last
-abbrev pub SearchComesTo : RuleForms → Form → ℕ → List Kind → SideOutcome → Type 0
-SearchComesTo r w pivots [] x = ⊥
-SearchComesTo r w pivots (kind ∷ []) x = ComesTo r w pivots kind x
-SearchComesTo r w pivots (kind ∷ next ∷ kinds) x = (IsEnd x × ComesTo r w pivots kind x)
-    ⊎ (((ray : List ℤ) × ComesTo r w pivots kind (NoneFound ray)) × SearchComesTo r w pivots (next ∷ kinds) x)
+abbrev pub SearchHasResult : RuleForms → Form → ℕ → List Kind → SideOutcome → Type 0
+SearchHasResult r w pivots [] x = ⊥
+SearchHasResult r w pivots (kind ∷ []) x = HasResult r w pivots kind x
+SearchHasResult r w pivots (kind ∷ next ∷ kinds) x = (IsEnd x × HasResult r w pivots kind x)
+    ⊎ (((ray : List ℤ) × HasResult r w pivots kind (NoneFound ray)) × SearchHasResult r w pivots (next ∷ kinds) x)

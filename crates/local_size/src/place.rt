@@ -5,7 +5,7 @@ ghost use Rattle.guard_prep.specs.Views.{prepared_of};
 ghost use Rattle.cert_types.specs.Views.{result_variable_of};
 ghost use Rattle.cert_types.specs.declared.answer.Question.TheVariants as questions;
 ghost use Rattle.rule_questions.specs.EmptyAnswers.{IsPrepared, SaysEmpty};
-ghost use Rattle.local_size.specs.Asking.{side_of, IsLoosened};
+ghost use Rattle.local_size.specs.Asking.{side_of, IsUnboundedResult};
 ghost use Rattle.local_size.specs.LocalAnswers.{local_answer_of, HasHitLimit, IsLocal};
 ghost use Rattle.outcome.specs.Views.{side_by};
 
@@ -35,7 +35,7 @@ use std::alloc::Global;
 ///
 /// # Errors
 ///
-/// `Memory` where an allocation fails.
+/// `Memory` if an allocation fails.
 pub fn local(
     alloc: Global,
     prepared_rule: &RuleRows,
@@ -76,7 +76,7 @@ pub fn local(
         )? {
             SideAnswer::OutOfLimits(cause) => Ok(hit_limit(result_variable, cause)),
             SideAnswer::SideBound(low) => Ok(LocalAnswer::Bound(LocalBound { up, low })),
-            SideAnswer::UnboundedSide(ray) => loosened(alloc, Side::Low, ray, empty),
+            SideAnswer::UnboundedSide(ray) => unbounded_result(alloc, Side::Low, ray, empty),
         },
         SideAnswer::UnboundedSide(ray) => match search_side(
             alloc,
@@ -87,7 +87,7 @@ pub fn local(
             pivots,
         )? {
             SideAnswer::OutOfLimits(cause) => Ok(hit_limit(result_variable, cause)),
-            SideAnswer::SideBound(_) | SideAnswer::UnboundedSide(_) => loosened(
+            SideAnswer::SideBound(_) | SideAnswer::UnboundedSide(_) => unbounded_result(
                 alloc,
                 Side::Up,
                 ray,
@@ -113,14 +113,14 @@ fn hit_limit(result_variable: ResultVariable, cause: LimitCause) -> LocalAnswer
 
 // The answer for a side without a form: with the point of the rule it is unbounded; without one, the feasibility
 // question hit a limit.
-fn loosened(
+fn unbounded_result(
     alloc: Global,
     side: Side,
     ray: Vec<i64>,
     empty: &GuardFeasibility,
 ) -> Result<LocalAnswer, Memory>
     requires { ¬ SaysEmpty empty.now }
-    ensures { IfOk result (λ a. IsLoosened (side_of side) ray.items empty.now (local_answer_of a)) }
+    ensures { IfOk result (λ a. IsUnboundedResult (side_of side) ray.items empty.now (local_answer_of a)) }
 {
     match empty {
         GuardFeasibility::Empty(_) => unreachable!(),

@@ -8,7 +8,7 @@ ghost use Rattle.poly_terms.specs.Views.{form_of};
 ghost use Rattle.rule_questions.specs.EmptyAnswers.{IsPrepared};
 ghost use Rattle.local_size.specs.Asking.{kind_of, side_outcome_of, IsValue};
 ghost use Rattle.local_size.specs.Places.{local_forms};
-ghost use Rattle.local_size.specs.Sides.{ComesTo, SearchComesTo};
+ghost use Rattle.local_size.specs.Sides.{HasResult, SearchHasResult};
 
 use crate::kinds::Kind;
 use crate::problem::kind_problem;
@@ -44,7 +44,7 @@ pub(crate) fn search_kinds(
     requires value { IsValue prepared_rule.now (form_of value.now) }
     requires some { 1 ≤ length kinds.now }
     requires kinds { All (λ k. IsKindOf prepared_rule.now.left (kind_of k)) kinds.now }
-    ensures { IfOk result (λ answer. SearchComesTo (local_forms (prepared_of prepared_rule.now)) (form_of value.now) pivots
+    ensures { IfOk result (λ answer. SearchHasResult (local_forms (prepared_of prepared_rule.now)) (form_of value.now) pivots
         (map kind_of kinds.now) (side_outcome_of answer)) }
 {
     let Some((kind, others)) = kinds.split_first() else {
@@ -72,7 +72,7 @@ fn ask(
     requires prepared { IsPrepared prepared_rule.now }
     requires value { IsValue prepared_rule.now (form_of value.now) }
     requires kind { IsKindOf prepared_rule.now.left (kind_of kind) }
-    ensures { IfOk result (λ answer. ComesTo (local_forms (prepared_of prepared_rule.now)) (form_of value.now) pivots
+    ensures { IfOk result (λ answer. HasResult (local_forms (prepared_of prepared_rule.now)) (form_of value.now) pivots
         (kind_of kind) (side_outcome_of answer)) }
 {
     let problem = kind_problem(alloc, prepared_rule, value, kind)?;

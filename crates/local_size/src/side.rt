@@ -4,7 +4,7 @@ ghost use Rattle.std.specs.Prelude.{◌≡◌, ◌≤◌, length, map, IfOk};
 ghost use Rattle.guard_prep.specs.Views.{prepared_of};
 ghost use Rattle.rule_questions.specs.EmptyAnswers.{IsPrepared};
 ghost use Rattle.local_size.specs.Asking.{kind_of, side_of, side_outcome_of};
-ghost use Rattle.local_size.specs.LocalAnswers.{SideComesTo};
+ghost use Rattle.local_size.specs.LocalAnswers.{SideHasResult};
 ghost use Rattle.local_size.specs.Places.{kinds_of as kinds_asked};
 
 use crate::kinds::Kind;
@@ -35,7 +35,7 @@ pub(crate) fn search_side(
     requires place { (1 ≤ place) × (place ≤ length prepared_rule.now.new_values.items) }
     requires kinds { map kind_of kinds.now ≡ kinds_asked (prepared_of prepared_rule.now) place }
     ensures { IfOk result (λ answer.
-        SideComesTo (prepared_of prepared_rule.now) place pivots (side_of side) (side_outcome_of answer)) }
+        SideHasResult (prepared_of prepared_rule.now) place pivots (side_of side) (side_outcome_of answer)) }
 {
     let value = &prepared_rule.new_values[place as usize - 1];
     match side {

@@ -8,7 +8,7 @@ use Rattle.poly_terms.specs.model.Programs.{Program, arity_of}
 use Rattle.location_facts.specs.declared.fact.LocFact.{LocFact}
 use Rattle.location_facts.specs.declared.fact.FactProof.{FactProof}
 use Rattle.location_facts.specs.Candidates.{IsCandidate, order_number}
-use Rattle.location_facts.specs.Faults.{number_in, StandsAt, IsRight, AreRight}
+use Rattle.location_facts.specs.Faults.{number_in, IsFactAt, IsRight, AreRight}
 use Rattle.location_facts.specs.Implied.{Ascend}
 use Rattle.location_facts.specs.Rows.{facts_at}
 
@@ -19,7 +19,7 @@ least_from k kept (suc i) = suc (number_in (slice_get kept i))
 
 ascends-from : (p : Program) (kept : List LocFact) (proofs : List (List FactProof)) (k : ℕ)
     → length proofs ≡ length kept
-    → ((i : ℕ) (f : LocFact) (ps : List FactProof) → i < length kept → StandsAt kept proofs i f ps
+    → ((i : ℕ) (f : LocFact) (ps : List FactProof) → i < length kept → IsFactAt kept proofs i f ps
     → IsRight p (least_from k kept i) f ps)
     → Ascend p k kept
 ascends-from p [] proofs k e h = tt
@@ -31,7 +31,7 @@ ascends-from p (f ∷ kept) (ps ∷ proofs) k e h =
       ascends-from p kept proofs (suc (order_number f)) (omega (arith, e)) (λ i g qs l stands. rest i g qs l stands),
     )
   where
-    rest : (i : ℕ) (g : LocFact) (qs : List FactProof) → i < length kept → StandsAt kept proofs i g qs
+    rest : (i : ℕ) (g : LocFact) (qs : List FactProof) → i < length kept → IsFactAt kept proofs i g qs
         → IsRight p (least_from (suc (order_number f)) kept i) g qs
     rest zero g qs l stands = h 1 g qs (omega (arith, l)) (record { fact = stands.fact; listed = stands.listed })
     rest (suc i) g qs l stands =
@@ -88,7 +88,7 @@ pub few-facts : (p : Program) (kept : List LocFact) (proofs : List (List FactPro
     → AreRight p kept proofs (length kept) → (s : ℕ) → length (facts_at s kept) ≤ 243
 few-facts p kept proofs e h s = (few-from p s 0 kept (ascends-from p kept proofs 0 e (λ i f ps l stands. right i f ps l stands))).0
   where
-    right : (i : ℕ) (f : LocFact) (ps : List FactProof) → i < length kept → StandsAt kept proofs i f ps
+    right : (i : ℕ) (f : LocFact) (ps : List FactProof) → i < length kept → IsFactAt kept proofs i f ps
         → IsRight p (least_from 0 kept i) f ps
     right zero f ps l stands = h zero f ps l stands
     right (suc i) f ps l stands = h (suc i) f ps l stands

@@ -25,12 +25,12 @@ use Rattle.location_facts.specs.declared.implied.Answered.{Answered}
 use Rattle.location_facts.specs.declared.implied.RuleUnderFacts.{RuleUnderFacts}
 use Rattle.location_facts.specs.Certificates.{IsWithinLimit}
 use Rattle.location_facts.specs.Faults.{rules_into}
-use Rattle.location_facts.specs.Implied.{TellsEmpty, TellsGoal, HasProofs, AreProofsUnder, proof_in}
+use Rattle.location_facts.specs.Implied.{DecidesEmpty, DecidesGoal, HasProofs, AreProofsUnder, proof_in}
 use Rattle.location_facts.specs.Kept.{HasThose, IsNext, IsImpliedByAll}
 use Rattle.location_facts.specs.declared.rules.Wanted.{Wanted}
 use Rattle.location_facts.specs.declared.rules.Wanted.TheVariants.{Nothing, Facts, Everything}
-use Rattle.location_facts.specs.Due.{AreDue, IsWanted, HasKnownPoint, TellsRule, IsUnderIfDue, AreUnder}
-use Rattle.location_facts.specs.Due.{HasRows, TellsEarlier, TellsAgain, IsShownEarlier, AreShownEarlier, lists_of, listed_at, listed_in}
+use Rattle.location_facts.specs.Due.{AreDue, IsWanted, HasKnownPoint, StatesRule, IsUnderIfDue, AreUnder}
+use Rattle.location_facts.specs.Due.{HasRows, ShowsEarlier, AnswersAgain, IsShownEarlier, AreShownEarlier, lists_of, listed_at, listed_in}
 use Rattle.location_facts.specs.Pointed.{HasPoint}
 use Rattle.location_facts.specs.Rows.{row_before, row_after, facts_at, combined}
 use Rattle.location_facts.proofs.KeptLists.{those-all, those-keep}
@@ -65,26 +65,26 @@ module _ (Keeps : LocFact → Type 0) (s : ℕ) where
 module _ (pivots n : ℕ) (rows : List Form) (goal : Form) where
   -- for a rule that isn't due the earlier proof is the answer
   pub none-sound : (o : Option RuleUnderFacts) (earlier x : Option FactProof) → o ≡ None → x ≡ earlier
-      → TellsAgain pivots n rows goal o earlier → TellsGoal pivots n rows goal x
+      → AnswersAgain pivots n rows goal o earlier → DecidesGoal pivots n rows goal x
   none-sound o earlier x e same verdict =
-      subst (TellsGoal pivots n rows goal) (sym same)
-      (go earlier (subst (λ (w : Option RuleUnderFacts). TellsAgain pivots n rows goal w earlier) e verdict))
+      subst (DecidesGoal pivots n rows goal) (sym same)
+      (go earlier (subst (λ (w : Option RuleUnderFacts). AnswersAgain pivots n rows goal w earlier) e verdict))
     where
-      go : (y : Option FactProof) → TellsEarlier pivots n rows goal y → TellsGoal pivots n rows goal y
+      go : (y : Option FactProof) → ShowsEarlier pivots n rows goal y → DecidesGoal pivots n rows goal y
       go None h = absurd h
       go (Some proof) h = h
 
   -- and an answer over the rows of a list is the answer over these
-  pub again-sound : (u : RuleUnderFacts) (earlier o : Option FactProof) → TellsAgain pivots n rows goal (Some u) earlier
-      → (TellsEmpty pivots n (map form_of u.rows.items) u.empty → TellsGoal pivots n (map form_of u.rows.items) goal o)
-      → TellsGoal pivots n rows goal o
-  again-sound u earlier o (same, empty) verdict = subst (λ (fs : List Form). TellsGoal pivots n fs goal o) same (verdict empty)
+  pub again-sound : (u : RuleUnderFacts) (earlier o : Option FactProof) → AnswersAgain pivots n rows goal (Some u) earlier
+      → (DecidesEmpty pivots n (map form_of u.rows.items) u.empty → DecidesGoal pivots n (map form_of u.rows.items) goal o)
+      → DecidesGoal pivots n rows goal o
+  again-sound u earlier o (same, empty) verdict = subst (λ (fs : List Form). DecidesGoal pivots n fs goal o) same (verdict empty)
 
 -- a rule's answer is true
 pub if-due : (pivots : ℕ) (kept : List LocFact) (m : RuleRows) (r : plain.Rule) (due points : List Bool) (i : ℕ)
     (asked : Wanted) (o : Option RuleUnderFacts) → prepared_of m ≡ prepared r
     → length (map form_of m.rows.items ++ map row_before (facts_at r.source kept)) ≤ 371 → IsWanted due points i asked
-    → TellsRule pivots m.unknowns (map form_of m.rows.items ++ map row_before (facts_at r.source kept)) asked o
+    → StatesRule pivots m.unknowns (map form_of m.rows.items ++ map row_before (facts_at r.source kept)) asked o
     → IsUnderIfDue pivots (forms_in (Some r)) (slice_get due i) kept o
 if-due pivots kept m r due points i Nothing None same few wanted verdict = wanted
 if-due pivots kept m r due points i Facts None same few wanted verdict = absurd verdict
@@ -160,26 +160,26 @@ pub later-sound : (p : plain.Program) (prepared_rules : List RuleRows) (pivots :
     (t : ℕ) (m : RuleRows) (o : Option RuleUnderFacts) (f : LocFact) (earlier x : Option FactProof) → AreRowsOf prepared_rules p
     → (1 ≤ t) × (t ≤ length p.rules) → m ≡ get_or prepared_rules (t - 1) m → IsUnderIfDue pivots (forms_at p t) due kept o
     → (due ≡ Some false
-    → TellsEarlier pivots (forms_at p t).unknowns (combined (forms_at p t) kept) (row_after (forms_at p t).new_values f) earlier)
-    → ((rows : List Form) → TellsAgain pivots m.unknowns rows (row_after (map form_of m.new_values.items) f) o earlier
-    → TellsGoal pivots m.unknowns rows (row_after (map form_of m.new_values.items) f) x)
-    → TellsGoal pivots (forms_at p t).unknowns (combined (forms_at p t) kept) (row_after (forms_at p t).new_values f) x
+    → ShowsEarlier pivots (forms_at p t).unknowns (combined (forms_at p t) kept) (row_after (forms_at p t).new_values f) earlier)
+    → ((rows : List Form) → AnswersAgain pivots m.unknowns rows (row_after (map form_of m.new_values.items) f) o earlier
+    → DecidesGoal pivots m.unknowns rows (row_after (map form_of m.new_values.items) f) x)
+    → DecidesGoal pivots (forms_at p t).unknowns (combined (forms_at p t) kept) (row_after (forms_at p t).new_values f) x
 later-sound p prepared_rules pivots due kept t m o f earlier x are within at-m is stands verdict =
-    subst (λ (n : ℕ). TellsGoal pivots n (combined (forms_at p t) kept) (row_after (forms_at p t).new_values f) x) same.0
-    (subst (λ (fs : List Form). TellsGoal pivots m.unknowns (combined (forms_at p t) kept) (row_after fs f) x) same.1
+    subst (λ (n : ℕ). DecidesGoal pivots n (combined (forms_at p t) kept) (row_after (forms_at p t).new_values f) x) same.0
+    (subst (λ (fs : List Form). DecidesGoal pivots m.unknowns (combined (forms_at p t) kept) (row_after fs f) x) same.1
     (verdict (combined (forms_at p t) kept)
-    (subst (λ (fs : List Form). TellsAgain pivots m.unknowns (combined (forms_at p t) kept) (row_after fs f) o earlier) (sym same.1)
-    (subst (λ (n : ℕ). TellsAgain pivots n (combined (forms_at p t) kept) (row_after (forms_at p t).new_values f) o earlier) (sym same.0)
+    (subst (λ (fs : List Form). AnswersAgain pivots m.unknowns (combined (forms_at p t) kept) (row_after fs f) o earlier) (sym same.1)
+    (subst (λ (n : ℕ). AnswersAgain pivots n (combined (forms_at p t) kept) (row_after (forms_at p t).new_values f) o earlier) (sym same.0)
     (again o is)))))
   where
     same : (m.unknowns ≡ (forms_at p t).unknowns) × (map form_of m.new_values.items ≡ (forms_at p t).new_values)
     same = forms-read p prepared_rules t m are within at-m
 
     again : (w : Option RuleUnderFacts) → IsUnderIfDue pivots (forms_at p t) due kept w
-        → TellsAgain pivots (forms_at p t).unknowns (combined (forms_at p t) kept) (row_after (forms_at p t).new_values f) w earlier
+        → AnswersAgain pivots (forms_at p t).unknowns (combined (forms_at p t) kept) (row_after (forms_at p t).new_values f) w earlier
     again None e = stands e
     again (Some u) h =
-        (h.rows, subst (λ (fs : List Form). TellsEmpty pivots (forms_at p t).unknowns fs u.empty) (sym h.rows) h.empty)
+        (h.rows, subst (λ (fs : List Form). DecidesEmpty pivots (forms_at p t).unknowns fs u.empty) (sym h.rows) h.empty)
 
 -- the rows of the code are few and can be written
 pub rows-read : (p : plain.Program) (prepared_rules : List RuleRows) (pivots : ℕ) (due : Option Bool) (kept : List LocFact) (t : ℕ)
@@ -196,15 +196,15 @@ pub answer-sound : (p : plain.Program) (prepared_rules : List RuleRows) (pivots 
     → (1 ≤ t) × (t ≤ length p.rules) → m ≡ get_or prepared_rules (t - 1) m
     → IsUnderIfDue pivots (forms_at p t) (slice_get due (t - 1)) kept o → IsShownEarlier p pivots due kept f ps
     → (earlier : Option FactProof) → earlier ≡ slice_get ps k
-    → ((rows : List Form) → TellsAgain pivots m.unknowns rows (row_after (map form_of m.new_values.items) f) o earlier
-    → TellsGoal pivots m.unknowns rows (row_after (map form_of m.new_values.items) f) (proof_in a))
-    → TellsGoal pivots (forms_at p t).unknowns (combined (forms_at p t) kept) (row_after (forms_at p t).new_values f)
+    → ((rows : List Form) → AnswersAgain pivots m.unknowns rows (row_after (map form_of m.new_values.items) f) o earlier
+    → DecidesGoal pivots m.unknowns rows (row_after (map form_of m.new_values.items) f) (proof_in a))
+    → DecidesGoal pivots (forms_at p t).unknowns (combined (forms_at p t) kept) (row_after (forms_at p t).new_values f)
     (proof_in b)
 answer-sound p prepared_rules pivots due kept f ps into k t m o a b same are e l g within at-m is stand earlier taken verdict =
-    subst (λ (y : Answered). TellsGoal pivots (forms_at p t).unknowns (combined (forms_at p t) kept)
+    subst (λ (y : Answered). DecidesGoal pivots (forms_at p t).unknowns (combined (forms_at p t) kept)
     (row_after (forms_at p t).new_values f) (proof_in y)) same
     (later-sound p prepared_rules pivots (slice_get due (t - 1)) kept t m o f earlier (proof_in a) are within at-m is
-    (λ not. subst (λ (x : Option FactProof). TellsEarlier pivots (forms_at p t).unknowns (combined (forms_at p t) kept)
+    (λ not. subst (λ (x : Option FactProof). ShowsEarlier pivots (forms_at p t).unknowns (combined (forms_at p t) kept)
     (row_after (forms_at p t).new_values f) x) (sym taken) (stand.each k t (read (rules_into p f.symbol) k t (subst (λ (ts : List ℕ). k < length ts) e l)
     (subst (λ (ts : List ℕ). t ≡ get_or ts k t) e g)) not)) verdict)
 
@@ -238,7 +238,7 @@ module _ (p : plain.Program) (pivots : ℕ) (old new : List LocFact) (proofs : L
 
   stands-on : (f : LocFact) (ps : List FactProof) → IsImpliedByAll p pivots old f → HasProofs p old f ps → (k t : ℕ)
       → slice_get (rules_into p f.symbol) k ≡ Some t → slice_get due (t - 1) ≡ Some false
-      → TellsEarlier pivots (forms_at p t).unknowns (combined (forms_at p t) new) (row_after (forms_at p t).new_values f)
+      → ShowsEarlier pivots (forms_at p t).unknowns (combined (forms_at p t) new) (row_after (forms_at p t).new_values f)
       (slice_get ps k)
   stands-on f ps all has k t at not =
       let low : k < length (rules_into p f.symbol) = slice_get_within (rules_into p f.symbol) k t at in
@@ -248,9 +248,9 @@ module _ (p : plain.Program) (pivots : ℕ) (old new : List LocFact) (proofs : L
       let within = into-rule p f.symbol k t (rules_into p f.symbol) refl low read-t in
       let limit : IsWithinLimit proof = subst IsWithinLimit (get_or_from_slice_get ps k proof proof there)
       (All-get_or IsWithinLimit ps k proof few has.numbers) in
-      subst (λ (o : Option FactProof). TellsEarlier pivots (forms_at p t).unknowns (combined (forms_at p t) new)
+      subst (λ (o : Option FactProof). ShowsEarlier pivots (forms_at p t).unknowns (combined (forms_at p t) new)
       (row_after (forms_at p t).new_values f) o) (sym there)
-      (subst (λ (fs : List Form). TellsGoal pivots (forms_at p t).unknowns fs (row_after (forms_at p t).new_values f) (Some proof))
+      (subst (λ (fs : List Form). DecidesGoal pivots (forms_at p t).unknowns fs (row_after (forms_at p t).new_values f) (Some proof))
       (same-rows t within not) (
         implied-at p pivots old f k t low read-t all,
         limit,
@@ -264,7 +264,7 @@ module _ (p : plain.Program) (pivots : ℕ) (old new : List LocFact) (proofs : L
           let l : i < length proofs = subst (λ (n : ℕ). i < n) (sym are.one_each) (slice_get_within new i f there) in
           let (ps, listed) = slice_get-there proofs i l in
           subst (λ (o : Option (List FactProof)). (k t : ℕ) → slice_get (rules_into p f.symbol) k ≡ Some t
-          → slice_get due (t - 1) ≡ Some false → TellsEarlier pivots (forms_at p t).unknowns
+          → slice_get due (t - 1) ≡ Some false → ShowsEarlier pivots (forms_at p t).unknowns
           (combined (forms_at p t) new) (row_after (forms_at p t).new_values f) (slice_get (listed_in o) k)) (sym listed)
           (stands-on f ps (those-keep (IsImpliedByAll p pivots old) old new next i f there)
           (are.each i f ps (record { fact = there; listed = listed })));

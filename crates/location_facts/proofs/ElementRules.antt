@@ -30,12 +30,12 @@ use Rattle.rule_questions.proofs.NewValues.{new_values-small}
 use Rattle.poly_terms.specs.linear_forms.RuleQuestions.{constant_form}
 use Rattle.location_facts.specs.declared.fact.LocFact.{LocFact}
 use Rattle.location_facts.specs.declared.elements.Element.{Element}
-use Rattle.location_facts.specs.declared.implied.Answered.TheVariants.{Against}
+use Rattle.location_facts.specs.declared.implied.Answered.TheVariants.{Refuted}
 use Rattle.location_facts.specs.declared.implied.RuleUnderFacts.{RuleUnderFacts}
 use Rattle.location_facts.specs.Elements.{IsMeasured, IsElement, AreElements}
-use Rattle.location_facts.specs.Implied.{TellsGoal}
+use Rattle.location_facts.specs.Implied.{DecidesGoal}
 use Rattle.location_facts.specs.Kept.{IsImplied, IsImpliedByAll}
-use Rattle.location_facts.specs.Due.{IsUnderIfDue, StandsOf}
+use Rattle.location_facts.specs.Due.{IsUnderIfDue, RefutesQueried}
 use Rattle.location_facts.specs.Rows.{value_after, row_after, combined}
 use Rattle.location_facts.proofs.GoalAnswers.{against-excludes}
 use Rattle.location_facts.proofs.GoalProblems.{rows-fit}
@@ -152,12 +152,12 @@ refuted p prepared_rules e m f r valid rows within at-m there same below pivots 
 -- a point or ray that refutes a goal over the rows of a rule is found
 module _ (p : plain.Program) (prepared_rules : List RuleRows) (pivots t : ℕ) (m : RuleRows) (f : LocFact) (o : Option RuleUnderFacts)
     (z : Scaled) (within : (1 ≤ t) × (t ≤ length p.rules))
-    (stands : StandsOf m.unknowns (row_after (map form_of m.new_values.items) f) o (Against z)) where
+    (stands : RefutesQueried m.unknowns (row_after (map form_of m.new_values.items) f) o (Refuted z)) where
   -- its numbers are within the limit
   pub element-measured : IsPrepared m → IsMeasured p (record { rule = t; at = z })
   element-measured is = go o stands
     where
-      go : (w : Option RuleUnderFacts) → StandsOf m.unknowns (row_after (map form_of m.new_values.items) f) w (Against z)
+      go : (w : Option RuleUnderFacts) → RefutesQueried m.unknowns (row_after (map form_of m.new_values.items) f) w (Refuted z)
           → IsMeasured p (record { rule = t; at = z })
       go None never = absurd never
       go (Some u) h = record {
@@ -169,11 +169,11 @@ module _ (p : plain.Program) (prepared_rules : List RuleRows) (pivots t : ℕ) (
 
   -- it is an element of the rule, where this one doesn't imply the fact
   pub element-found : (due : Option Bool) (kept : List LocFact) → IsUnderIfDue pivots (forms_at p t) due kept o
-      → TellsGoal pivots (forms_at p t).unknowns (combined (forms_at p t) kept) (row_after (forms_at p t).new_values f) None
+      → DecidesGoal pivots (forms_at p t).unknowns (combined (forms_at p t) kept) (row_after (forms_at p t).new_values f) None
       → IsElement p pivots kept (record { rule = t; at = z })
   element-found due kept is not = go o stands is
     where
-      go : (w : Option RuleUnderFacts) → StandsOf m.unknowns (row_after (map form_of m.new_values.items) f) w (Against z)
+      go : (w : Option RuleUnderFacts) → RefutesQueried m.unknowns (row_after (map form_of m.new_values.items) f) w (Refuted z)
           → IsUnderIfDue pivots (forms_at p t) due kept w → IsElement p pivots kept (record { rule = t; at = z })
       go None never l = absurd never
       go (Some u) h l = record {

@@ -13,15 +13,15 @@ use Rattle.location_facts.specs.declared.fact.LocFacts.{LocFacts}
 use Rattle.location_facts.specs.declared.fact.FactProof.{FactProof}
 use Rattle.location_facts.specs.declared.fact.FactFault.{FactFault}
 use Rattle.location_facts.specs.Candidates.{order_number}
-use Rattle.location_facts.specs.Faults.{number_in, least_number, StandsAt, IsRight, AreRight, IsProofFor}
+use Rattle.location_facts.specs.Faults.{number_in, least_number, IsFactAt, IsRight, AreRight, IsProofFor}
 use Rattle.location_facts.specs.Faults.{ShowsFact, ProofsShow, AreShown, AreProved, IsFirstFault, proofs_of}
-use Rattle.location_facts.specs.CombinedRows.{TellsWrong, TellsFault, IsUnshownBy}
+use Rattle.location_facts.specs.CombinedRows.{FindsWrong, FindsFactFault, IsUnshownBy}
 use Rattle.location_facts.proofs.ShownRules.{read}
 
 -- the fact and the proofs at a position of the code's lists
 pub stands-at : (f : LocFacts) (i : ℕ) (fact : LocFact) (proofs : Vec FactProof Global)
     → slice_get f.kept.items i ≡ Some fact → slice_get f.proofs.items i ≡ Some proofs
-    → StandsAt f.kept.items (proofs_of f) i fact proofs.items
+    → IsFactAt f.kept.items (proofs_of f) i fact proofs.items
 stands-at f i fact proofs e g = record {
   fact = e;
   listed =
@@ -31,7 +31,7 @@ stands-at f i fact proofs e g = record {
 
 -- a position has one fact with its proofs
 pub fact-same : (kept : List LocFact) (proofs : List (List FactProof)) (i : ℕ) (f g : LocFact) (ps qs : List FactProof)
-    → StandsAt kept proofs i f ps → StandsAt kept proofs i g qs → (f ≡ g) × (ps ≡ qs)
+    → IsFactAt kept proofs i f ps → IsFactAt kept proofs i g qs → (f ≡ g) × (ps ≡ qs)
 fact-same kept proofs i f g ps qs h k =
     (some_same f g (sym h.fact ∙ k.fact), some_same ps qs (sym h.listed ∙ k.listed))
 
@@ -42,12 +42,12 @@ module _ (p : Program) (kept : List LocFact) (proofs : List (List FactProof)) wh
 
   -- one right fact more
   pub right-more : (n : ℕ) (f : LocFact) (ps : List FactProof) → AreRight p kept proofs n
-      → StandsAt kept proofs n f ps → IsRight p (least_number kept n) f ps → AreRight p kept proofs (n + 1)
+      → IsFactAt kept proofs n f ps → IsRight p (least_number kept n) f ps → AreRight p kept proofs (n + 1)
   right-more n f ps before stands right i g qs l at = go (cases_lt i n)
     where
       same : i ≡ n → IsRight p (least_number kept i) g qs
       same e =
-          let at-n : StandsAt kept proofs n g qs = subst (λ (k : ℕ). StandsAt kept proofs k g qs) e at in
+          let at-n : IsFactAt kept proofs n g qs = subst (λ (k : ℕ). IsFactAt kept proofs k g qs) e at in
           let both = fact-same kept proofs n f g ps qs stands at-n in
           subst (λ (k : ℕ). IsRight p (least_number kept k) g qs) (sym e)
           (subst (λ (x : LocFact). IsRight p (least_number kept n) x qs) both.0
@@ -63,12 +63,12 @@ module _ (p : Program) (kept : List LocFact) (proofs : List (List FactProof)) wh
 
   -- one shown fact more
   pub shown-more : (n : ℕ) (f : LocFact) (ps : List FactProof) → AreShown p kept proofs n
-      → StandsAt kept proofs n f ps → ProofsShow p kept f ps (length ps) → AreShown p kept proofs (n + 1)
+      → IsFactAt kept proofs n f ps → ProofsShow p kept f ps (length ps) → AreShown p kept proofs (n + 1)
   shown-more n f ps before stands shown i g qs l at = go (cases_lt i n)
     where
       same : i ≡ n → ProofsShow p kept g qs (length qs)
       same e =
-          let at-n : StandsAt kept proofs n g qs = subst (λ (k : ℕ). StandsAt kept proofs k g qs) e at in
+          let at-n : IsFactAt kept proofs n g qs = subst (λ (k : ℕ). IsFactAt kept proofs k g qs) e at in
           let both = fact-same kept proofs n f g ps qs stands at-n in
           subst (λ (x : LocFact). ProofsShow p kept x qs (length qs)) both.0
           (subst (λ (x : List FactProof). ProofsShow p kept f x (length x)) both.1 shown)
@@ -110,14 +110,14 @@ uneven-fault p f x n e g =
 
 -- the answer on proofs, where all facts and shapes are right, is the first fault, or that there is none
 pub fault-sound : (p : Program) (f : LocFacts) (o : Option FactFault) → length f.proofs.items ≡ length f.kept.items
-    → AreRight p f.kept.items (proofs_of f) (length f.kept.items) → TellsFault p f.kept.items (proofs_of f) o
+    → AreRight p f.kept.items (proofs_of f) (length f.kept.items) → FindsFactFault p f.kept.items (proofs_of f) o
     → MatchOption o (AreProved p f.kept.items (proofs_of f)) (IsFirstFault p f.kept.items (proofs_of f))
 fault-sound p f None e right shown = record { one_each = proofs-many f ∙ e; right = right; shown = shown }
 fault-sound p f (Some x) e right h = inr (inr h)
 
 -- the first wrong fact is the first fault
 pub wrong-fault : (p : Program) (kept : List LocFact) (proofs : List (List FactProof)) (n : ℕ)
-    → TellsWrong p kept proofs (Some n) → IsFirstFault p kept proofs (record { fact = n; rule = 0 })
+    → FindsWrong p kept proofs (Some n) → IsFirstFault p kept proofs (record { fact = n; rule = 0 })
 wrong-fault p kept proofs n h = inr (inl h)
 
 -- a wrong fact behind right ones is the first
@@ -125,7 +125,7 @@ pub wrong-sound : (p : Program) (f : LocFacts) (i n : ℕ) (fact : LocFact) (pro
     → length f.proofs.items ≡ length f.kept.items → slice_get f.kept.items i ≡ Some fact
     → slice_get f.proofs.items i ≡ Some proofs → AreRight p f.kept.items (proofs_of f) i
     → (IsRight p (least_number f.kept.items i) fact proofs.items → ⊥) → n ≡ i + 1
-    → TellsWrong p f.kept.items (proofs_of f) (Some n)
+    → FindsWrong p f.kept.items (proofs_of f) (Some n)
 wrong-sound p f i n fact proofs e g h before wrong k = record {
   one_each = proofs-many f ∙ e;
   position = i;
@@ -143,7 +143,7 @@ pub unshown-sound : (p : Program) (f : LocFacts) (i t : ℕ) (x : FactFault) (fa
     → length f.proofs.items ≡ length f.kept.items → AreRight p f.kept.items (proofs_of f) (length f.kept.items)
     → slice_get f.kept.items i ≡ Some fact → slice_get f.proofs.items i ≡ Some proofs
     → AreShown p f.kept.items (proofs_of f) i → IsUnshownBy p f.kept.items fact proofs.items t
-    → x.fact ≡ i + 1 → x.rule ≡ t → TellsFault p f.kept.items (proofs_of f) (Some x)
+    → x.fact ≡ i + 1 → x.rule ≡ t → FindsFactFault p f.kept.items (proofs_of f) (Some x)
 unshown-sound p f i t x fact proofs e right g h before by k l = record {
   one_each = proofs-many f ∙ e;
   right = right;
@@ -154,7 +154,7 @@ unshown-sound p f i t x fact proofs e right g h before by k l = record {
   before = before;
   proof_position = by.position;
   proof = by.proof;
-  stands_for = subst (λ (n : ℕ). IsProofFor p fact proofs.items by.position n by.proof) (sym l) by.stands_for;
+  refutes_for = subst (λ (n : ℕ). IsProofFor p fact proofs.items by.position n by.proof) (sym l) by.refutes_for;
   earlier = by.earlier;
   shows_not = λ s. by.shows_not (subst (λ (n : ℕ). ShowsFact p f.kept.items fact n by.proof) l s);
   fact = k;
@@ -169,9 +169,9 @@ right-at p f i fact proofs l right g h = right i fact proofs.items l (stands-at 
 -- the fact and the proofs that are read at a position
 pub stands-read : (f : LocFacts) (i : ℕ) (fact : LocFact) (v : Vec FactProof Global) (ps : List FactProof)
     → i < length f.kept.items → length f.proofs.items ≡ length f.kept.items → fact ≡ get_or f.kept.items i fact
-    → v ≡ get_or f.proofs.items i v → ps ≡ v.items → StandsAt f.kept.items (proofs_of f) i fact ps
+    → v ≡ get_or f.proofs.items i v → ps ≡ v.items → IsFactAt f.kept.items (proofs_of f) i fact ps
 stands-read f i fact v ps l one_each e g h =
-    subst (StandsAt f.kept.items (proofs_of f) i fact) (sym h)
+    subst (IsFactAt f.kept.items (proofs_of f) i fact) (sym h)
     (stands-at f i fact v (read f.kept.items i fact l e) (read f.proofs.items i v (omega (arith, l, one_each)) g))
 
 -- one right fact more, as it is read
@@ -219,7 +219,7 @@ pub unshown-next : (p : Program) (f : LocFacts) (i t : ℕ) (x : FactFault) (fac
     → fact ≡ get_or f.kept.items i fact → v ≡ get_or f.proofs.items i v → ps ≡ v.items
     → AreRight p f.kept.items (proofs_of f) (length f.kept.items) → AreShown p f.kept.items (proofs_of f) i
     → IsUnshownBy p f.kept.items fact ps t → x.fact ≡ i + 1 → x.rule ≡ t
-    → TellsFault p f.kept.items (proofs_of f) (Some x)
+    → FindsFactFault p f.kept.items (proofs_of f) (Some x)
 unshown-next p f i t x fact v ps l one_each e g h right before by k m =
     unshown-sound p f i t x fact v one_each right (read f.kept.items i fact l e)
     (read f.proofs.items i v (omega (arith, l, one_each)) g) before

@@ -8,7 +8,7 @@ use Rattle.poly_terms.proofs.model.Cases.{some_same}
 use Rattle.location_facts.specs.declared.fact.LocFact.{LocFact}
 use Rattle.location_facts.specs.declared.fact.FactProof.{FactProof}
 use Rattle.location_facts.specs.declared.fact.FactFault.{FactFault}
-use Rattle.location_facts.specs.Faults.{rules_into, StandsAt, AreRight, IsProofFor, ShowsFact, ProofsShow, AreShown}
+use Rattle.location_facts.specs.Faults.{rules_into, IsFactAt, AreRight, IsProofFor, ShowsFact, ProofsShow, AreShown}
 use Rattle.location_facts.specs.Faults.{AreProved, IsFirstWrong, IsFirstUnshown, IsFirstFault}
 use Rattle.location_facts.specs.Laws.{FaultsAreDecided}
 use Rattle.location_facts.proofs.FaultSteps.{fact-same}
@@ -44,7 +44,7 @@ module _ (p : Program) (kept : List LocFact) where
 
   module _ (proofs : List (List FactProof)) where
     -- a fact at a position is one of the list
-    inside : (i : ℕ) (f : LocFact) (ps : List FactProof) → StandsAt kept proofs i f ps → i < length kept
+    inside : (i : ℕ) (f : LocFact) (ps : List FactProof) → IsFactAt kept proofs i f ps → i < length kept
     inside i f ps stands = slice_get_within kept i f stands.fact
 
     -- where all facts are right none is wrong
@@ -59,7 +59,7 @@ module _ (p : Program) (kept : List LocFact) where
         u.shows_not
         (shown u.position u.unshown u.with_proofs (inside u.position u.unshown u.with_proofs u.stands) u.stands
         u.proof_position x.rule u.proof
-        (slice_get_within u.with_proofs u.proof_position u.proof u.stands_for.listed) u.stands_for)
+        (slice_get_within u.with_proofs u.proof_position u.proof u.refutes_for.listed) u.refutes_for)
 
     -- of two facts that are wrong first neither comes before the other
     wrong-before : (x y : FactFault) (v : IsFirstWrong p kept proofs x) (w : IsFirstWrong p kept proofs y)
@@ -81,7 +81,7 @@ module _ (p : Program) (kept : List LocFact) where
     unshown-before x y u v l =
         u.shows_not
         (v.before u.position u.unshown u.with_proofs l u.stands u.proof_position x.rule u.proof
-        (slice_get_within u.with_proofs u.proof_position u.proof u.stands_for.listed) u.stands_for)
+        (slice_get_within u.with_proofs u.proof_position u.proof u.refutes_for.listed) u.refutes_for)
 
     unshown-one : (x y : FactFault) → IsFirstUnshown p kept proofs x → IsFirstUnshown p kept proofs y → x ≡ y
     unshown-one x y u v = go (cases_order u.position v.position)
@@ -92,19 +92,19 @@ module _ (p : Program) (kept : List LocFact) where
         one e (same, proofs-same) (inl h) =
             fault-same x y (u.fact ∙ (ap (λ (n : ℕ). n + 1) e ∙ sym v.fact))
             (rule-same u.unshown v.unshown u.with_proofs v.with_proofs u.proof_position v.proof_position x.rule y.rule
-            u.proof v.proof same h u.stands_for v.stands_for)
+            u.proof v.proof same h u.refutes_for v.refutes_for)
         one e (same, proofs-same) (inr (inl l)) =
             absurd (shown-not u.unshown v.unshown u.with_proofs v.with_proofs u.proof_position v.proof_position x.rule
-            u.proof same proofs-same u.stands_for u.shows_not v.earlier l)
+            u.proof same proofs-same u.refutes_for u.shows_not v.earlier l)
         one e (same, proofs-same) (inr (inr l)) =
             absurd (shown-not v.unshown u.unshown v.with_proofs u.with_proofs v.proof_position u.proof_position y.rule
-            v.proof (sym same) (sym proofs-same) v.stands_for v.shows_not u.earlier l)
+            v.proof (sym same) (sym proofs-same) v.refutes_for v.shows_not u.earlier l)
 
         go : (u.position ≡ v.position) ⊎ ((u.position < v.position) ⊎ (v.position < u.position)) → x ≡ y
         go (inl e) =
             one e
             (fact-same kept proofs v.position u.unshown v.unshown u.with_proofs v.with_proofs
-            (subst (λ (n : ℕ). StandsAt kept proofs n u.unshown u.with_proofs) e u.stands) v.stands)
+            (subst (λ (n : ℕ). IsFactAt kept proofs n u.unshown u.with_proofs) e u.stands) v.stands)
             (cases_order u.proof_position v.proof_position)
         go (inr (inl l)) = absurd (unshown-before x y u v l)
         go (inr (inr l)) = absurd (unshown-before y x v u l)

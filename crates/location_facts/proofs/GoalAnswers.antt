@@ -24,7 +24,7 @@ use Rattle.lp_builder.specs.simplex_core.HitsLimit.{IsScaledSolution, IsScaledDu
 use Rattle.rule_questions.proofs.EmptyLaws.{at-least-one}
 use Rattle.rule_questions.proofs.Lists.{multipliers-listed, value-seen, listed-agree}
 use Rattle.location_facts.specs.Kept.{goal_question, goal_program}
-use Rattle.location_facts.specs.Replies.{FollowsBy, IsAgainst}
+use Rattle.location_facts.specs.Replies.{FollowsBy, IsRefuting}
 
 -- rows and a goal without coefficients past the unknowns
 module _ (n : ℕ) (rows : List Form) (goal : Form) (rows-fit : All (λ r. length r.coefs ≤ n) rows)
@@ -109,7 +109,7 @@ module _ (n : ℕ) (rows : List Form) (goal : Form) (rows-fit : All (λ r. lengt
 
       -- the numbers refute the goal
       pub dual-against : (parts : List ℤ) (d : ℕ) → parts ≡ listed n (λ u. at numbers (0 + u))
-          → d ≡ nat_abs (at numbers (0 + n)) → IsAgainst n rows goal parts d
+          → d ≡ nat_abs (at numbers (0 + n)) → IsRefuting n rows goal parts d
       dual-against parts d e f = record {
         long = ap (λ (xs : List ℤ). length xs) e ∙ length-listed n (λ u. at numbers (0 + u));
         parts_limit = subst (All (λ (a : ℤ). nat_abs a ≤ point_limit)) (sym e)

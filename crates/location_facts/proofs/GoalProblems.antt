@@ -25,7 +25,7 @@ use Rattle.lp_builder.specs.Builders.{Holds, IsBuilt}
 use Rattle.lp_builder.specs.Descriptions.{group_of, question_of, IsWritable, AreWritable}
 use Rattle.rule_questions.specs.Programs.{IsProblemOf}
 use Rattle.location_facts.specs.Kept.{goal_question, goal_program, IsSolvedWithin}
-use Rattle.location_facts.specs.Replies.{FollowsBy, IsAgainst}
+use Rattle.location_facts.specs.Replies.{FollowsBy, IsRefuting}
 use Rattle.location_facts.proofs.ProgramAnswers.{solved-by}
 use Rattle.location_facts.proofs.GoalAnswers.{solution-long, solution-follows-by, dual-long, dual-against}
 
@@ -42,7 +42,7 @@ goal-writable k n rows fixed h g = record {
     nowhere : (i : ℕ) (x : Goal) → slice_get [] i ≡ Some x → ⊥
     nowhere i x e = cc
 
--- the builder's problem is the question's
+-- The linear program that the builder makes is that of the question.
 pub goal-built : (k n : ℕ) (rows : List Row) (fixed : Row) (b : Builder) (p : Problem) → k ≡ 0
     → Holds b (group_of k n rows [] fixed ∷ []) → IsBuilt b [] p
     → IsProblemOf (goal_question n (map form_of rows) (form_of fixed)) p
@@ -105,7 +105,7 @@ module _ (n : ℕ) (rows : List Row) (goal : Row) (writable : All (λ r. IsWrita
   pub goal-fails : (s : Numerators) (ns : List ℤ) (z : Scaled) → IsWholeAnswer (program_of problem) pivots (Dual s)
       → ns ≡ s.numbers.items → z.parts.items ≡ listed n (λ u. at ns (0 + u)) → z.den ≡ nat_abs (at ns (0 + n))
       → (¬ IsSolvedWithin pivots (goal_program n (map form_of rows) (form_of goal)))
-      × IsAgainst n (map form_of rows) (form_of goal) z.parts.items z.den
+      × IsRefuting n (map form_of rows) (form_of goal) z.parts.items z.den
   goal-fails s ns z h e f g = (
     (solved-by (goal_program n (map form_of rows) (form_of goal)) pivots (Dual s) (moved (Dual s) h)).1,
     dual-against n (map form_of rows) (form_of goal) (rows-fit n rows writable) fits.fits pivots s.numbers.items s.den

@@ -11,7 +11,7 @@ use Rattle.farkas_cert.specs.Sizes.{AreWithinLimit}
 use Rattle.lp_builder.specs.Descriptions.{IsWritable}
 use Rattle.location_facts.specs.declared.asking.Reply.TheVariants as replies
 use Rattle.location_facts.specs.declared.fact.FactProof.TheVariants as proofs
-use Rattle.location_facts.specs.Implied.{TellsEmpty, TellsGoal}
+use Rattle.location_facts.specs.Implied.{DecidesEmpty, DecidesGoal}
 use Rattle.location_facts.specs.Kept.{goal_program, IsSolvedWithin}
 use Rattle.location_facts.specs.Replies.{IsReply}
 
@@ -38,7 +38,7 @@ minus-one-follows rows ms times l h = record {
 module _ (pivots n : ℕ) (rows : List Form) (goal : Form) where
   -- rows have no point where -1 follows
   pub empty-worked : (v : Vec ℕ Global) (times : ℕ) → goal ≡ minus_one
-      → IsReply pivots n rows goal (replies.Follows v times) → TellsEmpty pivots n rows (Some v)
+      → IsReply pivots n rows goal (replies.Follows v times) → DecidesEmpty pivots n rows (Some v)
   empty-worked v times e (solved, follows) = (
     subst (λ (g : Form). IsSolvedWithin pivots (goal_program n rows g)) e solved,
     follows.within,
@@ -48,24 +48,24 @@ module _ (pivots n : ℕ) (rows : List Form) (goal : Form) where
 
   -- where it doesn't, nothing says so
   pub nothing-sound : goal ≡ minus_one → ¬ IsSolvedWithin pivots (goal_program n rows goal)
-      → TellsEmpty pivots n rows None
+      → DecidesEmpty pivots n rows None
   nothing-sound e h = subst (λ (g : Form). ¬ IsSolvedWithin pivots (goal_program n rows g)) e h
 
   -- a goal that follows is implied
   pub goal-sound : (v : Vec ℕ Global) (times : ℕ) → IsReply pivots n rows goal (replies.Follows v times)
-      → TellsGoal pivots n rows goal (Some (proofs.Implied v times))
+      → DecidesGoal pivots n rows goal (Some (proofs.Implied v times))
   goal-sound v times (solved, follows) =
       (inr solved, (follows.within, follows.least, follows.most), follows.shows)
 
   -- one that doesn't follow from rows of which nothing says that they have no point isn't
-  pub goal-missed : TellsEmpty pivots n rows None → ¬ IsSolvedWithin pivots (goal_program n rows goal)
-      → TellsGoal pivots n rows goal None
+  pub goal-missed : DecidesEmpty pivots n rows None → ¬ IsSolvedWithin pivots (goal_program n rows goal)
+      → DecidesGoal pivots n rows goal None
   goal-missed a b (inl s) = a s
   goal-missed a b (inr s) = b s
 
   -- every goal is implied by rows without a point
-  pub any-goal : (v w : Vec ℕ Global) → w.items ≡ v.items → TellsEmpty pivots n rows (Some v)
-      → TellsGoal pivots n rows goal (Some (proofs.Empty w))
+  pub any-goal : (v w : Vec ℕ Global) → w.items ≡ v.items → DecidesEmpty pivots n rows (Some v)
+      → DecidesGoal pivots n rows goal (Some (proofs.Empty w))
   any-goal v w e (solved, within, shows) = (
     inl solved,
     subst AreWithinLimit (sym e) within,

@@ -42,7 +42,7 @@ pub mod SymbolTables
 -- points and rays that refute facts, and points that are kept
 pub mod ElementRules
 pub mod PointRules
--- values that were worked out by hand
+-- Worked values.
 pub mod WorkedFacts
 pub mod WorkedFaults
 pub mod WorkedKept

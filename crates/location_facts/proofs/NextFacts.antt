@@ -9,7 +9,7 @@ use Rattle.poly_terms.specs.model.Programs.{Program}
 use Rattle.location_facts.specs.declared.fact.LocFact.{LocFact}
 use Rattle.location_facts.specs.declared.fact.FactProof.{FactProof}
 use Rattle.location_facts.specs.Due.{lists_of}
-use Rattle.location_facts.specs.Implied.{TellsProofs, AreProofsUnder, IsPushed, AreInOrder}
+use Rattle.location_facts.specs.Implied.{DecidesProofs, AreProofsUnder, IsPushed, AreInOrder}
 use Rattle.location_facts.specs.Kept.{IsImpliedByAll, HasThose, IsNext, EndsWith, AreKept, Stays}
 use Rattle.location_facts.specs.Candidates.{candidates}
 use Rattle.location_facts.specs.Faults.{AreProved}
@@ -25,7 +25,7 @@ module _ (p : Program) (pivots : ℕ) (kept : List LocFact) (n : ℕ) (d : LocFa
   -- those that are implied, one more
   pub next-pushed : (o : Option (Vec FactProof Global)) (found new : List LocFact)
       (lists new_lists : List (Vec FactProof Global))
-      → HasThose (IsImpliedByAll p pivots kept) (take n kept) found → TellsProofs p pivots kept (get_or kept n d) o
+      → HasThose (IsImpliedByAll p pivots kept) (take n kept) found → DecidesProofs p pivots kept (get_or kept n d) o
       → IsPushed (get_or kept n d) o found new lists new_lists → HasThose (IsImpliedByAll p pivots kept) (take (n + 1) kept) new
   next-pushed None found new lists new_lists h not (same, same_lists) =
       subst (λ (fs : List LocFact). HasThose (IsImpliedByAll p pivots kept) fs new) (sym one-more)
@@ -39,7 +39,7 @@ module _ (p : Program) (pivots : ℕ) (kept : List LocFact) (n : ℕ) (d : LocFa
   -- and their proofs
   pub shown-pushed : (o : Option (Vec FactProof Global)) (found new : List LocFact)
       (lists new_lists : List (Vec FactProof Global)) → AreProofsUnder p kept found (lists_of lists)
-      → TellsProofs p pivots kept (get_or kept n d) o → IsPushed (get_or kept n d) o found new lists new_lists
+      → DecidesProofs p pivots kept (get_or kept n d) o → IsPushed (get_or kept n d) o found new lists new_lists
       → AreProofsUnder p kept new (lists_of new_lists)
   shown-pushed None found new lists new_lists h not (same, same_lists) =
       subst (λ (fs : List LocFact). AreProofsUnder p kept fs (lists_of new_lists)) (sym same)

@@ -19,10 +19,10 @@ use Rattle.cert_types.specs.guard_prep.Prepared.{Prepared, prepared}
 use Rattle.cert_types.specs.guard_prep.Views.{prepared_of}
 use Rattle.rule_questions.specs.ProgramQuestions.{forms_in}
 use Rattle.location_facts.specs.declared.fact.LocFact.{LocFact}
-use Rattle.location_facts.specs.Implied.{TellsEmpty}
+use Rattle.location_facts.specs.Implied.{DecidesEmpty}
 use Rattle.location_facts.specs.Kept.{HasThose, IsNext, IsImpliedByAll}
 use Rattle.location_facts.specs.Pointed.{HasPoint, ArePointed}
-use Rattle.location_facts.specs.Replies.{IsAgainst}
+use Rattle.location_facts.specs.Replies.{IsRefuting}
 use Rattle.location_facts.specs.Rows.{row_before, facts_at, combined}
 use Rattle.location_facts.proofs.GoalAnswers.{against-excludes}
 use Rattle.location_facts.proofs.DueRules.{those-at}
@@ -36,13 +36,13 @@ over-there : (d : ℤ) → (pos 0 +ℤ negsuc 0 *ℤ d) <ℤ pos 0 → pos 0 <�
 over-there d l = omega (arith, ints, l)
 
 -- rows with a point aren't without one, so no linear program says so
-pub point-excludes : (pivots n : ℕ) (rows : List Form) → All (λ r. length r.coefs ≤ n) rows → HasPoint rows → TellsEmpty pivots n rows None
+pub point-excludes : (pivots n : ℕ) (rows : List Form) → All (λ r. length r.coefs ≤ n) rows → HasPoint rows → DecidesEmpty pivots n rows None
 point-excludes pivots n rows fit h s =
     against-excludes n rows minus_one fit (let l : 0 ≤ n = omega arith in l) h.at h.den (let l = h.is.denominator in omega (arith, ints, l))
     h.is.meets (below-there h.den h.is.denominator) s.solution
 
 -- a point that refutes -1 is a point of the rows
-pub point-shown : (n : ℕ) (rows : List Form) (goal : Form) (z : Scaled) → goal ≡ minus_one → IsAgainst n rows goal z.parts.items z.den → HasPoint rows
+pub point-shown : (n : ℕ) (rows : List Form) (goal : Form) (z : Scaled) → goal ≡ minus_one → IsRefuting n rows goal z.parts.items z.den → HasPoint rows
 point-shown n rows goal z e h = record {
   at = numerators_of z;
   den = pos z.den;

@@ -13,7 +13,7 @@ use Rattle.lp_builder.proofs.simplex_core.Certificates.{dual-excludes}
 use Rattle.rule_questions.proofs.HitsLimit.{solution-hits_no_limit}
 use Rattle.location_facts.specs.declared.fact.LocFact.{LocFact}
 use Rattle.location_facts.specs.Kept.{goal_program, IsSolvedWithin, IsImplied}
-use Rattle.location_facts.specs.Laws.{SaysSolution, AnswersTellImplied}
+use Rattle.location_facts.specs.Laws.{SaysSolution, AnswersDecideImplied}
 use Rattle.location_facts.specs.Rows.{row_after, combined}
 
 -- a linear program is solved exactly where its answer is a solution
@@ -51,5 +51,5 @@ implied-by pivots r kept f a b g h = (there, back)
     back (inr s) = inr (second.1 s)
 
 -- the answers of the two linear programs of a rule and a fact decide whether the rule implies the fact
-pub answers-tell-implied : AnswersTellImplied
+pub answers-tell-implied : AnswersDecideImplied
 answers-tell-implied = record { solved = solved-by; implied = implied-by }

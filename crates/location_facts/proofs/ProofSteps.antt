@@ -8,7 +8,7 @@ use Rattle.rule_questions.specs.ProgramQuestions.{forms_at}
 use Rattle.location_facts.specs.declared.fact.LocFact.{LocFact}
 use Rattle.location_facts.specs.declared.fact.FactProof.{FactProof}
 use Rattle.location_facts.specs.Faults.{rules_into, ProofsShow}
-use Rattle.location_facts.specs.Implied.{TellsGoal, TellsProofs, AreImplied}
+use Rattle.location_facts.specs.Implied.{DecidesGoal, DecidesProofs, AreImplied}
 use Rattle.location_facts.specs.Kept.{IsImpliedByAll}
 use Rattle.location_facts.specs.Rows.{row_after, combined}
 use Rattle.location_facts.proofs.RoundSteps.{implied-more, implied-all, missed}
@@ -24,7 +24,7 @@ proofs-longer old new proof n many made =
 module _ (p : plain.Program) (pivots : ℕ) (kept : List LocFact) (f : LocFact) where
   -- a rule that is read doesn't imply the fact, so not every rule does
   pub missed-read : (k t : ℕ) (into : List ℕ) → into ≡ rules_into p f.symbol → k < length into → t ≡ get_or into k t
-      → TellsGoal pivots (forms_at p t).unknowns (combined (forms_at p t) kept) (row_after (forms_at p t).new_values f) None
+      → DecidesGoal pivots (forms_at p t).unknowns (combined (forms_at p t) kept) (row_after (forms_at p t).new_values f) None
       → ¬ IsImpliedByAll p pivots kept f
   missed-read k t into e l g not =
       missed p pivots kept f k t (subst (λ (ts : List ℕ). k < length ts) e l)
@@ -34,7 +34,7 @@ module _ (p : plain.Program) (pivots : ℕ) (kept : List LocFact) (f : LocFact) 
   pub implied-read : (proofs : List FactProof) (k t : ℕ) (proof : FactProof) (into : List ℕ)
       → into ≡ rules_into p f.symbol → k < length into → t ≡ get_or into k t → AreImplied p pivots kept f proofs k
       → length proofs ≡ k
-      → TellsGoal pivots (forms_at p t).unknowns (combined (forms_at p t) kept) (row_after (forms_at p t).new_values f)
+      → DecidesGoal pivots (forms_at p t).unknowns (combined (forms_at p t) kept) (row_after (forms_at p t).new_values f)
       (Some proof) → AreImplied p pivots kept f (proofs ++ proof ∷ []) (k + 1)
   implied-read proofs k t proof into e l g h many verdict =
       implied-more p pivots kept f proofs k t proof h many
@@ -44,7 +44,7 @@ module _ (p : plain.Program) (pivots : ℕ) (kept : List LocFact) (f : LocFact) 
   -- all rules imply it
   pub proofs-all : (proofs : Vec FactProof Global) (k : ℕ) → k ≡ length (rules_into p f.symbol)
       → length proofs.items ≡ k → AreImplied p pivots kept f proofs.items k
-      → TellsProofs p pivots kept f (Some proofs)
+      → DecidesProofs p pivots kept f (Some proofs)
   proofs-all proofs k all many h = (
     implied-all p pivots kept f proofs.items (subst (AreImplied p pivots kept f proofs.items) all h),
     many ∙ all,

@@ -14,7 +14,7 @@ use Rattle.location_facts.specs.declared.fact.LocFact.{LocFact}
 use Rattle.location_facts.specs.declared.fact.FactProof.{FactProof}
 use Rattle.location_facts.specs.Candidates.{IsCandidate}
 use Rattle.location_facts.specs.Certificates.{IsWithinLimit, IsShownBy, AreInductive}
-use Rattle.location_facts.specs.Faults.{rules_into, StandsAt, IsRight, least_number, AreProved}
+use Rattle.location_facts.specs.Faults.{rules_into, IsFactAt, IsRight, least_number, AreProved}
 use Rattle.location_facts.specs.Laws.{ProvedFactsHold}
 use Rattle.location_facts.proofs.Inductive.{inductive-hold}
 
@@ -44,13 +44,13 @@ module _ (p : Program) (kept : List LocFact) (proofs : List (List FactProof)) (h
     position : ℕ
     low : position < length kept
     ps : List FactProof
-    stands : StandsAt kept proofs position f ps
+    stands : IsFactAt kept proofs position f ps
     right : IsRight p (least_number kept position) f ps
 
   right-fact : (f : LocFact) → Contains kept f → Right f
   right-fact f (i, low, e) =
       let (ps, there) = slice_get-there proofs i (let l = h.one_each in omega (arith, low, l)) in
-      let stands : StandsAt kept proofs i f ps =
+      let stands : IsFactAt kept proofs i f ps =
       record { fact = slice_get_read kept (length kept) i f refl low (sym e); listed = there } in
       record { position = i; low = low; ps = ps; stands = stands; right = h.right i f ps low stands }
 

@@ -16,7 +16,7 @@ use Rattle.location_facts.specs.declared.fact.LocFact.{LocFact}
 use Rattle.location_facts.specs.declared.fact.FactProof.{FactProof}
 use Rattle.location_facts.specs.Candidates.{IsCandidate, order_number}
 use Rattle.location_facts.specs.Certificates.{IsWithinLimit}
-use Rattle.location_facts.specs.Faults.{StandsAt, AreRight, rules_into}
+use Rattle.location_facts.specs.Faults.{IsFactAt, AreRight, rules_into}
 use Rattle.location_facts.specs.Faults.{ShowsFact}
 use Rattle.location_facts.specs.Faults.{ProofsShow, AreProved}
 use Rattle.location_facts.specs.Implied.{Ascend, AreInOrder, HasProofs, AreProofsUnder, AreImplied}
@@ -97,7 +97,7 @@ proofs-pushed p kept found proofs f ps h has = record {
   each = each;
 }
   where
-    each : (i : ℕ) (g : LocFact) (qs : List FactProof) → StandsAt (found ++ f ∷ []) (proofs ++ ps ∷ []) i g qs
+    each : (i : ℕ) (g : LocFact) (qs : List FactProof) → IsFactAt (found ++ f ∷ []) (proofs ++ ps ∷ []) i g qs
         → HasProofs p kept g qs
     each i g qs stands = go (cases_lt i (length found))
       where

@@ -25,7 +25,7 @@ use Rattle.rule_questions.specs.EmptyAnswers.{IsPrepared}
 use Rattle.rule_questions.specs.ProgramQuestions.{forms_in, forms_at}
 use Rattle.location_facts.specs.declared.fact.LocFact.{LocFact}
 use Rattle.location_facts.specs.declared.implied.RuleUnderFacts.{RuleUnderFacts}
-use Rattle.location_facts.specs.Implied.{TellsEmpty, IsUnder, AreInOrder}
+use Rattle.location_facts.specs.Implied.{DecidesEmpty, IsUnder, AreInOrder}
 use Rattle.location_facts.specs.Rows.{row_before, facts_at, combined}
 use Rattle.location_facts.proofs.CombinedLists.{prepared-at, prepared-many, is-prepared}
 use Rattle.location_facts.proofs.Counting.{few-from}
@@ -60,15 +60,15 @@ pub is-under : (pivots : ℕ) (kept : List LocFact) (m : RuleRows) (r : plain.Ru
     → map form_of u.rows.items ≡ map form_of m.rows.items ++ map row_before (facts_at r.source kept)
     → All (λ w. IsWritable m.unknowns (form_of w)) u.rows.items
     → length (map form_of m.rows.items ++ map row_before (facts_at r.source kept)) ≤ 371
-    → TellsEmpty pivots m.unknowns (map form_of u.rows.items) u.empty → IsUnder pivots (forms_in (Some r)) kept u
+    → DecidesEmpty pivots m.unknowns (map form_of u.rows.items) u.empty → IsUnder pivots (forms_in (Some r)) kept u
 is-under pivots kept m r u same made writable few empty = record {
   rows = rows-are;
   writable = subst (λ (n : ℕ). All (λ (w : Row). IsWritable n (form_of w)) u.rows.items) unknowns-are writable;
   few =
       let n = length-map u.rows.items form_of in
       let k = ap (λ (fs : List Form). length fs) made in omega (arith, n, k, few);
-  empty = subst (λ (fs : List Form). TellsEmpty pivots (forms_in (Some r)).unknowns fs u.empty) rows-are
-      (subst (λ (n : ℕ). TellsEmpty pivots n (map form_of u.rows.items) u.empty) unknowns-are empty);
+  empty = subst (λ (fs : List Form). DecidesEmpty pivots (forms_in (Some r)).unknowns fs u.empty) rows-are
+      (subst (λ (n : ℕ). DecidesEmpty pivots n (map form_of u.rows.items) u.empty) unknowns-are empty);
 }
   where
     unknowns-are : m.unknowns ≡ (forms_in (Some r)).unknowns

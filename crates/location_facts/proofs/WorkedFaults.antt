@@ -238,7 +238,7 @@ first-unshown a b within not =
       before = shown-none counting (natural ∷ []) (two_proofs a b ∷ []);
       proof_position = 0;
       proof = Implied a 1;
-      stands_for = record { rule = refl; listed = refl };
+      refutes_for = record { rule = refl; listed = refl };
       earlier = proofs-none counting (natural ∷ []) natural (two_proofs a b);
       shows_not = not;
       fact = refl;
@@ -259,7 +259,7 @@ second-unshown a b within shown not =
       before = shown-none counting (natural ∷ []) (two_proofs a b ∷ []);
       proof_position = 1;
       proof = Implied b 1;
-      stands_for = record { rule = refl; listed = refl };
+      refutes_for = record { rule = refl; listed = refl };
       earlier = proofs-more counting (natural ∷ []) natural (two_proofs a b) 0 1 (Implied a 1)
           (proofs-none counting (natural ∷ []) natural (two_proofs a b)) (record { rule = refl; listed = refl }) shown;
       shows_not = not;
@@ -329,7 +329,7 @@ second-fact one first e g =
           (natural-second-both first g));
       proof_position = 1;
       proof = Implied first 1;
-      stands_for = record { rule = refl; listed = refl };
+      refutes_for = record { rule = refl; listed = refl };
       earlier = proofs-more counting two_facts positive (two_proofs one first) 0 1 (Implied one 1)
           (proofs-none counting two_facts positive (two_proofs one first)) (record { rule = refl; listed = refl })
           (positive-first-both one e);
@@ -367,7 +367,7 @@ by-fact one zeros none first e g h k =
       before = shown-none counting two_facts (two_proofs one zeros ∷ two_proofs none first ∷ []);
       proof_position = 1;
       proof = Implied zeros 1;
-      stands_for = record { rule = refl; listed = refl };
+      refutes_for = record { rule = refl; listed = refl };
       earlier = proofs-more counting two_facts natural (two_proofs one zeros) 0 1 (Implied one 1)
           (proofs-none counting two_facts natural (two_proofs one zeros)) (record { rule = refl; listed = refl })
           (natural-first-both one e);

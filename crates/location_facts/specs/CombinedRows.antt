@@ -28,24 +28,24 @@ pub record IsGoalSmall (f : Form) : Type 0 where
   pub constant : nat_abs f.constant ≤ 2 ^ 65
 
 -- all facts are right, with the shape of their proofs, or which one is the first that isn't
-abbrev pub TellsWrong : Program → List LocFact → List (List FactProof) → Option ℕ → Type 0
-TellsWrong p kept proofs None = AreRight p kept proofs (length kept)
-TellsWrong p kept proofs (Some n) = IsFirstWrong p kept proofs (record { fact = n; rule = 0 })
+abbrev pub FindsWrong : Program → List LocFact → List (List FactProof) → Option ℕ → Type 0
+FindsWrong p kept proofs None = AreRight p kept proofs (length kept)
+FindsWrong p kept proofs (Some n) = IsFirstWrong p kept proofs (record { fact = n; rule = 0 })
 
 -- among the proofs of a fact that of this rule is the first that doesn't certify it
 pub record IsUnshownBy (p : Program) (kept : List LocFact) (f : LocFact) (ps : List FactProof) (t : ℕ) : Type 0 where
   pub position : ℕ
   pub proof : FactProof
-  pub stands_for : IsProofFor p f ps position t proof
+  pub refutes_for : IsProofFor p f ps position t proof
   pub earlier : ProofsShow p kept f ps position
   pub shows_not : ¬ (ShowsFact p kept f t proof)
 
 -- all proofs of a fact show it, or which one is the first that doesn't
-abbrev pub TellsUnshown : Program → List LocFact → LocFact → List FactProof → Option ℕ → Type 0
-TellsUnshown p kept f ps None = ProofsShow p kept f ps (length ps)
-TellsUnshown p kept f ps (Some t) = IsUnshownBy p kept f ps t
+abbrev pub FindsUnshown : Program → List LocFact → LocFact → List FactProof → Option ℕ → Type 0
+FindsUnshown p kept f ps None = ProofsShow p kept f ps (length ps)
+FindsUnshown p kept f ps (Some t) = IsUnshownBy p kept f ps t
 
 -- all proofs of all facts show them, or which one is the first that doesn't
-abbrev pub TellsFault : Program → List LocFact → List (List FactProof) → Option FactFault → Type 0
-TellsFault p kept proofs None = AreShown p kept proofs (length kept)
-TellsFault p kept proofs (Some x) = IsFirstUnshown p kept proofs x
+abbrev pub FindsFactFault : Program → List LocFact → List (List FactProof) → Option FactFault → Type 0
+FindsFactFault p kept proofs None = AreShown p kept proofs (length kept)
+FindsFactFault p kept proofs (Some x) = IsFirstUnshown p kept proofs x

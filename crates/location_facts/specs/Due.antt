@@ -19,9 +19,9 @@ use Rattle.location_facts.specs.declared.implied.RuleUnderFacts.{RuleUnderFacts}
 use Rattle.location_facts.specs.declared.rules.Wanted.{Wanted}
 use Rattle.location_facts.specs.declared.rules.Wanted.TheVariants.{Nothing, Facts, Everything}
 use Rattle.location_facts.specs.declared.shown.FactVerdict.{FactVerdict}
-use Rattle.location_facts.specs.declared.shown.FactVerdict.TheVariants.{Shown, Against, Missed}
+use Rattle.location_facts.specs.declared.shown.FactVerdict.TheVariants.{Shown, Refuted, Missed}
 use Rattle.location_facts.specs.Faults.{rules_into}
-use Rattle.location_facts.specs.Implied.{TellsEmpty, TellsGoal, IsUnder, StandsIn}
+use Rattle.location_facts.specs.Implied.{DecidesEmpty, DecidesGoal, IsUnder, RefutesGoal}
 use Rattle.location_facts.specs.Pointed.{HasPoint}
 use Rattle.location_facts.specs.Rows.{row_after, facts_at, combined}
 
@@ -50,11 +50,11 @@ IsNothing Everything = ⊥
 
 -- the state of a rule with these combined rows: none, where nothing is queried; or it is under the list, and whether it
 -- has a point was queried or is known
-abbrev pub TellsRule : ℕ → ℕ → List Form → Wanted → Option RuleUnderFacts → Type 0
-TellsRule pivots unknowns rows asked None = IsNothing asked
-TellsRule pivots unknowns rows asked (Some u) =
+abbrev pub StatesRule : ℕ → ℕ → List Form → Wanted → Option RuleUnderFacts → Type 0
+StatesRule pivots unknowns rows asked None = IsNothing asked
+StatesRule pivots unknowns rows asked (Some u) =
     (map form_of u.rows.items ≡ rows) × All (λ w. IsWritable unknowns (form_of w)) u.rows.items
-    × TellsEmpty pivots unknowns (map form_of u.rows.items) u.empty
+    × DecidesEmpty pivots unknowns (map form_of u.rows.items) u.empty
 
 -- a rule is under a list, or it isn't due
 abbrev pub IsUnderIfDue : ℕ → RuleForms → Option Bool → List LocFact → Option RuleUnderFacts → Type 0
@@ -80,22 +80,22 @@ HasRows unknowns None = ⊤
 HasRows unknowns (Some u) = (length u.rows.items ≤ 371) × All (λ w. IsWritable unknowns (form_of w)) u.rows.items
 
 -- there is an earlier proof, and it shows the goal, which is implied
-abbrev pub TellsEarlier : ℕ → ℕ → List Form → Form → Option FactProof → Type 0
-TellsEarlier pivots unknowns rows goal None = ⊥
-TellsEarlier pivots unknowns rows goal (Some earlier) = TellsGoal pivots unknowns rows goal (Some earlier)
+abbrev pub ShowsEarlier : ℕ → ℕ → List Form → Form → Option FactProof → Type 0
+ShowsEarlier pivots unknowns rows goal None = ⊥
+ShowsEarlier pivots unknowns rows goal (Some earlier) = DecidesGoal pivots unknowns rows goal (Some earlier)
 
 -- a rule's answer on a goal over rows: they are the rows of the list under which the rule is, or an earlier proof
 -- certifies the goal
-abbrev pub TellsAgain : ℕ → ℕ → List Form → Form → Option RuleUnderFacts → Option FactProof → Type 0
-TellsAgain pivots unknowns rows goal None earlier = TellsEarlier pivots unknowns rows goal earlier
-TellsAgain pivots unknowns rows goal (Some u) earlier =
-    (map form_of u.rows.items ≡ rows) × TellsEmpty pivots unknowns (map form_of u.rows.items) u.empty
+abbrev pub AnswersAgain : ℕ → ℕ → List Form → Form → Option RuleUnderFacts → Option FactProof → Type 0
+AnswersAgain pivots unknowns rows goal None earlier = ShowsEarlier pivots unknowns rows goal earlier
+AnswersAgain pivots unknowns rows goal (Some u) earlier =
+    (map form_of u.rows.items ≡ rows) × DecidesEmpty pivots unknowns (map form_of u.rows.items) u.empty
 
 -- each rule into a fact's symbol that isn't due implies the fact under a list, as an earlier proof shows
 pub record IsShownEarlier (p : Program) (pivots : ℕ) (due : List Bool) (kept : List LocFact) (f : LocFact)
     (ps : List FactProof) : Type 0 where
   pub each : (k t : ℕ) → slice_get (rules_into p f.symbol) k ≡ Some t → slice_get due (t - 1) ≡ Some false
-      → TellsEarlier pivots (forms_at p t).unknowns (combined (forms_at p t) kept) (row_after (forms_at p t).new_values f)
+      → ShowsEarlier pivots (forms_at p t).unknowns (combined (forms_at p t) kept) (row_after (forms_at p t).new_values f)
       (slice_get ps k)
 
 -- lists of the code, as lists
@@ -118,22 +118,22 @@ pub record AreShownEarlier (p : Program) (pivots : ℕ) (due : List Bool) (kept 
 -- an answer has no element
 abbrev pub HasNoElement : Answered → Type 0
 HasNoElement (answers.Shown proof) = ⊤
-HasNoElement (answers.Against z) = ⊥
+HasNoElement (answers.Refuted z) = ⊥
 HasNoElement answers.Missed = ⊤
 
 -- the point or ray of an answer, where it has one, refutes the goal over the rows of the rule that was queried
-abbrev pub StandsOf : ℕ → Form → Option RuleUnderFacts → Answered → Type 0
-StandsOf unknowns goal None a = HasNoElement a
-StandsOf unknowns goal (Some u) a = StandsIn unknowns (map form_of u.rows.items) goal a
+abbrev pub RefutesQueried : ℕ → Form → Option RuleUnderFacts → Answered → Type 0
+RefutesQueried unknowns goal None a = HasNoElement a
+RefutesQueried unknowns goal (Some u) a = RefutesGoal unknowns (map form_of u.rows.items) goal a
 
 -- the proofs of an answer, where there are some
 abbrev pub proofs_in : FactVerdict → Option (Vec FactProof Global)
 proofs_in (Shown proofs) = Some proofs
-proofs_in (Against e) = None
+proofs_in (Refuted e) = None
 proofs_in Missed = None
 
 -- the point or ray of an answer, where there is one
 abbrev pub elements_in : FactVerdict → List Element
 elements_in (Shown proofs) = []
-elements_in (Against e) = e ∷ []
+elements_in (Refuted e) = e ∷ []
 elements_in Missed = []

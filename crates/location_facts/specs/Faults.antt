@@ -31,7 +31,7 @@ least_number kept zero = 0
 least_number kept (suc i) = suc (number_in (slice_get kept i))
 
 -- the fact with these proofs is at a position of the lists
-pub record StandsAt (kept : List LocFact) (proofs : List (List FactProof)) (i : ℕ) (f : LocFact) (ps : List FactProof)
+pub record IsFactAt (kept : List LocFact) (proofs : List (List FactProof)) (i : ℕ) (f : LocFact) (ps : List FactProof)
     : Type 0 where
   pub fact : slice_get kept i ≡ Some f
   pub listed : slice_get proofs i ≡ Some ps
@@ -47,7 +47,7 @@ pub record IsRight (p : Program) (least : ℕ) (f : LocFact) (ps : List FactProo
 -- the first n facts are right, with the shape of their proofs, and each comes behind the one before it
 abbrev pub AreRight : Program → List LocFact → List (List FactProof) → ℕ → Type 0
 AreRight p kept proofs n =
-    (i : ℕ) (f : LocFact) (ps : List FactProof) → i < n → StandsAt kept proofs i f ps
+    (i : ℕ) (f : LocFact) (ps : List FactProof) → i < n → IsFactAt kept proofs i f ps
     → IsRight p (least_number kept i) f ps
 
 -- among the proofs of a fact this one is for rule t, the one at position k of those into its symbol
@@ -67,7 +67,7 @@ ProofsShow p kept f ps n =
 -- all proofs of the first n facts show them
 abbrev pub AreShown : Program → List LocFact → List (List FactProof) → ℕ → Type 0
 AreShown p kept proofs n =
-    (i : ℕ) (f : LocFact) (ps : List FactProof) → i < n → StandsAt kept proofs i f ps
+    (i : ℕ) (f : LocFact) (ps : List FactProof) → i < n → IsFactAt kept proofs i f ps
     → ProofsShow p kept f ps (length ps)
 
 -- nothing is wrong: there is a list of proofs for each fact, each fact and the shape of its proofs are right, and each
@@ -90,7 +90,7 @@ pub record IsFirstWrong (p : Program) (kept : List LocFact) (proofs : List (List
     pub position : ℕ
     pub wrong : LocFact
     pub with_proofs : List FactProof
-    pub stands : StandsAt kept proofs position wrong with_proofs
+    pub stands : IsFactAt kept proofs position wrong with_proofs
     pub before : AreRight p kept proofs position
     pub is_wrong : ¬ (IsRight p (least_number kept position) wrong with_proofs)
     pub fact : x.fact ≡ position + 1
@@ -104,11 +104,11 @@ pub record IsFirstUnshown (p : Program) (kept : List LocFact) (proofs : List (Li
     pub position : ℕ
     pub unshown : LocFact
     pub with_proofs : List FactProof
-    pub stands : StandsAt kept proofs position unshown with_proofs
+    pub stands : IsFactAt kept proofs position unshown with_proofs
     pub before : AreShown p kept proofs position
     pub proof_position : ℕ
     pub proof : FactProof
-    pub stands_for : IsProofFor p unshown with_proofs proof_position x.rule proof
+    pub refutes_for : IsProofFor p unshown with_proofs proof_position x.rule proof
     pub earlier : ProofsShow p kept unshown with_proofs proof_position
     pub shows_not : ¬ (ShowsFact p kept unshown x.rule proof)
     pub fact : x.fact ≡ position + 1

@@ -14,20 +14,20 @@ use Rattle.rule_questions.specs.ProgramQuestions.{forms_at}
 use Rattle.location_facts.specs.declared.fact.LocFact.{LocFact}
 use Rattle.location_facts.specs.declared.fact.FactProof.{FactProof}
 use Rattle.location_facts.specs.declared.implied.Answered.{Answered}
-use Rattle.location_facts.specs.declared.implied.Answered.TheVariants.{Shown, Against, Missed}
+use Rattle.location_facts.specs.declared.implied.Answered.TheVariants.{Shown, Refuted, Missed}
 use Rattle.location_facts.specs.declared.implied.RuleUnderFacts.{RuleUnderFacts}
 use Rattle.location_facts.specs.Candidates.{IsCandidate, order_number}
 use Rattle.location_facts.specs.Certificates.{IsWithinLimit, Shows}
-use Rattle.location_facts.specs.Faults.{rules_into, StandsAt, ProofsShow}
+use Rattle.location_facts.specs.Faults.{rules_into, IsFactAt, ProofsShow}
 use Rattle.location_facts.specs.Kept.{goal_program, IsSolvedWithin, IsImplied, IsImpliedByAll}
-use Rattle.location_facts.specs.Replies.{IsAgainst}
+use Rattle.location_facts.specs.Replies.{IsRefuting}
 use Rattle.location_facts.specs.Rows.{combined}
 
 -- multipliers within the limit show that rows have no point, and the linear program that asks for them is solved; or it
 -- isn't
-abbrev pub TellsEmpty : ℕ → ℕ → List Form → Option (Vec ℕ Global) → Type 0
-TellsEmpty pivots unknowns rows None = ¬ IsSolvedWithin pivots (goal_program unknowns rows minus_one)
-TellsEmpty pivots unknowns rows (Some multipliers) =
+abbrev pub DecidesEmpty : ℕ → ℕ → List Form → Option (Vec ℕ Global) → Type 0
+DecidesEmpty pivots unknowns rows None = ¬ IsSolvedWithin pivots (goal_program unknowns rows minus_one)
+DecidesEmpty pivots unknowns rows (Some multipliers) =
     IsSolvedWithin pivots (goal_program unknowns rows minus_one) × AreWithinLimit multipliers.items
     × Implies rows multipliers.items minus_one
 
@@ -39,35 +39,35 @@ IsGoalImplied pivots unknowns rows goal =
     ⊎ IsSolvedWithin pivots (goal_program unknowns rows goal)
 
 -- the goal is implied, and a proof within the limit shows it; or it isn't implied
-abbrev pub TellsGoal : ℕ → ℕ → List Form → Form → Option FactProof → Type 0
-TellsGoal pivots unknowns rows goal None = ¬ IsGoalImplied pivots unknowns rows goal
-TellsGoal pivots unknowns rows goal (Some proof) =
+abbrev pub DecidesGoal : ℕ → ℕ → List Form → Form → Option FactProof → Type 0
+DecidesGoal pivots unknowns rows goal None = ¬ IsGoalImplied pivots unknowns rows goal
+DecidesGoal pivots unknowns rows goal (Some proof) =
     IsGoalImplied pivots unknowns rows goal × IsWithinLimit proof × Shows rows goal proof
 
 -- the proof of an answer, where it has one
 abbrev pub proof_in : Answered → Option FactProof
 proof_in (Shown proof) = Some proof
-proof_in (Against z) = None
+proof_in (Refuted z) = None
 proof_in Missed = None
 
 -- the point or ray of an answer, where it has one, refutes the goal
-abbrev pub StandsIn : ℕ → List Form → Form → Answered → Type 0
-StandsIn unknowns rows goal (Shown proof) = ⊤
-StandsIn unknowns rows goal (Against z) = IsAgainst unknowns rows goal z.parts.items z.den
-StandsIn unknowns rows goal Missed = ⊤
+abbrev pub RefutesGoal : ℕ → List Form → Form → Answered → Type 0
+RefutesGoal unknowns rows goal (Shown proof) = ⊤
+RefutesGoal unknowns rows goal (Refuted z) = IsRefuting unknowns rows goal z.parts.items z.den
+RefutesGoal unknowns rows goal Missed = ⊤
 
 -- a rule under a list of facts: its combined rows, which can be written, and whether they have no point
 pub record IsUnder (pivots : ℕ) (r : RuleForms) (kept : List LocFact) (u : RuleUnderFacts) : Type 0 where
   pub rows : map form_of u.rows.items ≡ combined r kept
   pub writable : All (λ w. IsWritable r.unknowns (form_of w)) u.rows.items
   pub few : length u.rows.items ≤ 371
-  pub empty : TellsEmpty pivots r.unknowns (combined r kept) u.empty
+  pub empty : DecidesEmpty pivots r.unknowns (combined r kept) u.empty
 
 -- every rule into its symbol implies a fact under a list, with a certificate for each within the limit; or one of them
 -- doesn't imply it
-abbrev pub TellsProofs : Program → ℕ → List LocFact → LocFact → Option (Vec FactProof Global) → Type 0
-TellsProofs p pivots kept f None = ¬ IsImpliedByAll p pivots kept f
-TellsProofs p pivots kept f (Some proofs) =
+abbrev pub DecidesProofs : Program → ℕ → List LocFact → LocFact → Option (Vec FactProof Global) → Type 0
+DecidesProofs p pivots kept f None = ¬ IsImpliedByAll p pivots kept f
+DecidesProofs p pivots kept f (Some proofs) =
     IsImpliedByAll p pivots kept f × (length proofs.items ≡ length (rules_into p f.symbol))
     × All IsWithinLimit proofs.items
     × ProofsShow p kept f proofs.items (length proofs.items)
@@ -89,7 +89,7 @@ pub record HasProofs (p : Program) (kept : List LocFact) (f : LocFact) (ps : Lis
 -- each of the facts that are found has such proofs
 pub record AreProofsUnder (p : Program) (kept found : List LocFact) (proofs : List (List FactProof)) : Type 0 where
   pub one_each : length proofs ≡ length found
-  pub each : (i : ℕ) (f : LocFact) (ps : List FactProof) → StandsAt found proofs i f ps → HasProofs p kept f ps
+  pub each : (i : ℕ) (f : LocFact) (ps : List FactProof) → IsFactAt found proofs i f ps → HasProofs p kept f ps
 
 -- the first n rules into a symbol imply a fact under a list, with proofs that certify it
 pub record AreImplied (p : Program) (pivots : ℕ) (kept : List LocFact) (f : LocFact) (proofs : List FactProof) (n : ℕ)

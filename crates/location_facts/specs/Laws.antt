@@ -82,7 +82,7 @@ SaysSolution (OutOfLimits c) = ⊥
 
 -- a linear program is solved within a number of pivots exactly where its answer is a solution: a dual shows that it has
 -- none. So the answers of the two linear programs of a rule and a fact decide whether the rule implies the fact
-pub record AnswersTellImplied : Type 0 where
+pub record AnswersDecideImplied : Type 0 where
   pub solved : (q : LinearProgram) (pivots : ℕ) (a : Answer) → IsWholeAnswer q pivots a
       → SaysSolution a ↔ IsSolvedWithin pivots q
   pub implied : (pivots : ℕ) (r : RuleForms) (kept : List LocFact) (f : LocFact) (a b : Answer)

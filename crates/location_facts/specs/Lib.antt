@@ -1,4 +1,4 @@
--- what the contracts of this crate, and of those above it, cite
+-- The specs that contracts of this crate and of other crates cite.
 pub mod Facts
 pub mod Candidates
 pub mod Rows
@@ -6,7 +6,7 @@ pub mod Certificates
 pub mod Faults
 pub mod Strengthening
 pub mod Kept
--- laws, and values that were worked out by hand
+-- Laws and worked values.
 pub mod Laws
 pub mod Worked
 pub mod WorkedFaults

@@ -15,9 +15,9 @@ pub record HasPoint (rows : List Form) : Type 0 where
   pub is : IsPoint rows at den
 
 -- where a rule that is under a list says that it has a point, these rows have one
-abbrev pub TellsPoint : List Form → Option RuleUnderFacts → Type 0
-TellsPoint rows None = ⊤
-TellsPoint rows (Some u) = u.has_point ≡ true → HasPoint rows
+abbrev pub StatesPoint : List Form → Option RuleUnderFacts → Type 0
+StatesPoint rows None = ⊤
+StatesPoint rows (Some u) = u.has_point ≡ true → HasPoint rows
 
 -- the combined rows of each rule with a mark have a point under a list of facts
 pub record ArePointed (p : Program) (kept : List LocFact) (marks : List Bool) : Type 0 where

@@ -20,7 +20,7 @@ pub record FollowsBy (rows : List Form) (goal : Form) (multipliers : List ℕ) (
 
 -- numerators of the unknowns over a denominator meet the rows, and the goal is below 0 there; with the denominator 0
 -- it falls along them. The numbers are within the limit of points
-pub record IsAgainst (unknowns : ℕ) (rows : List Form) (goal : Form) (parts : List ℤ) (den : ℕ) : Type 0 where
+pub record IsRefuting (unknowns : ℕ) (rows : List Form) (goal : Form) (parts : List ℤ) (den : ℕ) : Type 0 where
   pub long : length parts ≡ unknowns
   pub parts_limit : All (λ a. nat_abs a ≤ point_limit) parts
   pub den_limit : den ≤ point_limit
@@ -33,5 +33,5 @@ abbrev pub IsReply : ℕ → ℕ → List Form → Form → Reply → Type 0
 IsReply pivots unknowns rows goal (Follows multipliers times) =
     IsSolvedWithin pivots (goal_program unknowns rows goal) × FollowsBy rows goal multipliers.items times
 IsReply pivots unknowns rows goal (Fails z) =
-    (¬ IsSolvedWithin pivots (goal_program unknowns rows goal)) × IsAgainst unknowns rows goal z.parts.items z.den
+    (¬ IsSolvedWithin pivots (goal_program unknowns rows goal)) × IsRefuting unknowns rows goal z.parts.items z.den
 IsReply pivots unknowns rows goal OutOfLimits = ¬ IsSolvedWithin pivots (goal_program unknowns rows goal)

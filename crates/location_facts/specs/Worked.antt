@@ -217,7 +217,7 @@ pub record ThoseAreWorkedOut : Type 0 where
   pub less : ¬ (HasThose (λ f. f.least ≡ pos 0) (natural ∷ positive ∷ []) [])
   pub more : ¬ (HasThose (λ f. f.least ≡ pos 0) (natural ∷ positive ∷ []) (natural ∷ positive ∷ []))
 
--- all of it
+-- All worked values of this file.
 pub record FactsAreWorkedOut : Type 0 where
   pub candidates_are : CandidatesAreWorkedOut
   pub met : FactsAreMet

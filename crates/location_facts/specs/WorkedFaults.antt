@@ -63,7 +63,7 @@ pub record UnshownIsWorkedOut : Type 0 where
       → none.items ≡ 0 ∷ [] → first.items ≡ 1 ∷ 0 ∷ 0 ∷ []
       → IsFirstFault counting (natural ∷ positive ∷ []) (two_proofs one zeros ∷ two_proofs none first ∷ []) (fault 1 2)
 
--- all of it
+-- All worked values of this file.
 pub record FaultsAreWorkedOut : Type 0 where
   pub proved : ProvedIsWorkedOut
   pub shapes : ShapesAreWorkedOut

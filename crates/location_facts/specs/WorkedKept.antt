@@ -128,7 +128,7 @@ pub record SomeAreKept : Type 0 where
   pub not_one : ¬ (AreKept resetting 0 (natural ∷ []))
   pub not_none : ¬ (AreKept resetting 0 [])
 
--- all of it
+-- All worked values of this file.
 pub record KeptFactsAreWorkedOut : Type 0 where
   pub kept : KeptAreWorkedOut
   pub following : FollowingIsWorkedOut

@@ -31,7 +31,7 @@ pub(crate) enum Reply {
 ///
 /// # Errors
 ///
-/// `Memory` where an allocation fails.
+/// `Memory` if an allocation fails.
 pub(crate) fn ask(
     alloc: Global,
     unknowns: u32,

@@ -15,7 +15,7 @@ use std::alloc::{AllocError, Global};
 ///
 /// # Errors
 ///
-/// `Memory` where an allocation fails, and where the number of a symbol has more than 32 bits.
+/// `Memory` if an allocation fails, or if the number of a symbol has more than 32 bits.
 pub(crate) fn all_candidates(alloc: Global, p: &Program) -> Result<Vec<LocFact>, Memory>
     ensures { IfOk result (λ all. all.items ≡ candidates (program_of p.now)) }
 {

@@ -51,7 +51,7 @@ pub(crate) fn is_refuted(
         let number = element.rule as usize - 1;
         let rule = &p.rules[number];
         let prepared_rule = &prepared_rules[number];
-        if stands_against(rule.target, prepared_rule, fact, &element.at) {
+        if refutes_fact(rule.target, prepared_rule, fact, &element.at) {
             return true;
         }
     }
@@ -59,7 +59,7 @@ pub(crate) fn is_refuted(
 }
 
 // Whether a rule leads to the symbol of a fact, which is below 0 after the rule at an element of its unknowns.
-fn stands_against(target: u32, prepared_rule: &RuleRows, fact: LocFact, at: &Scaled) -> bool
+fn refutes_fact(target: u32, prepared_rule: &RuleRows, fact: LocFact, at: &Scaled) -> bool
     requires prepared { IsPrepared prepared_rule.now }
     requires unknowns { length at.now.parts.items ≤ 128 }
     requires parts { AreParts at.now.parts.items }
@@ -67,11 +67,11 @@ fn stands_against(target: u32, prepared_rule: &RuleRows, fact: LocFact, at: &Sca
     ensures { IsTrue result ↔ ((target ≡ fact.symbol) × (form_value (goal_of (map form_of prepared_rule.now.new_values.items) fact)
         (numerators_of at.now) (pos at.now.den) <ℤ pos 0)) }
 {
-    target == fact.symbol && is_against(prepared_rule, fact, at)
+    target == fact.symbol && is_refuting(prepared_rule, fact, at)
 }
 
 // Whether a fact is below 0 after a rule, at an element of the rule's unknowns.
-fn is_against(prepared_rule: &RuleRows, fact: LocFact, at: &Scaled) -> bool
+fn is_refuting(prepared_rule: &RuleRows, fact: LocFact, at: &Scaled) -> bool
     requires prepared { IsPrepared prepared_rule.now }
     requires unknowns { length at.now.parts.items ≤ 128 }
     requires parts { AreParts at.now.parts.items }

@@ -12,7 +12,7 @@ ghost use Rattle.farkas_cert.specs.Sizes.{AreSmall};
 ghost use Rattle.cert_types.specs.Composing.{AreRowsOf};
 ghost use Rattle.location_facts.specs.declared.fact.LocFact.{LocFact as Fact};
 ghost use Rattle.location_facts.specs.Certificates.{IsWithinLimit, Shows};
-ghost use Rattle.location_facts.specs.CombinedRows.{AreCombined, IsGoalSmall, TellsUnshown, TellsWrong, TellsFault};
+ghost use Rattle.location_facts.specs.CombinedRows.{AreCombined, IsGoalSmall, FindsUnshown, FindsWrong, FindsFactFault};
 ghost use Rattle.location_facts.specs.Faults.{rules_into as rules_to, proofs_of, AreProved, AreRight, IsFirstFault};
 
 use crate::checks::{is_right, number_of, rules_into};
@@ -60,7 +60,7 @@ pub fn facts_fault(
 fn first_wrong(alloc: Global, p: &Program, f: &LocFacts) -> Result<Option<u32>, Memory>
     requires valid { IsValid (program_of p.now) }
     requires one_each { length f.now.proofs.items ≡ length f.now.kept.items }
-    ensures { IfOk result (TellsWrong (program_of p.now) f.now.kept.items (proofs_of f.now)) }
+    ensures { IfOk result (FindsWrong (program_of p.now) f.now.kept.items (proofs_of f.now)) }
 {
     let mut least = 0;
     for i in 0..f.kept.len() {
@@ -100,7 +100,7 @@ fn first_unshown(
     requires one_each { length f.now.proofs.items ≡ length f.now.kept.items }
     requires right { AreRight (program_of p.now) f.now.kept.items (proofs_of f.now) (length f.now.kept.items) }
     requires small { All (λ v. AreSmall (map form_of v.items)) rows.now }
-    ensures { IfOk result (TellsFault (program_of p.now) f.now.kept.items (proofs_of f.now)) }
+    ensures { IfOk result (FindsFactFault (program_of p.now) f.now.kept.items (proofs_of f.now)) }
 {
     for i in 0..f.kept.len() {
         if let Some(rule) = unshown_rule(alloc, p, prepared_rules, f.kept[i], &f.proofs[i], rows)? {
@@ -127,7 +127,7 @@ fn unshown_rule(
     requires many { length rows.now ≡ length p.now.rules.items }
     requires small { All (λ v. AreSmall (map form_of v.items)) rows.now }
     ensures { IfOk result (λ rule. (kept : List Fact) → AreCombined (program_of p.now) kept rows.now
-        → TellsUnshown (program_of p.now) kept fact proofs.now rule) }
+        → FindsUnshown (program_of p.now) kept fact proofs.now rule) }
 {
     let into = rules_into(alloc, p, fact.symbol)?;
     for k in 0..into.len() {

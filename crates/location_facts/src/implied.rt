@@ -6,7 +6,7 @@ ghost use Rattle.lp_builder.specs.Descriptions.{IsWritable};
 ghost use Rattle.poly_terms.specs.Views.{form_of};
 ghost use Rattle.rule_questions.specs.EmptyAnswers.{IsPrepared};
 ghost use Rattle.location_facts.specs.Pointed.{HasPoint};
-ghost use Rattle.location_facts.specs.Implied.{TellsEmpty, TellsGoal, proof_in, StandsIn};
+ghost use Rattle.location_facts.specs.Implied.{DecidesEmpty, DecidesGoal, proof_in, RefutesGoal};
 ghost use Rattle.location_facts.specs.Rows.{row_before as row_of, row_after as goal_of, facts_at as facts_of_symbol};
 
 use crate::asking::{Reply, ask};
@@ -33,7 +33,7 @@ pub(crate) enum Answered {
     /// It does, with this proof.
     Shown(FactProof),
     /// It doesn't: at this point or ray of its rows the fact is below 0 afterwards.
-    Against(Scaled),
+    Refuted(Scaled),
     /// It doesn't.
     Missed,
 }
@@ -49,7 +49,7 @@ fn emptiness(
     requires few_unknowns { unknowns + 1 < 2 ^ 31 }
     requires few_rows { length rows.now + 1 < 2 ^ 31 }
     requires rows { All (λ r. IsWritable unknowns (form_of r)) rows.now }
-    ensures empty { IfOk result (λ e. TellsEmpty pivots unknowns (map form_of rows.now) e.0) }
+    ensures empty { IfOk result (λ e. DecidesEmpty pivots unknowns (map form_of rows.now) e.0) }
     ensures point { IfOk result (λ e. e.1 ≡ true → HasPoint (map form_of rows.now)) }
 {
     let goal = constant_row(alloc, -1);
@@ -72,15 +72,15 @@ fn goal_answer(
     requires few_rows { length rows.now + 1 < 2 ^ 31 }
     requires rows { All (λ r. IsWritable unknowns (form_of r)) rows.now }
     requires goal { IsWritable unknowns (form_of goal.now) }
-    ensures verdict { IfOk result (λ a. TellsEmpty pivots unknowns (map form_of rows.now) None
-        → TellsGoal pivots unknowns (map form_of rows.now) (form_of goal.now) (proof_in a)) }
-    ensures stands { IfOk result (StandsIn unknowns (map form_of rows.now) (form_of goal.now)) }
+    ensures verdict { IfOk result (λ a. DecidesEmpty pivots unknowns (map form_of rows.now) None
+        → DecidesGoal pivots unknowns (map form_of rows.now) (form_of goal.now) (proof_in a)) }
+    ensures stands { IfOk result (RefutesGoal unknowns (map form_of rows.now) (form_of goal.now)) }
 {
     match ask(alloc, unknowns, rows, goal, pivots)? {
         Reply::Follows(multipliers, times) => {
             Ok(Answered::Shown(FactProof::Implied(multipliers, times)))
         }
-        Reply::Fails(at) => Ok(Answered::Against(at)),
+        Reply::Fails(at) => Ok(Answered::Refuted(at)),
         Reply::OutOfLimits => Ok(Answered::Missed),
     }
 }
@@ -96,10 +96,10 @@ pub(crate) fn answer_under(
     requires prepared { IsPrepared prepared_rule.now }
     requires few { length under.now.rows.items ≤ 371 }
     requires rows { All (λ r. IsWritable prepared_rule.now.unknowns (form_of r)) under.now.rows.items }
-    ensures verdict { IfOk result (λ a. TellsEmpty pivots prepared_rule.now.unknowns (map form_of under.now.rows.items)
-        under.now.empty → TellsGoal pivots prepared_rule.now.unknowns (map form_of under.now.rows.items)
+    ensures verdict { IfOk result (λ a. DecidesEmpty pivots prepared_rule.now.unknowns (map form_of under.now.rows.items)
+        under.now.empty → DecidesGoal pivots prepared_rule.now.unknowns (map form_of under.now.rows.items)
         (goal_of (map form_of prepared_rule.now.new_values.items) fact) (proof_in a)) }
-    ensures stands { IfOk result (StandsIn prepared_rule.now.unknowns (map form_of under.now.rows.items)
+    ensures stands { IfOk result (RefutesGoal prepared_rule.now.unknowns (map form_of under.now.rows.items)
         (goal_of (map form_of prepared_rule.now.new_values.items) fact)) }
 {
     match &under.empty {
@@ -129,7 +129,7 @@ pub(crate) fn rule_under_facts(
     ensures rows { IfOk result (λ u. map form_of u.rows.items
         ≡ map form_of prepared_rule.now.rows.items ++ map row_of (facts_of_symbol source kept.now)) }
     ensures writable { IfOk result (λ u. All (λ r. IsWritable prepared_rule.now.unknowns (form_of r)) u.rows.items) }
-    ensures empty { IfOk result (λ u. TellsEmpty pivots prepared_rule.now.unknowns (map form_of u.rows.items) u.empty) }
+    ensures empty { IfOk result (λ u. DecidesEmpty pivots prepared_rule.now.unknowns (map form_of u.rows.items) u.empty) }
     ensures point { IfOk result (λ u. u.has_point ≡ true → HasPoint (map form_of u.rows.items)) }
 {
     let rows = combined_rows(alloc, &prepared_rule.rows, source, kept)?;
@@ -156,7 +156,7 @@ pub(crate) fn feasible_rule_under_facts(
         ≡ map form_of prepared_rule.now.rows.items ++ map row_of (facts_of_symbol source kept.now)) }
     ensures writable { IfOk result (λ u. All (λ r. IsWritable prepared_rule.now.unknowns (form_of r)) u.rows.items) }
     ensures empty { IfOk result (λ u. (pivots : ℕ)
-        → TellsEmpty pivots prepared_rule.now.unknowns (map form_of u.rows.items) u.empty) }
+        → DecidesEmpty pivots prepared_rule.now.unknowns (map form_of u.rows.items) u.empty) }
 {
     let rows = combined_rows(alloc, &prepared_rule.rows, source, kept)?;
     Ok(RuleUnderFacts {

@@ -2,7 +2,7 @@
 //! first, and what strengthening changes; and worked values of all this.
 
 ghost use Rattle.location_facts.specs.Laws.{CandidatesAreListed, ProvedFactsHold, FaultsAreDecided};
-ghost use Rattle.location_facts.specs.Laws.{StrengtheningChangesNoRun, KeptFactsAreOne, AnswersTellImplied};
+ghost use Rattle.location_facts.specs.Laws.{StrengtheningChangesNoRun, KeptFactsAreOne, AnswersDecideImplied};
 ghost use Rattle.location_facts.specs.Worked.{FactsAreWorkedOut};
 ghost use Rattle.location_facts.specs.WorkedFaults.{FaultsAreWorkedOut};
 ghost use Rattle.location_facts.specs.WorkedKept.{KeptFactsAreWorkedOut};
@@ -36,8 +36,8 @@ pub fn kept_facts_are_one()
 
 /// A rule implies a fact exactly if the answer to one of its two linear programs is a solution, and not a dual or a hit
 /// limit.
-pub fn answers_tell_implied()
-    ensures { AnswersTellImplied }
+pub fn answers_decide_implied()
+    ensures { AnswersDecideImplied }
 {}
 
 /// Worked values, on both sides, of which facts are candidates, met and held, of their rows, their certificates, and

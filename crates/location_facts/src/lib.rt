@@ -27,9 +27,9 @@ mod tables;
 pub use fact::{FactFault, FactProof, LocFact, LocFacts};
 pub use faults::facts_fault;
 pub use laws::{
-    answers_tell_implied, candidates_are_listed, facts_are_as_worked_out, faults_are_as_worked_out,
-    faults_are_decided, kept_facts_are_as_worked_out, kept_facts_are_one, proved_facts_hold,
-    strengthening_changes_no_run,
+    answers_decide_implied, candidates_are_listed, facts_are_as_worked_out,
+    faults_are_as_worked_out, faults_are_decided, kept_facts_are_as_worked_out, kept_facts_are_one,
+    proved_facts_hold, strengthening_changes_no_run,
 };
 pub use rounds::facts;
 pub use strengthening::{facts_at, greatest_least, strengthen};

@@ -35,7 +35,7 @@ use std::mem;
 ///
 /// # Errors
 ///
-/// `Memory` where an allocation fails, and where the number of a symbol has more than 32 bits.
+/// `Memory` if an allocation fails, or if the number of a symbol has more than 32 bits.
 pub fn facts(
     alloc: Global,
     p: &Program,
@@ -164,7 +164,7 @@ fn push_verdict(
             proofs.push(list)?;
             Ok(())
         }
-        FactVerdict::Against(element) => {
+        FactVerdict::Refuted(element) => {
             elements.push(element)?;
             Ok(())
         }

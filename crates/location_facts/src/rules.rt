@@ -10,9 +10,9 @@ ghost use Rattle.its_model.specs.Valid.{IsValid};
 ghost use Rattle.its_model.specs.Views.{program_of};
 ghost use Rattle.cert_types.specs.Composing.{AreRowsOf};
 ghost use Rattle.rule_questions.specs.EmptyAnswers.{IsPrepared};
-ghost use Rattle.location_facts.specs.Due.{AreDue, AreUnder, IsWanted, HasKnownPoint, TellsRule};
+ghost use Rattle.location_facts.specs.Due.{AreDue, AreUnder, IsWanted, HasKnownPoint, StatesRule};
 ghost use Rattle.location_facts.specs.Implied.{AreInOrder};
-ghost use Rattle.location_facts.specs.Pointed.{HasPoint, TellsPoint, ArePointed};
+ghost use Rattle.location_facts.specs.Pointed.{HasPoint, StatesPoint, ArePointed};
 ghost use Rattle.location_facts.specs.Rows.{row_before as row_of, facts_at as facts_of_symbol};
 
 use crate::fact::LocFact;
@@ -56,7 +56,7 @@ pub(crate) enum Wanted {
 ///
 /// # Errors
 ///
-/// `Memory` where an allocation fails.
+/// `Memory` if an allocation fails.
 pub(crate) fn due_rules(
     alloc: Global,
     p: &Program,
@@ -93,7 +93,7 @@ fn differ(before: &[usize], after: &[usize], symbol: u32) -> bool
 ///
 /// # Errors
 ///
-/// `Memory` where an allocation fails.
+/// `Memory` if an allocation fails.
 pub(crate) fn rules_under(
     alloc: Global,
     search: Search,
@@ -151,7 +151,7 @@ fn mark(points: &mut Vec<bool>, i: usize, has_point: bool)
 
 // Whether a rule that is under a list says that it has a point.
 fn has_point(under: &Option<RuleUnderFacts>) -> bool
-    ensures { result ≡ true → (rows : List Form) → TellsPoint rows under.now → HasPoint rows }
+    ensures { result ≡ true → (rows : List Form) → StatesPoint rows under.now → HasPoint rows }
 {
     match under {
         Some(asked) => asked.has_point,
@@ -174,9 +174,9 @@ fn rule_if_due(
         (map form_of rule.prepared_rule.now.rows.items ++ map row_of (facts_of_symbol rule.source kept.now)) }
     requires point { HasKnownPoint asked
         (map form_of rule.prepared_rule.now.rows.items ++ map row_of (facts_of_symbol rule.source kept.now)) }
-    ensures verdict { IfOk result (TellsRule pivots rule.entry.prepared_rule.now.unknowns
+    ensures verdict { IfOk result (StatesRule pivots rule.entry.prepared_rule.now.unknowns
         (map form_of rule.entry.prepared_rule.now.rows.items ++ map row_of (facts_of_symbol rule.entry.source kept.now)) asked) }
-    ensures point { IfOk result (TellsPoint
+    ensures point { IfOk result (StatesPoint
         (map form_of rule.entry.prepared_rule.now.rows.items ++ map row_of (facts_of_symbol rule.entry.source kept.now))) }
 {
     match asked {

@@ -10,11 +10,11 @@ ghost use Rattle.its_model.specs.Views.{program_of};
 ghost use Rattle.cert_types.specs.Composing.{AreRowsOf};
 ghost use Rattle.rule_questions.specs.EmptyAnswers.{IsPrepared};
 ghost use Rattle.location_facts.specs.declared.fact.LocFact.{LocFact as Fact};
-ghost use Rattle.location_facts.specs.Due.{AreUnder, AnyUnder, HasRows, IsShownEarlier, TellsAgain, StandsOf};
+ghost use Rattle.location_facts.specs.Due.{AreUnder, AnyUnder, HasRows, IsShownEarlier, AnswersAgain, RefutesQueried};
 ghost use Rattle.location_facts.specs.Due.{HasNoElement, proofs_in, elements_in};
 ghost use Rattle.location_facts.specs.Elements.{IsMeasured, AreElements};
 ghost use Rattle.location_facts.specs.Faults.{rules_into as rules_to};
-ghost use Rattle.location_facts.specs.Implied.{TellsGoal, TellsProofs, proof_in};
+ghost use Rattle.location_facts.specs.Implied.{DecidesGoal, DecidesProofs, proof_in};
 ghost use Rattle.location_facts.specs.Rows.{row_after as goal_of};
 ghost use Rattle.location_facts.specs.Tables.{AreRulesInto};
 
@@ -57,7 +57,7 @@ pub(crate) enum FactVerdict {
     /// All do, with a proof for each rule into its symbol.
     Shown(Vec<FactProof>),
     /// One of them doesn't, as this point or ray shows.
-    Against(Element),
+    Refuted(Element),
     /// One of them doesn't.
     Missed,
 }
@@ -67,7 +67,7 @@ pub(crate) enum FactVerdict {
 ///
 /// # Errors
 ///
-/// `Memory` where an allocation fails.
+/// `Memory` if an allocation fails.
 pub(crate) fn proofs_under(
     alloc: Global,
     search: Search,
@@ -85,7 +85,7 @@ pub(crate) fn proofs_under(
         → AreElements (program_of search.entry.program.now) search.entry.pivots kept elements.now
         → IsShownEarlier (program_of search.entry.program.now) search.entry.pivots due kept earlier.fact
         earlier.proofs.items
-        → TellsProofs (program_of search.entry.program.now) search.entry.pivots kept earlier.fact (proofs_in t)) }
+        → DecidesProofs (program_of search.entry.program.now) search.entry.pivots kept earlier.fact (proofs_in t)) }
     ensures measured { IfOk result (λ t. All (IsMeasured (program_of search.entry.program.now)) (elements_in t)) }
     ensures elements { IfOk result (λ t. (due : List Bool) (kept : List Fact)
         → AreUnder (program_of search.entry.program.now) search.entry.pivots due kept unders.now
@@ -127,7 +127,7 @@ fn proofs_by(
         → AreUnder (program_of search.entry.program.now) search.entry.pivots due kept unders.now
         → IsShownEarlier (program_of search.entry.program.now) search.entry.pivots due kept earlier.fact
         earlier.proofs.items
-        → TellsProofs (program_of search.entry.program.now) search.entry.pivots kept earlier.fact (proofs_in t)) }
+        → DecidesProofs (program_of search.entry.program.now) search.entry.pivots kept earlier.fact (proofs_in t)) }
     ensures measured { IfOk result (λ t. All (IsMeasured (program_of search.entry.program.now)) (elements_in t)) }
     ensures elements { IfOk result (λ t. (due : List Bool) (kept : List Fact)
         → AreUnder (program_of search.entry.program.now) search.entry.pivots due kept unders.now
@@ -153,7 +153,7 @@ fn proofs_by(
             Answered::Shown(proof) => {
                 proofs.push(proof)?;
             }
-            Answered::Against(at) => return Ok(FactVerdict::Against(Element { rule, at })),
+            Answered::Refuted(at) => return Ok(FactVerdict::Refuted(Element { rule, at })),
             Answered::Missed => return Ok(FactVerdict::Missed),
         }
     }
@@ -182,21 +182,21 @@ fn proof_by(
     requires prepared { IsPrepared asked.prepared_rule.now }
     requires rows { HasRows asked.prepared_rule.now.unknowns asked.under.now }
     ensures verdict { IfOk result (λ a. (rows : List Form)
-        → TellsAgain pivots asked.entry.prepared_rule.now.unknowns rows
+        → AnswersAgain pivots asked.entry.prepared_rule.now.unknowns rows
         (goal_of (map form_of asked.entry.prepared_rule.now.new_values.items) fact) asked.entry.under.now earlier
-        → TellsGoal pivots asked.entry.prepared_rule.now.unknowns rows
+        → DecidesGoal pivots asked.entry.prepared_rule.now.unknowns rows
         (goal_of (map form_of asked.entry.prepared_rule.now.new_values.items) fact) (proof_in a)) }
-    ensures stands { IfOk result (StandsOf asked.entry.prepared_rule.now.unknowns
+    ensures stands { IfOk result (RefutesQueried asked.entry.prepared_rule.now.unknowns
         (goal_of (map form_of asked.entry.prepared_rule.now.new_values.items) fact) asked.entry.under.now) }
 {
     match asked.under {
         Some(under) => answer_under(alloc, asked.prepared_rule, under, fact, pivots),
-        None => Ok(standing_answer(earlier)),
+        None => Ok(refuting_answer(earlier)),
     }
 }
 
 // An earlier proof, where there is one, as an answer.
-fn standing_answer(earlier: Option<FactProof>) -> Answered
+fn refuting_answer(earlier: Option<FactProof>) -> Answered
     ensures same { proof_in result ≡ earlier }
     ensures none { HasNoElement result }
 {

@@ -28,7 +28,7 @@ use std::alloc::Global;
 ///
 /// # Errors
 ///
-/// `Memory` where an allocation fails.
+/// `Memory` if an allocation fails.
 pub fn strengthen(alloc: Global, p: &Program, f: &LocFacts) -> Result<Program, Memory>
     requires valid { IsValid (program_of p.now) }
     requires held { AreHeld (program_of p.now) f.now.kept.items }
@@ -107,7 +107,7 @@ fn room_for(rule: &Rule) -> usize
 ///
 /// # Errors
 ///
-/// `Memory` where an allocation fails.
+/// `Memory` if an allocation fails.
 pub fn facts_at(alloc: Global, symbol: u32, kept: &[LocFact]) -> Result<Vec<LocFact>, Memory>
     ensures { IfOk result (λ facts. facts.items ≡ facts_of_symbol symbol kept.now) }
 {

@@ -16,7 +16,7 @@ use std::alloc::Global;
 ///
 /// # Errors
 ///
-/// `Memory` where an allocation fails, and where the number of a symbol has more than 32 bits.
+/// `Memory` if an allocation fails, or if the number of a symbol has more than 32 bits.
 pub(crate) fn rules_by_symbol(alloc: Global, p: &Program) -> Result<Vec<Vec<u32>>, Memory>
     requires { length p.now.rules.items < 2 ^ 32 - 1 }
     ensures { IfOk result (λ table. AreRulesInto (program_of p.now) table.items) }
@@ -33,7 +33,7 @@ pub(crate) fn rules_by_symbol(alloc: Global, p: &Program) -> Result<Vec<Vec<u32>
 ///
 /// # Errors
 ///
-/// `Memory` where an allocation fails.
+/// `Memory` if an allocation fails.
 pub(crate) fn counts_by_symbol(
     alloc: Global,
     symbols: usize,

@@ -1,7 +1,7 @@
--- what the contracts of this crate, and of those above it, cite
+-- The specs that contracts of this crate and of other crates cite.
 pub mod Texts
 pub mod Answers
 pub mod Worked
--- the crates below, which callers name through this one
+-- The crates below, which callers name through this one.
 pub use Rattle.lp_text.specs as lp_text
 pub use Rattle.bland_end.specs as bland_end

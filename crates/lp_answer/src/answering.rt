@@ -17,7 +17,7 @@ use std::alloc::{AllocError, Global};
 ///
 /// # Errors
 ///
-/// `AllocError` where an allocation fails.
+/// `AllocError` if an allocation fails.
 pub fn answer_lp(alloc: Global, written: &WrittenLp) -> Result<LpAnswer, AllocError>
     requires { IsWithin (lp_of written.now) }
     ensures { IfOk result (IsAnswerTo (program_in (lp_of written.now))) }

@@ -14,7 +14,7 @@ use std::alloc::{AllocError, Global};
 ///
 /// # Errors
 ///
-/// `AllocError` where an allocation fails.
+/// `AllocError` if an allocation fails.
 pub(crate) fn end_text(alloc: Global, solved: &Solved) -> Result<Vec<u8>, AllocError>
     ensures { IfOk result (λ text. text.items ≡ text_of_end solved.now) }
 {
@@ -92,7 +92,7 @@ fn push_fraction(text: &mut Vec<u8>, value: &Frac) -> Result<(), AllocError>
 ///
 /// # Errors
 ///
-/// `AllocError` where an allocation fails.
+/// `AllocError` if an allocation fails.
 pub(crate) fn range_text(alloc: Global, pivot: u32) -> Result<Vec<u8>, AllocError>
     ensures { IfOk result (λ text. stop_text (Range pivot) ≡ Some text.items) }
 {

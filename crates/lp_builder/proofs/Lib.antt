@@ -6,5 +6,5 @@ pub mod Pieces
 pub mod CostLists
 pub mod Groups
 pub mod Built
--- the lemmas of the crates below, which callers name through this one
+-- The lemmas of the crates below, which callers name through this one.
 pub use Rattle.simplex_core.proofs as simplex_core

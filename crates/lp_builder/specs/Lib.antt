@@ -1,8 +1,8 @@
--- what the contracts of this crate, and of those above it, cite
+-- The specs that contracts of this crate and of other crates cite.
 pub mod Entries
 pub mod Descriptions
 pub mod Builders
 pub mod Problems
--- the crates below, which callers name through this one
+-- The crates below, which callers name through this one.
 pub use Rattle.simplex_core.specs as simplex_core
 pub use Rattle.poly_terms.specs as poly_terms

@@ -84,7 +84,7 @@ impl Builder {
     ///
     /// # Errors
     ///
-    /// `Memory` where an allocation fails.
+    /// `Memory` if an allocation fails.
     pub fn finish(self, alloc: Global, costs: &[Cost]) -> Result<Problem, Memory>
         requires ready { AtRowStart self }
         requires costs { length costs.now ≡ parameter_count self }

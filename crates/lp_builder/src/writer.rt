@@ -35,7 +35,7 @@ impl EntryWriter {
     ///
     /// # Errors
     ///
-    /// `Memory` where an allocation fails.
+    /// `Memory` if an allocation fails.
     pub fn put(&mut self, value: i128) -> Result<(), Memory>
         requires { self.old.col + 1 < 2 ^ 32 }
         ensures { IfOk result (λ _. Writes self.old self.new (value ∷ [])) }

@@ -1,1 +1,1 @@
--- That what was read can be solved.
+-- A linear program that was read can be solved.

@@ -42,7 +42,7 @@ fn with_line_feeds(alloc: Global, line: &str) -> Result<Vec<u8>, AllocError> {
     Ok(bytes)
 }
 
-// A text behind a status, with `|` for each line feed.
+// A text after a status, with `|` for each line feed.
 fn shown(alloc: Global, status: &str, text: &[u8]) -> Result<String, AllocError> {
     let mut line = String::from_str(alloc, status)?;
     for byte in text {

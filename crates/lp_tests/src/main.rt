@@ -1,6 +1,6 @@
-//! Answers each line of the standard input by one line: what is answered to the file of a linear program in it, with the
+//! Answers each line of the standard input by one line: the answer on the file of a linear program in it, with the
 //! status before it. In the file and in the answer `|` is written for a line feed. A line that begins with `#` is
-//! written as it is.
+//! written unchanged.
 #![tactic(auto)]
 
 mod answers;

@@ -12,7 +12,7 @@ use Rattle.lp_text.specs.Texts.{lps}
 use Rattle.lp_text.specs.Spelled.{IsTextWithin}
 use Rattle.lp_text.specs.Decided.{IsFirstFault, TextsAreDecided}
 use Rattle.lp_text.proofs.LpParts.{lps_lawful}
-use Rattle.lp_text.proofs.LpTexts.{written_stands}
+use Rattle.lp_text.proofs.LpTexts.{written_parsed}
 
 -- linear programs that one answer says are the same
 stands-unique : (p q : Lp) → ◌≡◌ {A = Answer Lp LpKind} (Stands p) (Stands q) → p ≡ q
@@ -22,13 +22,13 @@ stands-unique p q e = cc
 no_fault : (bytes : List ℕ) (p : Lp) (x : Fault LpKind) → IsTextWithin bytes p → ¬ IsFirstFault bytes x
 no_fault bytes p x h first =
     let right : Answers (reader lps) (length bytes) (tokens bytes) (Stands p) =
-    subst (λ (a : Answer Lp LpKind). Answers (reader lps) (length bytes) (tokens bytes) a) (written_stands bytes p h)
+    subst (λ (a : Answer Lp LpKind). Answers (reader lps) (length bytes) (tokens bytes) a) (written_parsed bytes p h)
     (answer_is (reader lps) (reader_laws lps lps_lawful) (length bytes) (tokens bytes)) in
     right.faultless x first.is
 
 pub texts_decided : TextsAreDecided
 texts_decided = record {
-  one = λ bytes p q h k. stands-unique p q (sym (written_stands bytes p h) ∙ written_stands bytes q k);
+  one = λ bytes p q h k. stands-unique p q (sym (written_parsed bytes p h) ∙ written_parsed bytes q k);
   one_fault = λ bytes x y h k.
       (one_first_each (reader lps) (reader_laws lps lps_lawful)).each (length bytes) (tokens bytes) x y h k;
   apart = no_fault;

@@ -22,8 +22,8 @@ use Rattle.lp_text.specs.declared.section.Section.{Section}
 use Rattle.lp_text.specs.declared.section.Section.TheVariants.{Head, First, Second, Rows, Right}
 use Rattle.lp_text.specs.declared.grammar.TheConstants.{LETTERS}
 use Rattle.lp_text.specs.Lps.{Row, Lp, number_limit}
-use Rattle.lp_text.specs.Texts.{State, number_of, is_too_large, is_beyond, against_columns, against_entry, columns_of}
-use Rattle.lp_text.specs.Texts.{against_signed_in, lp_bytes, lps}
+use Rattle.lp_text.specs.Texts.{State, number_of, is_too_large, is_beyond, fault_of_columns, fault_of_entry, columns_of}
+use Rattle.lp_text.specs.Texts.{fault_of_signed_in, lp_bytes, lps}
 use Rattle.lp_text.specs.Spelled.{costs_text, numbers_text, rows_text, text_of, AreCosts, AreNumbers, AreRowsOf, IsWithin}
 
 -- the values of the nonterminals: a linear program, costs, rows, and what is left of a row, with the blank before it and
@@ -66,7 +66,7 @@ lp_parts (suc (suc (suc zero))) r = Says 32 ∷ item_parts r.numbers r.right
 lp_parts (suc (suc (suc (suc zero)))) r = item_parts r.numbers r.right
 lp_parts (suc (suc (suc (suc (suc n))))) b = absurd b
 
--- kinds with one number are one
+-- Kinds with the same number are the same.
 differ : (a b : LpKind) → number_of a ≡ number_of b → a ≡ b
 differ Syntax Syntax h = refl
 differ NumberTooLarge NumberTooLarge h = refl
@@ -87,7 +87,7 @@ abs-with_sign true zero = refl
 abs-with_sign true (suc n) = refl
 
 -- a number of columns has no fault exactly if it is neither too large nor beyond the limit
-pub columns_taken : (z : ℤ) → against_columns z ≡ None → (is_too_large z ≡ false) × (is_beyond z ≡ false)
+pub columns_taken : (z : ℤ) → fault_of_columns z ≡ None → (is_too_large z ≡ false) × (is_beyond z ≡ false)
 columns_taken z h = go (is_too_large z) refl h
   where
     go : (v : Bool) → is_too_large z ≡ v → (if v then Some NumberTooLarge else when (is_beyond z) Limit) ≡ None
@@ -95,12 +95,12 @@ columns_taken z h = go (is_too_large z) refl h
     go true e h = absurd (some_none NumberTooLarge h)
     go false e h = (e, none_when (is_beyond z) Limit h)
 
-pub taken_columns : (z : ℤ) → is_too_large z ≡ false → is_beyond z ≡ false → against_columns z ≡ None
+pub taken_columns : (z : ℤ) → is_too_large z ≡ false → is_beyond z ≡ false → fault_of_columns z ≡ None
 taken_columns z h k =
     ap (λ (v : Bool). if v then Some NumberTooLarge else when (is_beyond z) Limit) h ∙ when_none (is_beyond z) Limit k
 
 -- a number of a row has no fault exactly if it is neither one too many nor too large
-pub entry_taken : (columns count : ℕ) (z : ℤ) → against_entry columns count z ≡ None
+pub entry_taken : (columns count : ℕ) (z : ℤ) → fault_of_entry columns count z ≡ None
     → (nat_le columns count ≡ false) × (is_too_large z ≡ false)
 entry_taken columns count z h = go (nat_le columns count) refl h
   where
@@ -110,13 +110,13 @@ entry_taken columns count z h = go (nat_le columns count) refl h
     go false e h = (e, none_when (is_too_large z) NumberTooLarge h)
 
 pub taken_entry : (columns count : ℕ) (z : ℤ) → nat_le columns count ≡ false → is_too_large z ≡ false
-    → against_entry columns count z ≡ None
+    → fault_of_entry columns count z ≡ None
 taken_entry columns count z h k =
     ap (λ (v : Bool). if v then Some Syntax else when (is_too_large z) NumberTooLarge) h
     ∙ when_none (is_too_large z) NumberTooLarge k
 
 -- a signed number without a fault is within the limit
-signed_small : (section : Section) (s : State) (z : ℤ) → against_signed_in section s z ≡ None → is_too_large z ≡ false
+signed_small : (section : Section) (s : State) (z : ℤ) → fault_of_signed_in section s z ≡ None → is_too_large z ≡ false
 signed_small Head s z h = (columns_taken z h).0
 signed_small First s z h = none_when (is_too_large z) NumberTooLarge h
 signed_small Second s z h = none_when (is_too_large z) NumberTooLarge h
@@ -151,7 +151,7 @@ not_beyond z h = go z (parts (int_lt z (pos 1)) (int_lt (pos 64) z) h)
 
 -- with a number the lesser ones of its sign from 1 on are taken
 signed_below : (section : Section) (s : State) (negative : Bool) (m n : ℕ) → 1 ≤ m → m ≤ n
-    → against_signed_in section s (with_sign negative n) ≡ None → against_signed_in section s (with_sign negative m) ≡ None
+    → fault_of_signed_in section s (with_sign negative n) ≡ None → fault_of_signed_in section s (with_sign negative m) ≡ None
 signed_below section s negative m n some l h = go section h
   where
     smaller : is_too_large (with_sign negative n) ≡ false → is_too_large (with_sign negative m) ≡ false
@@ -170,7 +170,7 @@ signed_below section s negative m n some l h = go section h
         below zero l k e = omega (arith, l)
         below (suc n) l k e = omega (arith, ints, e)
 
-    go : (section : Section) → against_signed_in section s (with_sign negative n) ≡ None → against_signed_in section s (with_sign negative m) ≡ None
+    go : (section : Section) → fault_of_signed_in section s (with_sign negative n) ≡ None → fault_of_signed_in section s (with_sign negative m) ≡ None
     go Head h = let w = columns_taken (with_sign negative n) h in
         taken_columns (with_sign negative m) (smaller w.0) (within negative w.1)
     go Rows h = let w = entry_taken (columns_of s) (length s.numbers) (with_sign negative n) h in
@@ -199,7 +199,7 @@ bounded = record {
   below_signed = λ s negative m n some l e. signed_below s.section s negative m n some l e;
 }
 
--- the grammar can be read, and has the rules of numbers
+-- The grammar can be read, and has the rules of numbers.
 pub readable : is_readable (grammar_of lp_bytes) ≡ true
 readable = refl
 

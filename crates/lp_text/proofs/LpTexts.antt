@@ -14,7 +14,7 @@ use Rattle.text_grammar.proofs.ByteDerivations.{word_stands, stand_word, answere
 use Rattle.lp_text.specs.declared.kind.LpKind.TheVariants.{Syntax, NumberTooLarge, Limit}
 use Rattle.lp_text.specs.declared.section.Section.TheVariants.{Head, First, Second, Rows, Right}
 use Rattle.lp_text.specs.Lps.{Row, Lp, number_limit, size_limit}
-use Rattle.lp_text.specs.Texts.{State, is_too_large, is_beyond, against_costs, lp_bytes, lps}
+use Rattle.lp_text.specs.Texts.{State, is_too_large, is_beyond, fault_of_costs, lp_bytes, lps}
 use Rattle.lp_text.specs.Spelled.{text_of, AreCosts, AreNumbers, IsRowOf, AreRowsOf, IsWithin, IsTextWithin}
 use Rattle.lp_text.proofs.LpParts.{LpValue, costs_parts, item_parts, rows_parts, behind_second, behind_first, lp_parts}
 use Rattle.lp_text.proofs.LpParts.{not_large, large_not, columns_taken, taken_columns, entry_taken, taken_entry, not_beyond}
@@ -26,8 +26,8 @@ abbrev at : State → Spelling State
 at s = record { own = s; numeral = fresh; within = Words; values = [] }
 
 -- from this state the parts have no fault; and the state that they lead to
-abbrev StandsFrom : State → List (Part ℕ Numbered) → Type 0
-StandsFrom s xs = Stand (fold_of lp_bytes) (numbers_of lp_bytes) (at s) xs
+abbrev HaveNoFaultFrom : State → List (Part ℕ Numbered) → Type 0
+HaveNoFaultFrom s xs = Stand (fold_of lp_bytes) (numbers_of lp_bytes) (at s) xs
 
 abbrev comes : State → List (Part ℕ Numbered) → Spelling State
 comes s xs = come (fold_of lp_bytes) (numbers_of lp_bytes) (at s) xs
@@ -48,38 +48,38 @@ lacking_not n k h = grind (arith, nat_tests)
 
 -- a line of costs, where a state remembers those so far
 module _ (n : ℕ) (f : List ℕ → State) (more : (cs : List ℕ) (c : ℕ) → lp_bytes.natural c (f cs) ≡ f (cs ++ c ∷ []))
-    (byte : (cs : List ℕ) (b : ℕ) → lp_bytes.against_byte (f cs) b ≡ against_costs n (length cs) b) where
+    (byte : (cs : List ℕ) (b : ℕ) → lp_bytes.against_byte (f cs) b ≡ fault_of_costs n (length cs) b) where
   costs_stand : (ds cs : List ℕ) (xs : List (Part ℕ Numbered)) → length cs + length ds ≡ n → AreCosts ds
-      → StandsFrom (f (cs ++ ds)) xs → StandsFrom (f cs) (costs_parts ds ++ xs)
+      → HaveNoFaultFrom (f (cs ++ ds)) xs → HaveNoFaultFrom (f cs) (costs_parts ds ++ xs)
   costs_stand [] cs xs e h rest = (
     byte cs 10 ∙ when_none (nat_lt (length cs) n) Syntax (not_lacking n (length cs) (omega (arith, e))),
-    subst (λ (es : List ℕ). StandsFrom (f es) xs) (append-nil cs) rest,
+    subst (λ (es : List ℕ). HaveNoFaultFrom (f es) xs) (append-nil cs) rest,
   )
   costs_stand (d ∷ ds) cs xs e h rest =
       let count = length-append cs (d ∷ []) in (
         byte cs 32 ∙ when_none (nat_le n (length cs)) Syntax (less_room n (length cs) (omega (arith, e))),
         (
           when_none (nat_lt number_limit d) NumberTooLarge (small_cost d h.0),
-          subst (λ (s : State). StandsFrom s (costs_parts ds ++ xs)) (sym (more cs d))
+          subst (λ (s : State). HaveNoFaultFrom s (costs_parts ds ++ xs)) (sym (more cs d))
               (costs_stand ds (cs ++ d ∷ []) xs (omega (arith, count, e)) h.1
-              (subst (λ (es : List ℕ). StandsFrom (f es) xs) (sym (append_assoc cs (d ∷ []) ds)) rest)),
+              (subst (λ (es : List ℕ). HaveNoFaultFrom (f es) xs) (sym (append_assoc cs (d ∷ []) ds)) rest)),
         ),
       )
 
-  stand_costs : (ds cs : List ℕ) (xs : List (Part ℕ Numbered)) → length cs ≤ n → StandsFrom (f cs) (costs_parts ds ++ xs)
-      → (length cs + length ds ≡ n) × AreCosts ds × StandsFrom (f (cs ++ ds)) xs
+  stand_costs : (ds cs : List ℕ) (xs : List (Part ℕ Numbered)) → length cs ≤ n → HaveNoFaultFrom (f cs) (costs_parts ds ++ xs)
+      → (length cs + length ds ≡ n) × AreCosts ds × HaveNoFaultFrom (f (cs ++ ds)) xs
   stand_costs [] cs xs l h =
       let m = lacking_not n (length cs) (none_when (nat_lt (length cs) n) Syntax (sym (byte cs 10) ∙ h.0)) in
-      (omega (arith, l, m), tt, subst (λ (es : List ℕ). StandsFrom (f es) xs) (sym (append-nil cs)) h.1)
+      (omega (arith, l, m), tt, subst (λ (es : List ℕ). HaveNoFaultFrom (f es) xs) (sym (append-nil cs)) h.1)
   stand_costs (d ∷ ds) cs xs l h =
       let one = room_less n (length cs) (none_when (nat_le n (length cs)) Syntax (sym (byte cs 32) ∙ h.0)) in
       let count = length-append cs (d ∷ []) in
       let w = stand_costs ds (cs ++ d ∷ []) xs (omega (arith, count, one))
-      (subst (λ (s : State). StandsFrom s (costs_parts ds ++ xs)) (more cs d) h.1.1) in
+      (subst (λ (s : State). HaveNoFaultFrom s (costs_parts ds ++ xs)) (more cs d) h.1.1) in
       let total = w.0 in (
         omega (arith, count, total),
         (cost_small d (none_when (nat_lt number_limit d) NumberTooLarge h.1.0), w.1),
-        subst (λ (es : List ℕ). StandsFrom (f es) xs) (append_assoc cs (d ∷ []) ds) w.2,
+        subst (λ (es : List ℕ). HaveNoFaultFrom (f es) xs) (append_assoc cs (d ∷ []) ds) w.2,
       )
 
   costs_come : (ds cs : List ℕ) (xs : List (Part ℕ Numbered)) → comes (f cs) (costs_parts ds ++ xs) ≡ comes (f (cs ++ ds)) xs
@@ -116,15 +116,15 @@ module _ (z : ℤ) (first second : List ℕ) where
   minus_entry rs zs (negsuc k) l = when_none (nat_le n (length zs)) Syntax (less_room n (length zs) l)
 
   item_stand : (ys zs : List ℤ) (right : ℤ) (rs : List Row) (xs : List (Part ℕ Numbered)) → length zs + length ys ≡ n
-      → AreNumbers ys → unsigned_abs right ≤ number_limit → StandsFrom (g (rs ++ row_with (zs ++ ys) right ∷ []) []) xs
-      → StandsFrom (g rs zs) (item_parts ys right ++ xs)
+      → AreNumbers ys → unsigned_abs right ≤ number_limit → HaveNoFaultFrom (g (rs ++ row_with (zs ++ ys) right ∷ []) []) xs
+      → HaveNoFaultFrom (g rs zs) (item_parts ys right ++ xs)
   item_stand [] zs right rs xs e h l rest = (
     when_none (nat_lt (length zs) n) Syntax (not_lacking n (length zs) (omega (arith, e))),
     (
       refl,
       (
         (minus_right rs zs right, when_none (is_too_large right) NumberTooLarge (large_not right l)),
-        (refl, subst (λ (us : List ℤ). StandsFrom (g (rs ++ row_with us right ∷ []) []) xs) (append-nil zs) rest),
+        (refl, subst (λ (us : List ℤ). HaveNoFaultFrom (g (rs ++ row_with us right ∷ []) []) xs) (append-nil zs) rest),
       ),
     ),
   )
@@ -135,20 +135,20 @@ module _ (z : ℤ) (first second : List ℕ) where
         (
           refl,
           item_stand ys (zs ++ y ∷ []) right rs xs (omega (arith, count, e)) h.1 l
-              (subst (λ (us : List ℤ). StandsFrom (g (rs ++ row_with us right ∷ []) []) xs) (sym (append_assoc zs (y ∷ []) ys)) rest),
+              (subst (λ (us : List ℤ). HaveNoFaultFrom (g (rs ++ row_with us right ∷ []) []) xs) (sym (append_assoc zs (y ∷ []) ys)) rest),
         ),
       )
 
   stand_item : (ys zs : List ℤ) (right : ℤ) (rs : List Row) (xs : List (Part ℕ Numbered)) → length zs ≤ n
-      → StandsFrom (g rs zs) (item_parts ys right ++ xs)
+      → HaveNoFaultFrom (g rs zs) (item_parts ys right ++ xs)
       → (length zs + length ys ≡ n) × AreNumbers ys × (unsigned_abs right ≤ number_limit)
-      × StandsFrom (g (rs ++ row_with (zs ++ ys) right ∷ []) []) xs
+      × HaveNoFaultFrom (g (rs ++ row_with (zs ++ ys) right ∷ []) []) xs
   stand_item [] zs right rs xs l h =
       let m = lacking_not n (length zs) (none_when (nat_lt (length zs) n) Syntax h.0) in (
         omega (arith, l, m),
         tt,
         not_large right (none_when (is_too_large right) NumberTooLarge h.1.1.0.1),
-        subst (λ (us : List ℤ). StandsFrom (g (rs ++ row_with us right ∷ []) []) xs) (sym (append-nil zs)) h.1.1.1.1,
+        subst (λ (us : List ℤ). HaveNoFaultFrom (g (rs ++ row_with us right ∷ []) []) xs) (sym (append-nil zs)) h.1.1.1.1,
       )
   stand_item (y ∷ ys) zs right rs xs l h =
       let entry = entry_taken n (length zs) y h.0.1 in
@@ -159,7 +159,7 @@ module _ (z : ℤ) (first second : List ℕ) where
         omega (arith, count, total),
         (not_large y entry.1, w.1),
         w.2,
-        subst (λ (us : List ℤ). StandsFrom (g (rs ++ row_with us right ∷ []) []) xs) (append_assoc zs (y ∷ []) ys) w.3,
+        subst (λ (us : List ℤ). HaveNoFaultFrom (g (rs ++ row_with us right ∷ []) []) xs) (append_assoc zs (y ∷ []) ys) w.3,
       )
 
   item_comes : (ys zs : List ℤ) (right : ℤ) (rs : List Row) (xs : List (Part ℕ Numbered))
@@ -169,7 +169,7 @@ module _ (z : ℤ) (first second : List ℕ) where
       item_comes ys (zs ++ y ∷ []) right rs xs
       ∙ ap (λ (us : List ℤ). comes (g (rs ++ row_with us right ∷ []) []) xs) (append_assoc zs (y ∷ []) ys)
 
-  rows_stand : (qs rs : List Row) → AreRowsOf n qs → length rs + length qs ≤ size_limit → StandsFrom (g rs []) (rows_parts qs)
+  rows_stand : (qs rs : List Row) → AreRowsOf n qs → length rs + length qs ≤ size_limit → HaveNoFaultFrom (g rs []) (rows_parts qs)
   rows_stand [] rs h l = (refl, (refl, (refl, (refl, tt))))
   rows_stand (r ∷ qs) rs h l =
       let count = length-append rs (r ∷ []) in
@@ -188,7 +188,7 @@ module _ (z : ℤ) (first second : List ℕ) where
         ),
       )
 
-  stand_rows : (qs rs : List Row) → length rs ≤ size_limit → StandsFrom (g rs []) (rows_parts qs)
+  stand_rows : (qs rs : List Row) → length rs ≤ size_limit → HaveNoFaultFrom (g rs []) (rows_parts qs)
       → AreRowsOf n qs × (length rs + length qs ≤ size_limit)
   stand_rows [] rs l h = (tt, omega (arith, l))
   stand_rows (r ∷ qs) rs l h =
@@ -234,7 +234,7 @@ minus_head (pos k) = tt
 minus_head (negsuc k) = refl
 
 -- the text of a linear program has no fault exactly if the program is within the limits
-lp_stands : (p : Lp) → IsWithin p → StandsFrom empty (lp_parts 0 p)
+lp_stands : (p : Lp) → IsWithin p → HaveNoFaultFrom empty (lp_parts 0 p)
 lp_stands p h =
     let columns : unsigned_abs p.columns ≡ h.columns = ap unsigned_abs h.counted in
     let few = h.few in
@@ -255,7 +255,7 @@ lp_stands p h =
     word_stands lp_bytes (at empty) head (behind_head p) refl
     ((minus_head p.columns, number), (refl, (refl, (refl, (refl, (refl, (refl, first)))))))
 
-stand_lp : (p : Lp) → StandsFrom empty (lp_parts 0 p) → IsWithin p
+stand_lp : (p : Lp) → HaveNoFaultFrom empty (lp_parts 0 p) → IsWithin p
 stand_lp p h =
     let line = stand_word lp_bytes (at empty) head (behind_head p) h in
     let taken_number = columns_taken p.columns line.0.1 in
@@ -290,17 +290,17 @@ lp_comes p =
     ∙ rows_come p.columns p.first p.second p.rows []
 
 -- where a linear program is answered, the bytes are its text, within the limits
-pub stands_written : (bytes : List ℕ) (p : Lp) → answer (reader lps) (length bytes) (tokens bytes) ≡ Stands p
+pub parsed_written : (bytes : List ℕ) (p : Lp) → answer (reader lps) (length bytes) (tokens bytes) ≡ Stands p
     → IsTextWithin bytes p
-stands_written bytes p e =
+parsed_written bytes p e =
     let w = answered lp_bytes bounded numbers readable LpValue lp_parts lps_made lps_lawful bytes p e in
     let same : w.0 ≡ p = sym (lp_comes w.0) ∙ w.3 in
     record { text = ap text_of (sym same) ∙ (sym (lp_spells w.0) ∙ w.1); within = subst IsWithin same (stand_lp w.0 w.2) }
 
 -- bytes that are the text of a linear program within the limits have no fault
-pub written_stands : (bytes : List ℕ) (p : Lp) → IsTextWithin bytes p
+pub written_parsed : (bytes : List ℕ) (p : Lp) → IsTextWithin bytes p
     → answer (reader lps) (length bytes) (tokens bytes) ≡ Stands p
-written_stands bytes p h =
+written_parsed bytes p h =
     taken lp_bytes bounded numbers readable LpValue lp_parts lps_lawful p (lp_derived p h.within) (lp_stands p h.within) bytes
     (lp_spells p ∙ h.text)
     ∙ ap (λ (q : Lp). Stands q) (lp_comes p)

@@ -18,7 +18,7 @@ pub record State : Type 0 where
   pub section : Section
   pub numbers : List ℤ
 
--- the number of a kind
+-- The number of a kind of refusal.
 abbrev pub number_of : LpKind → ℕ
 number_of Syntax = 1
 number_of NumberTooLarge = 2
@@ -37,45 +37,45 @@ abbrev pub is_beyond : ℤ → Bool
 is_beyond z = int_lt z (pos 1) || int_lt (pos size_limit) z
 
 -- the fault of a number of columns: it is too large, or beyond the limit
-abbrev pub against_columns : ℤ → Option LpKind
-against_columns z = if is_too_large z then Some NumberTooLarge else when (is_beyond z) Limit
+abbrev pub fault_of_columns : ℤ → Option LpKind
+fault_of_columns z = if is_too_large z then Some NumberTooLarge else when (is_beyond z) Limit
 
 -- the fault of a number of a row, after so many: it is one too many, or too large
-abbrev pub against_entry : ℕ → ℕ → ℤ → Option LpKind
-against_entry columns count z = if nat_le columns count then Some Syntax else when (is_too_large z) NumberTooLarge
+abbrev pub fault_of_entry : ℕ → ℕ → ℤ → Option LpKind
+fault_of_entry columns count z = if nat_le columns count then Some Syntax else when (is_too_large z) NumberTooLarge
 
 -- the fault of a signed number
-abbrev pub against_signed_in : Section → State → ℤ → Option LpKind
-against_signed_in Head s z = against_columns z
-against_signed_in Rows s z = against_entry (columns_of s) (length s.numbers) z
-against_signed_in First s z = when (is_too_large z) NumberTooLarge
-against_signed_in Second s z = when (is_too_large z) NumberTooLarge
-against_signed_in Right s z = when (is_too_large z) NumberTooLarge
+abbrev pub fault_of_signed_in : Section → State → ℤ → Option LpKind
+fault_of_signed_in Head s z = fault_of_columns z
+fault_of_signed_in Rows s z = fault_of_entry (columns_of s) (length s.numbers) z
+fault_of_signed_in First s z = when (is_too_large z) NumberTooLarge
+fault_of_signed_in Second s z = when (is_too_large z) NumberTooLarge
+fault_of_signed_in Right s z = when (is_too_large z) NumberTooLarge
 
 -- the fault of a byte of a line of costs, of which so many have been read: of a blank, that there is one for
 -- each column, and of a line feed, that there isn't
-abbrev pub against_costs : ℕ → ℕ → ℕ → Option LpKind
-against_costs columns count b =
+abbrev pub fault_of_costs : ℕ → ℕ → ℕ → Option LpKind
+fault_of_costs columns count b =
     if b == 32 then when (nat_le columns count) Syntax
     else if b == 10 then when (nat_lt count columns) Syntax
     else None
 
 -- the fault of a byte after so many rows and so many numbers of a row: of an `r`, that a row too many begins with
 -- it; of `=`, that numbers are lacking; and of a `-`, that none is
-abbrev pub against_row : ℕ → ℕ → ℕ → ℕ → Option LpKind
-against_row columns rows count b =
+abbrev pub fault_of_row : ℕ → ℕ → ℕ → ℕ → Option LpKind
+fault_of_row columns rows count b =
     if b == 114 then when (nat_le size_limit rows) Limit
     else if b == 61 then when (nat_lt count columns) Syntax
     else if b == 45 then when (nat_le columns count) Syntax
     else None
 
 -- the fault of a byte
-abbrev pub against_byte_in : Section → State → ℕ → Option LpKind
-against_byte_in Head s b = None
-against_byte_in First s b = against_costs (columns_of s) (length s.lp.first) b
-against_byte_in Second s b = against_costs (columns_of s) (length s.lp.second) b
-against_byte_in Rows s b = against_row (columns_of s) (length s.lp.rows) (length s.numbers) b
-against_byte_in Right s b = None
+abbrev pub fault_of_byte_in : Section → State → ℕ → Option LpKind
+fault_of_byte_in Head s b = None
+fault_of_byte_in First s b = fault_of_costs (columns_of s) (length s.lp.first) b
+fault_of_byte_in Second s b = fault_of_costs (columns_of s) (length s.lp.second) b
+fault_of_byte_in Rows s b = fault_of_row (columns_of s) (length s.lp.rows) (length s.numbers) b
+fault_of_byte_in Right s b = None
 
 -- a natural number is a cost
 abbrev pub with_natural : Section → ℕ → State → State
@@ -118,9 +118,9 @@ lp_bytes = record {
   line = λ vs s. s;
   done = with_mark;
   against_natural = λ s n. when (nat_lt number_limit n) NumberTooLarge;
-  against_signed = λ s z. against_signed_in s.section s z;
+  against_signed = λ s z. fault_of_signed_in s.section s z;
   against_line = λ s n. None;
-  against_byte = λ s b. against_byte_in s.section s b;
+  against_byte = λ s b. fault_of_byte_in s.section s b;
   tree = λ s. s.lp;
   number = number_of;
   syntax = Syntax;

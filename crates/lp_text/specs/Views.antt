@@ -29,7 +29,7 @@ lp_of p = record {
   rows = map row_of p.rows.items;
 }
 
--- what is remembered, as plain data
+-- The parser state as plain data.
 abbrev pub own_of : code.State → State
 own_of s = record { lp = lp_of s.lp; section = s.section; numbers = s.numbers.items }
 

@@ -9,7 +9,7 @@ use Rattle.lp_text.specs.declared.kind.LpKind.{LpKind}
 use Rattle.lp_text.specs.declared.kind.LpKind.TheVariants.{Syntax, NumberTooLarge, Limit}
 use Rattle.lp_text.specs.declared.section.Section.TheVariants.{Rows}
 use Rattle.lp_text.specs.Lps.{Row, Lp}
-use Rattle.lp_text.specs.Texts.{State, number_of, lp_bytes, lps, against_columns, against_row}
+use Rattle.lp_text.specs.Texts.{State, number_of, lp_bytes, lps, fault_of_columns, fault_of_row}
 use Rattle.lp_text.specs.Spelled.{text_of, AreCosts, AreNumbers, IsRowOf, IsWithin}
 use Rattle.lp_text.specs.Problems.{lines_of, program_in}
 
@@ -17,7 +17,7 @@ use Rattle.lp_text.specs.Problems.{lines_of, program_in}
 abbrev pub answer_to : List ℕ → Answer Lp LpKind
 answer_to bytes = answer (reader lps) (length bytes) (tokens bytes)
 
--- the refusal of a kind at a position
+-- The refusal of this kind at this position.
 abbrev pub refused : LpKind → ℕ → Answer Lp LpKind
 refused kind at = Refused (record { kind = kind; at = at })
 
@@ -133,13 +133,13 @@ pub record TextsAreWorkedOut : Type 0 where
   -- kinds are numbered in this order
   pub kinds : map number_of (Syntax ∷ NumberTooLarge ∷ Limit ∷ []) ≡ 1 ∷ 2 ∷ 3 ∷ []
   -- 1 and 64 columns may be, and neither 0 nor 65
-  pub least : against_columns (pos 1) ≡ None
-  pub greatest : against_columns (pos 64) ≡ None
-  pub none : against_columns (pos 0) ≡ Some Limit
-  pub past : against_columns (pos 65) ≡ Some Limit
+  pub least : fault_of_columns (pos 1) ≡ None
+  pub greatest : fault_of_columns (pos 64) ≡ None
+  pub none : fault_of_columns (pos 0) ≡ Some Limit
+  pub past : fault_of_columns (pos 65) ≡ Some Limit
   -- behind 64 rows no line may begin with `r`, and behind 63 one may
-  pub full : (columns count : ℕ) → against_row columns 64 count 114 ≡ Some Limit
-  pub room : (columns count : ℕ) → against_row columns 63 count 114 ≡ None
+  pub full : (columns count : ℕ) → fault_of_row columns 64 count 114 ≡ Some Limit
+  pub room : (columns count : ℕ) → fault_of_row columns 63 count 114 ≡ None
   -- no number over 2^31-1 is within the limits
   pub cost : AreCosts ((2 ^ 31 - 1) ∷ [])
   pub large_cost : ¬ AreCosts (0 ∷ (2 ^ 31) ∷ [])

@@ -23,9 +23,9 @@ mod class {
     pub const N: u32 = 18; pub const D: u32 = 19; pub const W: u32 = 20; pub const EQUALS: u32 = 21;
 }
 
-/// How many classes of bytes there are.
+/// The number of classes of bytes.
 pub const CLASSES: u32 = 23;
-/// After how many rounds an entry of the table is what it stays.
+/// The number of rounds after which no entry of the table changes.
 pub const ROUNDS: u32 = 9;
 
 /// The marks before the first costs, before the second ones and behind them, and before a right side.

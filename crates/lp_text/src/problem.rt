@@ -18,7 +18,7 @@ impl WrittenLp {
     ///
     /// # Errors
     ///
-    /// `AllocError` where an allocation fails.
+    /// `AllocError` if an allocation fails.
     pub fn to_problem(&self, alloc: Global) -> Result<Problem, AllocError>
         requires { IsWithin (lp_of self.now) }
         ensures { IfOk result (IsProblemOf (lp_of self.now)) }

@@ -2,8 +2,8 @@
 
 ghost use Rattle.std.specs.Prelude.{◌≡◌};
 ghost use Rattle.lp_text.specs.Lps.{Lp};
-ghost use Rattle.lp_text.specs.Texts.{State as StateOf, lp_bytes, against_costs as against_costs_at};
-ghost use Rattle.lp_text.specs.Texts.{against_row as against_row_at, against_columns as against_columns_at};
+ghost use Rattle.lp_text.specs.Texts.{State as StateOf, lp_bytes, fault_of_costs as fault_of_costs_at};
+ghost use Rattle.lp_text.specs.Texts.{fault_of_row as fault_of_row_at, fault_of_columns as fault_of_columns_at};
 ghost use Rattle.lp_text.specs.Views.{lp_of, own_of as own_at};
 
 use crate::grammar::{FIRST_BEGINS, LETTERS, RIGHT_BEGINS, ROWS_BEGIN, SECOND_BEGINS};
@@ -30,8 +30,8 @@ pub struct State {
 }
 
 // The fault of a byte of a line of costs, of which `count` have been read.
-fn against_costs(columns: u128, count: u128, byte: u8) -> Option<LpKind>
-    ensures { result ≡ against_costs_at columns count byte }
+fn fault_of_costs(columns: u128, count: u128, byte: u8) -> Option<LpKind>
+    ensures { result ≡ fault_of_costs_at columns count byte }
 {
     match byte {
         b' ' if count >= columns => Some(LpKind::Syntax),
@@ -41,8 +41,8 @@ fn against_costs(columns: u128, count: u128, byte: u8) -> Option<LpKind>
 }
 
 // The fault of a byte of a row after so many numbers, and after so many rows.
-fn against_row(columns: u128, rows: u128, count: u128, byte: u8) -> Option<LpKind>
-    ensures { result ≡ against_row_at columns rows count byte }
+fn fault_of_row(columns: u128, rows: u128, count: u128, byte: u8) -> Option<LpKind>
+    ensures { result ≡ fault_of_row_at columns rows count byte }
 {
     match byte {
         b'r' if rows >= SIZE_LIMIT => Some(LpKind::Limit),
@@ -53,8 +53,8 @@ fn against_row(columns: u128, rows: u128, count: u128, byte: u8) -> Option<LpKin
 }
 
 // The fault of a number of columns.
-fn against_columns(number: i128) -> Option<LpKind>
-    ensures { result ≡ against_columns_at number }
+fn fault_of_columns(number: i128) -> Option<LpKind>
+    ensures { result ≡ fault_of_columns_at number }
 {
     if number.unsigned_abs() > NUMBER_LIMIT {
         return Some(LpKind::NumberTooLarge);
@@ -136,7 +136,7 @@ impl ByteText for State {
 
     fn against_signed(&self, number: i128) -> Option<LpKind> {
         match self.section {
-            Section::Head => against_columns(number),
+            Section::Head => fault_of_columns(number),
             Section::Rows if self.numbers.len() as u128 >= self.lp.columns.unsigned_abs() => {
                 Some(LpKind::Syntax)
             }
@@ -153,9 +153,9 @@ impl ByteText for State {
     fn against_byte(&self, byte: u8) -> Option<LpKind> {
         let columns = self.lp.columns.unsigned_abs();
         match self.section {
-            Section::First => against_costs(columns, self.lp.first.len() as u128, byte),
-            Section::Second => against_costs(columns, self.lp.second.len() as u128, byte),
-            Section::Rows => against_row(
+            Section::First => fault_of_costs(columns, self.lp.first.len() as u128, byte),
+            Section::Second => fault_of_costs(columns, self.lp.second.len() as u128, byte),
+            Section::Rows => fault_of_row(
                 columns,
                 self.lp.rows.len() as u128,
                 self.numbers.len() as u128,

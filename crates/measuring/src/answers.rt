@@ -1,4 +1,4 @@
-//! The answer to a line: a call, how often it is made, and what it is made on.
+//! The answer to a line: a call, how often it is made, and its argument.
 
 use crate::graphs::{edges_of, of_graph, of_program, program};
 use crate::problems::rank;
@@ -11,9 +11,9 @@ use std::alloc::Global;
 
 /// Answers a line.
 ///
-/// `expand` is made on an expression in reverse Polish notation; `cycle`, `components`, `graph`, `reached` and `set` on
-/// edges; `read` and `read-cycle` on the text of a program; `rank` on a shape of rules and its size; and `read-run` and
-/// `replay-run` on a made run of a number of steps.
+/// `expand` has an expression in reverse Polish notation as its argument; `cycle`, `components`, `graph`, `reached` and
+/// `set` have edges; `read` and `read-cycle` the text of a program; `rank` a shape of rules and its size; and
+/// `read-run` and `replay-run` a made run of a number of steps.
 pub(crate) fn answer(alloc: Global, line: &str) -> Result<String, Memory> {
     let (call, behind) = line.split_once(' ').unwrap_or((line, ""));
     let (word, rest) = behind.split_once(' ').unwrap_or((behind, ""));

@@ -19,7 +19,7 @@ pub(crate) fn edges_of(alloc: Global, text: &str) -> Result<Vec<(u32, u32)>, Mem
     Ok(edges)
 }
 
-/// The program with a rule for each edge, of which nothing else counts.
+/// The program with a rule for each edge, of which only these matter.
 pub(crate) fn program(alloc: Global, edges: &[(u32, u32)]) -> Result<Program, Memory> {
     let mut rules = Vec::new(alloc);
     for (source, target) in edges {
@@ -69,8 +69,8 @@ pub(crate) fn of_graph(alloc: Global, edges: &[(u32, u32)], times: u32) -> Resul
     Ok(found)
 }
 
-/// What a call finds in a program: whether there is a cycle, 1 or 0; or how many symbols its graph has, how many can be
-/// reached or not, or how many rules are in the set of the last rule where all rules are untimed.
+/// The result of a call on a program: whether there is a cycle, 1 or 0; or how many symbols its graph has, how many can
+/// be reached or not, or how many rules are in the set of the last rule if all rules are untimed.
 pub(crate) fn of_program(
     alloc: Global,
     call: &str,
@@ -131,7 +131,7 @@ fn last_sets(alloc: Global, p: &Program, times: u32) -> Result<usize, Memory> {
     }
 }
 
-// How many rules are in the set of a rule, where the flags are those of the graph.
+// How many rules are in the set of a rule, if the flags are those of the graph.
 fn sets(
     alloc: Global,
     p: &Program,

@@ -1,5 +1,5 @@
-//! Benchmarks: makes the call in each line of the standard input a number of times, and answers by one line what it
-//! found at the last time. A line without a call, as a remark that begins with `#`, is written as it is.
+//! Benchmarks: makes the call in each line of the standard input a number of times, and answers by one line, with its
+//! result the last time. A line without a call, such as a remark that begins with `#`, is written unchanged.
 #![tactic(auto)]
 
 mod answers;

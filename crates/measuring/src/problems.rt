@@ -10,8 +10,8 @@ use std::alloc::Global;
 // More pivots than any of the shapes takes.
 const PIVOTS: u32 = 1_000_000;
 
-/// The rows, the columns and the pivots of the rank problem of a shape and a size, as in `ring 8`; 0 pivots where it
-/// isn't solved at all.
+/// The rows, the columns and the pivots of the rank problem of a shape and a size, as in `ring 8`; 0 pivots if it isn't
+/// solved at all.
 pub(crate) fn rank(alloc: Global, text: &str, times: u32) -> Result<String, Memory> {
     let (word, size) = text.split_once(' ').unwrap_or((text, ""));
     let shape = match word {

@@ -34,7 +34,7 @@ fn program_text(alloc: Global, places: u32) -> Result<Vec<u8>, AllocError> {
     Ok(text)
 }
 
-// The text of a run of it with this many steps.
+// The text of a run of this program with this many steps.
 fn run_text(alloc: Global, places: u32, steps: u32) -> Result<Vec<u8>, AllocError> {
     let mut text = b"koat-run 1\nstart".to_vec(alloc)?;
     for _ in 0..places {
@@ -48,7 +48,7 @@ fn run_text(alloc: Global, places: u32, steps: u32) -> Result<Vec<u8>, AllocErro
     Ok(text)
 }
 
-/// How many steps are read of the file of a run of one value and this many steps, at the last of so many times; 0 if it
+/// How many steps are read of the file of a run of one value and this many steps, the last of this many times; 0 if it
 /// isn't read.
 pub(crate) fn steps_read(alloc: Global, steps: u32, times: u32) -> Result<u64, AllocError> {
     let program = program_text(alloc, 1)?;
@@ -65,7 +65,7 @@ pub(crate) fn steps_read(alloc: Global, steps: u32, times: u32) -> Result<u64, A
     Ok(found)
 }
 
-/// How many steps are counted along a run of 32 values and this many steps, at the last of so many times; 0 if it isn't
+/// How many steps are counted along a run of 32 values and this many steps, the last of this many times; 0 if it isn't
 /// replayed.
 pub(crate) fn steps_replayed(alloc: Global, steps: u32, times: u32) -> Result<u64, AllocError> {
     let program = program_text(alloc, 32)?;

@@ -22,7 +22,7 @@ one_if_same-other s t ne = go (eqb_tells s t)
     go (inl (test, same)) = absurd (ne same)
     go (inr (test, other)) = rw test refl
 
--- configurations with the same symbol and values are the same
+-- Configurations with the same symbol and values are the same.
 pub same_config : (c d : Config) → c.at ≡ d.at → c.values ≡ d.values → c ≡ d
 same_config c d at values = ap (λ (s : ℕ). record { at = s; values = c.values }) at ∙ ap (λ (v : List ℤ). record { at = d.at; values = v }) values
 

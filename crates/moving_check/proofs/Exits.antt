@@ -16,7 +16,7 @@ use Rattle.run_replay.specs.ReplayAnswers.{first_steps}
 use Rattle.lasso_check.specs.Lassos.{Lasso, stem_back, turn_back, both_back, run_along}
 use Rattle.lasso_check.specs.Checks.{is_used_in, rules_of_turn}
 use Rattle.lasso_check.specs.CheckAnswers.{HasTurned}
-use Rattle.lasso_check.proofs.Turns.{noted_length, listed_rules}
+use Rattle.lasso_check.proofs.Turns.{recorded_length, listed_rules}
 use Rattle.lasso_check.proofs.Walks.{both_first}
 use Rattle.affine_turns.specs.declared.affine.Affine.{Affine}
 use Rattle.affine_turns.specs.Affine.{slopes, between}
@@ -93,5 +93,5 @@ pub turn_rules : (p : Program) (l : Lasso) (n : ℕ) (t : Turning) (used : List 
     → ((f : ℕ → Bool) → used ≡ map f (range_with_len 1 (length used)) → rules ≡ filter f (range_with_len 1 (length used)))
     → rules ≡ rules_of_turn p l
 turn_rules p l n t used rules same h all listed =
-    listed_rules p l used rules (ap length same ∙ noted_length p l n t h) listed
+    listed_rules p l used rules (ap length same ∙ recorded_length p l n t h) listed
     (same ∙ (h.used ∙ ap (λ (ss : List Step). map (is_used_in ss) (rule_numbers p)) (turn_all l n all)))

@@ -6,5 +6,5 @@ mod Places
 mod Exits
 pub mod Forms
 mod WorkedMoving
--- the lemmas of the crates below, which callers name through this one
+-- The lemmas of the crates below, which callers name through this one.
 pub use Rattle.lasso_check.proofs as lasso_check

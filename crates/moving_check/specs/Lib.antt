@@ -1,10 +1,10 @@
--- what the contracts of this crate, and of those above it, cite
+-- The specs that contracts of this crate and of other crates cite.
 pub mod Texts
 pub mod Findings
 pub mod Answers
--- laws, and values that were worked out by hand
+-- Laws and worked values.
 pub mod Laws
 pub mod Worked
--- the crates below, which callers name through this one
+-- The crates below, which callers name through this one.
 pub use Rattle.lasso_check.specs as lasso_check
 pub use Rattle.affine_turns.specs as affine_turns

@@ -25,7 +25,7 @@ pub enum MovingError {
     /// The atom with this number, from 1, doesn't hold.
     #[error("atom {atom} fails at step {step}")]
     GuardFails { step: u64, atom: u32 },
-    /// A value passes 128 bits.
+    /// A value exceeds 128 bits.
     #[error("a value passes 128 bits at step {step}")]
     PassedRange { step: u64 },
     /// All steps are good, and the turn leads to another symbol than that from which it leads.

@@ -1,4 +1,4 @@
-//! The bounds that nodes compose: times over the entries of a set, sizes over what can come before.
+//! The bounds that nodes compose: times over the entries of a set, sizes over the rules that can come before.
 
 ghost use Rattle.std.specs.Prelude.{◌≡◌, length, IfOk};
 

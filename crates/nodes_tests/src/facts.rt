@@ -1,4 +1,4 @@
-//! What is known by facts: of each rule the first time, and of each place the first size.
+//! The bounds that facts state: of each rule the first time, and of each place the first size.
 
 use bound_expr::{Bound, Memory};
 use cert_types::{Fact, known_or_zero, size_in, time_in};

@@ -1,4 +1,4 @@
-//! Arms as bounds at the sizes after a rule.
+//! Side bounds as bounds at the sizes after a rule.
 
 ghost use Rattle.std.specs.Prelude.{◌<◌, ◌^◌, All, IfOk};
 ghost use Rattle.cert_types.specs.Composing.{HasFewVariables};
@@ -45,7 +45,8 @@ fn members(alloc: Global, result_variables: &[(u32, u32)]) -> Result<Vec<Member>
     Ok(members)
 }
 
-// What is shown, the denominator, coefficients and constant of a side bound, the members, and the one after rule 1.
+// The printed text, the denominator, coefficients and constant of a side bound, the members, and the bound after rule
+// 1.
 const LINEAR: &[(&str, u64, [i64; 3], i64, &[(u32, u32)], &str)] = &[
     (
         "each part is rounded up",

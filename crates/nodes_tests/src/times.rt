@@ -23,7 +23,7 @@ fn entering_twice(alloc: Global) -> Result<Program, Memory>
     })
 }
 
-// At a symbol so many times the only place, and a constant.
+// At a symbol this many times the only place, and a constant.
 fn form(alloc: Global, symbol: u32, coef: i64, constant: i64) -> Result<Form, Memory>
     ensures { IfOk result IsShort }
 {
@@ -110,8 +110,8 @@ fn wide(alloc: Global, parts: u32) -> Result<Bound, Memory> {
     Ok(Bound::Sum(sum))
 }
 
-// Beside its parts the size is one node, and what is composed of it 7 more: 1*(0 + 1*size) in a sum of one part. So
-// with 4,088 parts there are 4,096 nodes, which is the limit, and with one part more too many.
+// Besides its parts the size is one node, and the bound composed of it has 7 more: 1*(0 + 1*size) in a sum of one part.
+// So with 4,088 parts there are 4,096 nodes, which is the limit, and with one part more too many.
 #[test]
 fn a_composed_bound_may_be_too_large(rt: HostRuntime) -> Result<(), Fail> {
     let alloc = rt.alloc();

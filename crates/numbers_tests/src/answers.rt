@@ -1,4 +1,4 @@
-//! The answer to a line: a call, and behind a blank what it is made on.
+//! The answer to a line: a call, and after a blank its argument.
 
 use crate::fractions::computed;
 use crate::many::many_rows;

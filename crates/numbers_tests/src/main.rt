@@ -1,5 +1,6 @@
-//! Answers each line of the standard input by one line: what a public call makes of the fractions, the sparse rows, the
-//! linear program or the question in it. A line without a call, as a remark that begins with `#`, is written as it is.
+//! Answers each line of the standard input by one line: the result of a public call on the fractions, the sparse rows,
+//! the linear program or the question in it. A line without a call, such as a remark that begins with `#`, is written
+//! unchanged.
 #![tactic(auto)]
 
 mod answers;

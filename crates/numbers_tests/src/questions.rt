@@ -1,4 +1,4 @@
-//! Questions, their linear programs, and what is found of them.
+//! Questions, their linear programs, and the answers on them.
 
 ghost use Rattle.simplex_core.specs.Problem.{IsProper};
 
@@ -66,7 +66,7 @@ fn costs(alloc: Global, text: &str) -> Result<Vec<Cost>, Memory> {
     Ok(costs)
 }
 
-/// The linear program of a question, or what is found of it. Bars divide the costs of the parameters and the groups.
+/// The linear program of a question, or the answer on it. Bars divide the costs of the parameters and the groups.
 pub(crate) fn of_question(alloc: Global, call: &str, text: &str) -> Result<String, Memory> {
     let (listed, groups) = text.split_once('|').unwrap_or((text, ""));
     let mut parts = Vec::new(alloc);

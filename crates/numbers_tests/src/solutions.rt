@@ -1,4 +1,4 @@
-//! What is found of linear programs.
+//! The answers on linear programs.
 
 ghost use Rattle.simplex_core.specs.Problem.{IsProper};
 
@@ -10,7 +10,7 @@ use sample_questions::is_proper;
 use simplex_core::{Problem, SolveError, Solved, solve, solve_scaled};
 use std::alloc::{AllocError, Global};
 
-/// The answer of a call on a linear program: of `solve`, the end with its pivots, its numbers and, behind a bar, the
+/// The answer of a call on a linear program: of `solve`, the end with its pivots, its numbers and, after a bar, the
 /// basis, or the limit that was exceeded; of `scale`, the same in integers; of `costs`, the costs of the solution.
 pub(crate) fn of_program(alloc: Global, call: &str, text: &str) -> Result<String, Memory> {
     let Some(task) = task_of(alloc, text)? else {
@@ -29,7 +29,7 @@ pub(crate) fn of_program(alloc: Global, call: &str, text: &str) -> Result<String
     }
 }
 
-// An end as text.
+// An end of the simplex method as text.
 fn solved_text(alloc: Global, solved: &Solved) -> Result<String, Memory> {
     match solved {
         Solved::Optimal { at, basis, pivots } => {

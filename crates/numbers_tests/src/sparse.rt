@@ -37,7 +37,7 @@ pub(crate) fn summed(alloc: Global, text: &str) -> Result<String, Memory> {
     }
 }
 
-// The entries of a row and, behind a bar, the fractions at its first ten columns.
+// The entries of a row and, after a bar, the fractions at its first ten columns.
 fn row_text(alloc: Global, row: &SparseRow) -> Result<String, Memory> {
     let mut text = String::new(alloc);
     for index in 0..row.len() {

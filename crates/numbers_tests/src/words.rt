@@ -5,7 +5,7 @@ use lp_builder::Row;
 use model::Memory;
 use std::alloc::Global;
 
-/// The parts of a text before and behind its first semicolon.
+/// The parts of a text before and after its first semicolon.
 pub(crate) fn cut(text: &str) -> (&str, &str) {
     text.split_once(';').unwrap_or((text, ""))
 }
@@ -33,7 +33,7 @@ pub(crate) fn form(alloc: Global, words: &str) -> Result<Row, Memory> {
     Ok(Row { coefs, constant })
 }
 
-/// The fraction of a word, `1/2` or `1`. None where it is none, its denominator is 0 or a number is -2^127.
+/// The fraction of a word, `1/2` or `1`. None if the word isn't one, its denominator is 0 or a number is -2^127.
 pub(crate) fn fraction(word: &str) -> Option<Frac> {
     let (num, den) = word.trim().split_once('/').unwrap_or((word.trim(), "1"));
     let den = den.parse::<i128>().ok()?;
@@ -55,7 +55,7 @@ pub(crate) fn fraction_text(alloc: Global, fraction: Option<Frac>) -> Result<Str
     }
 }
 
-/// Adds fractions, each behind a blank.
+/// Adds fractions, each after a blank.
 pub(crate) fn push_fractions(
     alloc: Global,
     text: &mut String,

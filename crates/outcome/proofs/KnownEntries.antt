@@ -19,7 +19,7 @@ known_is_timed gaps (times.Gap g) = refl
 known_is_timed gaps (times.OutOfLimits t) = refl
 known_is_timed gaps (times.Large nodes) = refl
 
--- so all entries are known exactly where all times are
+-- all entries are known exactly if all times are
 pub all_known : (gaps : List Gap) (es : List TimeEntry) → list_all is_known es ≡ list_all is_timed (map (time_of gaps) es)
 all_known gaps [] = refl
 all_known gaps (e ∷ es) = cc (known_is_timed gaps e, all_known gaps es)
@@ -34,18 +34,19 @@ known_is_costed (Some (costs.Missing s)) = refl
 known_is_costed (Some (costs.Untimed t)) = refl
 known_is_costed (Some (costs.Large nodes)) = refl
 
--- so no entry lacks one exactly where no rule's cost does
+-- no entry lacks a bound on a cost exactly if no rule's cost lacks one
 pub all_costs_known : (es : List (Option CostEntry))
     → list_all is_known_cost es ≡ list_all is_costed (map (option_map cost_of) es)
 all_costs_known [] = refl
 all_costs_known (e ∷ es) = cc (known_is_costed e, all_costs_known es)
 
--- and an outcome is bounded by its entries
+-- an outcome is bounded exactly if its entries lack no bound
 pub bounded_by_entries : (o : Outcome)
     → (list_all is_known o.times.items && list_all is_known_cost o.costs.items) ≡ is_bounded (report_of o)
 bounded_by_entries o = λ i. all_known o.gaps.items o.times.items i && all_costs_known o.costs.items i
 
--- so, where all entries of times are known, those of costs decide, and where one isn't, the outcome isn't bounded
+-- if all entries of times are known, those of costs decide whether the outcome is bounded; if one isn't known, it isn't
+-- bounded
 pub bounded_where_timed : (o : Outcome) (timed costed : Bool) → timed ≡ list_all is_known o.times.items
     → costed ≡ list_all is_known_cost o.costs.items → timed ≡ true → costed ≡ is_bounded (report_of o)
 bounded_where_timed o timed costed et ec all =

@@ -73,7 +73,7 @@ sizes_paying t i b e =
     let plain = right_sizes_hold t i b e in
     record { each = λ start steps c run. plain.each start steps c (as_countdown start steps c run) }
 
--- one cost is one bound
+-- equal costs have equal bounds
 same_cost : (a b : Bound) → Some (Some (Costed a)) ≡ Some (Some (Costed b)) → a ≡ b
 same_cost a b e = cc
 

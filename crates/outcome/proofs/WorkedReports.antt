@@ -27,7 +27,7 @@ entries_found = record {
   no_rule = refl;
 }
 
--- nothing is a time that a list doesn't have
+-- a missing entry is no time
 no_time : (b : Bound) → None ≡ Some (Timed b) → ⊥
 no_time b e = cc
 
@@ -35,11 +35,11 @@ no_time b e = cc
 reason_time : (w : NoTime) (b : Bound) → Some (Untimed w) ≡ Some (Timed b) → ⊥
 reason_time w b e = cc
 
--- one time is one bound
+-- equal times have equal bounds
 same_time : (a b : Bound) → Some (Timed a) ≡ Some (Timed b) → a ≡ b
 same_time a b e = cc
 
--- nothing is a size that a list doesn't have
+-- a missing entry is no size
 no_size : (b : Bound) → None ≡ Some (Sized b) → ⊥
 no_size b e = cc
 
@@ -47,11 +47,11 @@ no_size b e = cc
 reason_size : (w : NoSize) (b : Bound) → Some (Unsized w) ≡ Some (Sized b) → ⊥
 reason_size w b e = cc
 
--- one size is one bound
+-- equal sizes have equal bounds
 same_size : (a b : Bound) → Some (Sized a) ≡ Some (Sized b) → a ≡ b
 same_size a b e = cc
 
--- the bound that times give holds, where both do
+-- both times hold if their bounds do
 pub times_of_two : (a c : Bound) → HoldsTime countdown 1 a → HoldsTime countdown 2 c
     → (t : ℕ) (b : Bound) → numbered_entry (two_times a c) t ≡ Some (Timed b) → HoldsTime countdown t b
 times_of_two a c one two zero b e = absurd (no_time b e)
@@ -79,7 +79,7 @@ right_sizes_hold (suc (suc zero)) i b e =
     places_of_two 2 (Constant 8) (Constant 9) sizes_hold.loop_first sizes_hold.loop_second i b e
 right_sizes_hold (suc (suc (suc t))) i b e = absurd (no_size b e)
 
--- a rule without a cost has no bound on it, and so neither has either of two such rules
+-- a rule without a cost has no bound on one, and neither of two such rules has
 no_cost : (b : Bound) → Some None ≡ Some (Some (Costed b)) → ⊥
 no_cost b e = cc
 
@@ -92,11 +92,11 @@ none_costed (suc zero) b e = absurd (no_cost b e)
 none_costed (suc (suc zero)) b e = absurd (no_cost b e)
 none_costed (suc (suc (suc t))) b e = absurd (no_entry_cost b e)
 
--- nothing is a total that a report doesn't have
+-- a missing total is no bound
 pub no_total : (b : Bound) → None ≡ Some b → ⊥
 no_total b e = cc
 
--- one total is one bound
+-- equal totals have equal bounds
 pub same_total : (a b : Bound) → Some a ≡ Some b → a ≡ b
 same_total a b e = cc
 
@@ -122,14 +122,14 @@ reports_hold = record {
     never_once : HoldsTime countdown 2 (Constant 1) → ⊥
     never_once h = times_hold.loop_less (record { each = λ start steps c run. omega (arith, h.each start steps c run) })
 
--- two reasons are no time
+-- two reasons in place of times give no time
 untimed : (v w : NoTime) (t : ℕ) (b : Bound) → numbered_entry (Untimed v ∷ Untimed w ∷ []) t ≡ Some (Timed b) → ⊥
 untimed v w zero b e = no_time b e
 untimed v w (suc zero) b e = reason_time v b e
 untimed v w (suc (suc zero)) b e = reason_time w b e
 untimed v w (suc (suc (suc t))) b e = no_time b e
 
--- two reasons are no size
+-- two reasons in place of sizes give no size
 unsized : (v w : NoSize) (i : ℕ) (b : Bound) → place_entry (Some (Unsized v ∷ Unsized w ∷ [])) i ≡ Some (Sized b) → ⊥
 unsized v w zero b e = no_size b e
 unsized v w (suc zero) b e = reason_size v b e

@@ -43,7 +43,7 @@ abbrev pub side_by : Bool → Side
 side_by true = Up
 side_by false = Low
 
--- why a place with an unbounded side has no size, and a cost with one no bound
+-- the reason that an unbounded side gives for a missing size of a place, or for a missing bound on a cost
 abbrev pub unbounded_of : UnboundedSide → NoSize
 unbounded_of l = SizeUnbounded (side_by l.up) l.ray.items (scaled_of l.kept)
 

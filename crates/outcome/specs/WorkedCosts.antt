@@ -17,8 +17,8 @@ use Rattle.outcome.specs.WorkedReports.{two_times, right_times, no_times, right_
 abbrev pub two_costs : Bound → Bound → List (Option RuleCost)
 two_costs a b = Some (Costed a) ∷ Some (Costed b) ∷ []
 
--- a rule spends what its cost says, whatever its time; without a cost it spends its time; and where the one of the two
--- that counts is missing there is no bound. A rule without a cost lacks no bound on a cost
+-- a rule with a cost spends the bound of its cost, whatever its time is; a rule without a cost spends its time; if the
+-- bound that counts is missing, none is spent. Of a rule without a cost no bound on a cost is missing
 pub record SpendingsAreWorkedOut : Type 0 where
   pub by_cost : spent_in (Timed (Constant 9)) (Some (Costed (Input 0))) ≡ Some (Input 0)
   pub by_cost_alone : spent_in (Untimed (TimeLarge 5000)) (Some (Costed (Input 0))) ≡ Some (Input 0)
@@ -79,8 +79,8 @@ pub record ReportsFit : Type 0 where
   pub total_without_cost : ¬ (IsReportOn paying (report_on_costs right_times second_cost_missing (Some (Constant 10))))
   pub total_without_time : ¬ (IsReportOn countdown (report_with no_times (Some (Constant 10)) right_sizes))
 
--- of the program that pays, the report of the costs A and B with the total A + B holds; with a bound that is too small or
--- of the other rule, or with a total that counts the steps or one rule alone, it doesn't. Reasons say nothing
+-- of the program that pays, the report of the costs A and B with the total A + B holds; with a bound that is too small
+-- or of the other rule, or with a total that counts the steps or one rule alone, it doesn't. Reasons say nothing
 pub record CostReportsHold : Type 0 where
   pub whole : ReportHolds paying (report_on_costs right_times (two_costs (Input 0) (Input 1)) (Some both_inputs))
   pub first_less : ¬ (ReportHolds paying

@@ -1,4 +1,4 @@
--- How a look-up in a list of files goes on.
+-- How a look-up in a list of files proceeds.
 use Rattle.std.proofs.Common.{◌≡◌, ℕ, suc, ◌+◌, ◌<◌, ◌≤◌, ◌∙◌, ap, sym, cond, true, false, List, [], ◌∷◌, length, drop}
 use Rattle.std.proofs.Common.{get_or, drop-cons, add-one, Some, None, string_bytes, nat_eq}
 use Rattle.std.proofs.lemmas.Bool.{false_from_ne_true}
@@ -14,7 +14,7 @@ use Rattle.outside_io.specs.HeldFiles.{files_of, FirstCounts}
 pub get-none : (name : List ℕ) → get (files_of []) name ≡ None
 get-none name = get-empty (slice_cmp nat_cmp) name
 
--- a file is found where it is the first; else the search goes on behind it
+-- a file is found if it is the first with this name; else the search goes on after it
 pub get-files_of : (file : Held) (rest : List Held) (name : List ℕ)
     → get (files_of (file ∷ rest)) name ≡ cond (pointwise nat_eq name (string_bytes file.name)) (Some file.bytes.items) (get (files_of rest) name)
 get-files_of file rest name =
@@ -31,7 +31,7 @@ get-found files i file name within is same =
     ∙ get-files_of file (drop (suc i) files) name
     ∙ ap (λ b. cond b (Some file.bytes.items) (get (files_of (drop (suc i) files)) name)) same
 
--- the search goes on behind a file of another name
+-- the search goes on after a file of another name
 pub get-passed : (files : List Held) (i : ℕ) (file : Held) (name : List ℕ) → i < length files
     → file ≡ get_or files i file
     → pointwise nat_eq name (string_bytes file.name) ≡ false → get (files_of (drop i files)) name ≡ get (files_of (drop (i + 1) files)) name

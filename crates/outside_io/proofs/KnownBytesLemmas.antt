@@ -1,11 +1,11 @@
--- How known bytes grow in several turns.
+-- How disclosed bytes grow in several turns.
 use Rattle.std.proofs.Common.{◌≡◌, ℕ, ◌+◌, ◌-◌, ◌∙◌, ap, sym, subst, arith, List, ◌++◌, length, take, drop, length-drop}
 use Rattle.std.proofs.Common.{append_assoc, Option, None, Some}
 use Rattle.std.proofs.Math.Seq.{take-add}
 use Rattle.std.proofs.lemmas.List.{take_all}
 use Rattle.std.specs.Io.KnownBytes.{Appends}
 
--- what is appended in two turns is appended in one
+-- bytes appended in two turns are appended in one
 Appends-then : (old middle new : Option (List ℕ)) (done piece : List ℕ)
     → Appends old middle done → Appends middle new piece → Appends old new (done ++ piece)
 Appends-then None middle new done piece first second = tt
@@ -14,7 +14,7 @@ Appends-then (Some old) (Some middle) None done piece first second = absurd seco
 Appends-then (Some old) (Some middle) (Some new) done piece first second =
     second ∙ ap (λ xs. xs ++ piece) first ∙ append_assoc old done piece
 
--- the next bytes of a piece, appended behind those before them
+-- the next bytes of a piece, appended after those before them
 pub Appends-more : (old middle new : Option (List ℕ)) (piece : List ℕ) (written count : ℕ)
     → Appends old middle (take written piece)
     → Appends middle new (take count (take (length piece - written) (drop written piece)))

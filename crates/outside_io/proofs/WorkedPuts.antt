@@ -1,4 +1,4 @@
--- The worked counts, and what was worked out of a put that failed.
+-- The worked values of counts, and of a put that failed, hold.
 use Rattle.std.proofs.Common.{◌≡◌, ℕ, zero, suc, ◌+◌, ◌-◌, ◌^◌, ◌≤◌, List, [], ◌∷◌, length, take, get_or, refl, ap}
 use Rattle.std.proofs.Common.{arith, inl, inr}
 use Rattle.outside_io.specs.Counts.{Rose}
@@ -27,7 +27,7 @@ counts = record {
   fell_to_the_end = inr refl;
 }
 
--- what is left is the byte 1 and no more, with the byte 2, or with both
+-- the written bytes are the byte 1 alone, or with the byte 2, or with both
 left : (bytes : List ℕ) → AreLeft bytes → (get_or bytes 0 9 ≡ 1) × (get_or bytes 2 3 ≡ 3) × (length bytes ≤ 3)
 left bytes h = go h.count h.within h.appends
   where
@@ -38,7 +38,7 @@ left bytes h = go h.count h.within h.appends
     go (suc (suc zero)) within e = (ap (λ (bs : List ℕ). get_or bs 0 9) e, ap (λ (bs : List ℕ). get_or bs 2 3) e, omega (arith, ap length e))
     go (suc (suc (suc k))) within e = absurd (omega (arith, within))
 
--- its second byte, if there is one, is the byte 2
+-- the second written byte, if there is one, is the byte 2
 second : (bytes : List ℕ) → AreLeft bytes → get_or bytes 1 2 ≡ 2
 second bytes h = go h.count h.within h.appends
   where
@@ -48,7 +48,7 @@ second bytes h = go h.count h.within h.appends
     go (suc (suc zero)) within e = ap (λ (bs : List ℕ). get_or bs 1 2) e
     go (suc (suc (suc k))) within e = absurd (omega (arith, within))
 
--- what is left is what was worked out
+-- the worked values of written bytes hold
 pub prefixes : PrefixesAreLeft
 prefixes = record {
   none = record { count = 0; within = omega arith; appends = refl };

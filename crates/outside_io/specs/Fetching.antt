@@ -11,5 +11,5 @@ MayFail held name before now = Rose before now ⊎ Lacks held name
 pub record IsTooLong (held : Option Files) (name : List ℕ) (limit taken : ℕ) : Type 0 where
   -- if the shelf discloses its contents, it holds the file, with more bytes than the limit
   pub told : IfSome held (λ files. HoldsMore files name limit)
-  -- where it doesn't: the fetch took more bytes than the limit
+  -- if the shelf doesn't disclose its contents, the fetch took more bytes than the limit
   pub untold : IfNone held (limit < taken)

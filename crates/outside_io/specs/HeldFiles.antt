@@ -17,8 +17,8 @@ pub record FirstCounts : Type 0 where
   -- under its own name the first file of a list is found
   pub at_its_name : (first : Held) (rest : List Held)
       → get (files_of (first ∷ rest)) (string_bytes first.name) ≡ Some first.bytes.items
-  -- under any other name what is found is what the rest of the list has
+  -- under any other name the look-up finds what the rest of the list has
   pub at_others : (first : Held) (rest : List Held) (name : List ℕ) → name ≢ string_bytes first.name
       → get (files_of (first ∷ rest)) name ≡ get (files_of rest) name
-  -- in no files nothing is found
+  -- among no files nothing is found
   pub in_none : (name : List ℕ) → get (files_of []) name ≡ None

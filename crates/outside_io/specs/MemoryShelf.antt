@@ -17,7 +17,7 @@ failing_calls shelf = shelf.failing.items
 abbrev pub fetch_count : MemoryShelf → ℕ
 fetch_count shelf = shelf.calls
 
--- the number of fetches that failed because they were to
+-- the number of fetches that failed because they were set to fail
 abbrev pub fault_count : MemoryShelf → ℕ
 fault_count shelf = shelf.faults
 

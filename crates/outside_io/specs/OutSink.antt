@@ -2,7 +2,7 @@
 use Rattle.std.specs.Prelude.{ℕ}
 use Rattle.outside_io.specs.declared.out_sink.OutSink.{OutSink}
 
--- where it writes
+-- the writer to which it writes
 abbrev pub writer_of : {W : Type 0} → OutSink W → W
 writer_of sink = sink.writer
 

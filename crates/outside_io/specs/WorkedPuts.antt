@@ -20,12 +20,12 @@ pub record CountsRise : Type 0 where
   pub fell_past_the_end : ¬ (Rose (2 ^ 64 + 5) (2 ^ 64))
   pub fell_to_the_end : Rose (2 ^ 64 + 5) (2 ^ 64 - 1)
 
--- behind the byte 1 the piece 2, 3 was put, and with a fault these bytes remain
+-- the sink held the byte 1, the piece 2, 3 was put with a fault, and then the sink holds these bytes
 abbrev pub AreLeft : List ℕ → Type 0
 AreLeft bytes = AppendsPrefix (Some (1 ∷ [])) (Some bytes) (2 ∷ 3 ∷ [])
 
--- none of the piece, its first byte, or all of it; no other bytes, no byte more than the piece has, nothing in place
--- of what was there
+-- the written bytes may have none of the piece, its first byte, or all of it; no other bytes, no byte more than the
+-- piece has, and nothing in place of the earlier bytes
 pub record PrefixesAreLeft : Type 0 where
   pub none : AreLeft (1 ∷ [])
   pub first : AreLeft (1 ∷ 2 ∷ [])

@@ -1,4 +1,4 @@
-//! The words of the command line. What they are is trusted to the operating system.
+//! The words of the command line. Their contents are trusted to the operating system.
 
 use std::alloc::Global;
 use std::env::Env;

@@ -49,7 +49,7 @@ impl<R: Files + Input> Shelf for FileShelf<R> {
 
     ghost faults = { fault_count };
 
-    /// As the trait says. It reads at most `limit + 1` bytes, and fails where the system refuses to open or to read the
+    /// As the trait says. It reads at most `limit + 1` bytes, and fails if the system refuses to open or to read the
     /// file.
     fn fetch(&mut self, alloc: Global, name: &str, limit: u64) -> Result<Vec<u8>, FetchError>
         ensures counted { Some (fetch_count self.new) ≡ one_more (Some (fetch_count self.old)) }

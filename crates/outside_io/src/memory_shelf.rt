@@ -93,7 +93,7 @@ impl Shelf for MemoryShelf {
         ensures lacking { Lacks (Some (held_files self.old)) name.now
             → (IsErrOf result FetchError.Failed ⊎ IsErrOf result FetchError.Memory) }
 
-        // A call that isn't failing finds a file too long exactly where it is.
+        // A call that isn't set to fail finds a file too long exactly if it has more bytes than the limit.
         ensures exceeds { fails_next self.old ≡ false
             → (IsErrOf result FetchError.TooLong ↔ HoldsMore (held_files self.old) name.now limit) }
         ensures too_long { IsErrOf result FetchError.TooLong

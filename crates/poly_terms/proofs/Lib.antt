@@ -24,7 +24,7 @@ mod KeyLaws
 mod UnpackingLaws
 mod DistinctLaws
 mod WorkedForms
--- the lemmas of the crates below, which callers name through this one
+-- The lemmas of the crates below, which callers name through this one.
 pub use Rattle.model.proofs as model
 pub use Rattle.linear_forms.proofs.int_laws
 pub use Rattle.linear_forms.proofs as linear_forms

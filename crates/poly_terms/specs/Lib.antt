@@ -1,4 +1,4 @@
--- what the contracts of this crate, and of those above it, cite
+-- The specs that contracts of this crate and of other crates cite.
 pub mod Expanding
 pub mod Faults
 pub mod Ordered
@@ -6,10 +6,10 @@ pub mod Views
 pub mod Answers
 pub mod Rows
 pub mod Checked
--- laws, and values that were worked out by hand
+-- Laws and worked values.
 pub mod Laws
 pub mod WorkedForms
--- the machinery of the functions inside and of the proofs
+-- The definitions for the inner functions and the proofs.
 pub mod Wide
 pub mod Positions
 pub mod Powers
@@ -20,7 +20,7 @@ pub mod Totals
 pub mod Keys
 pub mod Distinct
 pub mod KeyForms
--- the crates below, which callers name through this one
+-- The crates below, which callers name through this one.
 pub use Rattle.model.specs as model
 pub use Rattle.linear_forms.specs.int_laws
 pub use Rattle.linear_forms.specs as linear_forms

@@ -142,7 +142,7 @@ pub record RowsAndValues : Type 0 where
   pub reads : ReadsBelow 2 (Addition A (Exponentiation B 2))
   pub reads_more : ¬ (ReadsBelow 1 (Addition A (Exponentiation B 2)))
 
--- all of it
+-- All worked values of this file.
 pub record FormsAreWorkedOut : Type 0 where
   pub forms : FormsAreExpanded
   pub ordered : OrderIsKept

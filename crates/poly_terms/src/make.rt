@@ -13,7 +13,7 @@ impl Expr {
     ///
     /// # Errors
     ///
-    /// `Memory` where an allocation fails.
+    /// `Memory` if an allocation fails.
     pub fn negation(alloc: Global, e: Expr) -> Result<Expr, Memory>
         ensures { IfOk result (λ made. term_of made ≡ Negation (term_of e)) }
     {
@@ -24,7 +24,7 @@ impl Expr {
     ///
     /// # Errors
     ///
-    /// `Memory` where an allocation fails.
+    /// `Memory` if an allocation fails.
     pub fn sum(alloc: Global, d: Expr, e: Expr) -> Result<Expr, Memory>
         ensures { IfOk result (λ made. term_of made ≡ Addition (term_of d) (term_of e)) }
     {
@@ -35,7 +35,7 @@ impl Expr {
     ///
     /// # Errors
     ///
-    /// `Memory` where an allocation fails.
+    /// `Memory` if an allocation fails.
     pub fn difference(alloc: Global, d: Expr, e: Expr) -> Result<Expr, Memory>
         ensures { IfOk result (λ made. term_of made ≡ Subtraction (term_of d) (term_of e)) }
     {
@@ -46,7 +46,7 @@ impl Expr {
     ///
     /// # Errors
     ///
-    /// `Memory` where an allocation fails.
+    /// `Memory` if an allocation fails.
     pub fn product(alloc: Global, d: Expr, e: Expr) -> Result<Expr, Memory>
         ensures { IfOk result (λ made. term_of made ≡ Multiplication (term_of d) (term_of e)) }
     {
@@ -57,7 +57,7 @@ impl Expr {
     ///
     /// # Errors
     ///
-    /// `Memory` where an allocation fails.
+    /// `Memory` if an allocation fails.
     pub fn power(alloc: Global, e: Expr, exponent: u32) -> Result<Expr, Memory>
         ensures { IfOk result (λ made. term_of made ≡ Exponentiation (term_of e) exponent) }
     {

@@ -24,7 +24,7 @@ impl Poly {
     ///
     /// # Errors
     ///
-    /// `Memory` where an allocation fails.
+    /// `Memory` if an allocation fails.
     pub fn linear_part(&self, alloc: Global, width: u32) -> Result<Option<Row>, Memory>
         requires ordered { IsAscending (poly_of self.now) }
         requires in_range { HasVariablesBelow width (poly_of self.now) }

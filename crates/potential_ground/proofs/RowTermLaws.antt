@@ -1,4 +1,4 @@
--- What the prepared rows say is true of each step.
+-- The prepared rows and new values are true of each step.
 use Rattle.std.proofs.Common.{◌≡◌, ℕ, suc, ◌+◌, List, [], ◌∷◌, ◌++◌, length, map, refl, sym, ◌∙◌, ap, subst, arith}
 use Rattle.std.proofs.Common.{Option, Bool}
 use Rattle.std.specs.Prelude.{ℤ, pos, ◌+ℤ◌, ◌*ℤ◌, ◌≤ℤ◌, slice_index_or}
@@ -19,7 +19,7 @@ use Rattle.potential_nodes.specs.Ground.{IsGroundOf, IsTrueGround}
 use Rattle.potential_ground.specs.RowTerms.{coefficients_term, form_expression, row_terms, new_terms, variable_count, ground_of}
 use Rattle.potential_ground.specs.RowTerms.{RowsAreTrueGround}
 
--- coefficients from variable i on
+-- the expression of coefficients from variable i on has the value of their products
 coefficients-value : (coefs z : List ℤ) (i : ℕ) (x : ℕ → ℤ) → ((j : ℕ) → x j ≡ slice_index_or z (i + j) (pos 0))
     → value (coefficients_term i coefs) z ≡ list_dot coefs x
 coefficients-value [] z i x same = refl
@@ -35,7 +35,7 @@ coefficients-value (a ∷ coefs) z i x same =
     shifted : (i j : ℕ) → i + suc j ≡ suc i + j
     shifted i j = omega arith
 
--- a form as an expression
+-- a form as an expression has the form's value
 pub expression-value : (f : Form) (z : List ℤ) → value (form_expression f) z ≡ form_value f (at z) (pos 1)
 expression-value f z =
     let dot = coefficients-value f.coefs z 0 (at z) (λ j. ap (at z) (plain j)) in
@@ -47,13 +47,13 @@ expression-value f z =
     with_constant : (a b k : ℤ) → a ≡ b → a +ℤ k ≡ b +ℤ k *ℤ pos 1
     with_constant a b k e = omega (arith, ints, e)
 
--- rows that are at least 0
+-- forms that are at least 0 are rows that hold, as expressions
 rows-hold : (rows : List Form) (z : List ℤ) → AreMet (at z) rows → RowsHoldAt (map form_expression rows) z
 rows-hold [] z all = tt
 rows-hold (f ∷ rows) z (first, others) =
     (subst (λ (v : ℤ). pos 0 ≤ℤ v) (sym (expression-value f z)) first, rows-hold rows z others)
 
--- new values
+-- the new values as expressions have the values of the forms
 new_values-values : (new_values : List Form) (z : List ℤ)
     → map (λ t. value t z) (map form_expression new_values) ≡ map (λ f. form_value f (at z) (pos 1)) new_values
 new_values-values [] z = refl
@@ -61,7 +61,7 @@ new_values-values (f ∷ new_values) z =
     ap (λ (v : ℤ). v ∷ map (λ t. value t z) (map form_expression new_values)) (expression-value f z)
     ∙ ap (λ (vs : List ℤ). form_value f (at z) (pos 1) ∷ vs) (new_values-values new_values z)
 
--- the rows of a valid program are true of each step
+-- the prepared rows and new values of a valid program are true of each step
 pub rows-are-ground : StepsArePoints → (p : Program) (is_safe : Term → Bool) → IsValid p
     → IsTrueGround (ground_of p is_safe)
 rows-are-ground points p is_safe valid = record { each = each }

@@ -1,4 +1,4 @@
--- Lemmas that none is refused state what holds, on valid programs.
+-- If no lemma on a valid program is refused, the facts of all hold.
 use Rattle.std.proofs.Common.{List, [], ◌∷◌, map}
 use Rattle.std.specs.List.{AllByRecursion}
 use Rattle.guard_prep.specs.model.Programs.{Program}
@@ -10,7 +10,7 @@ use Rattle.potential_nodes.specs.Acceptance.{AcceptedLemmasHold}
 use Rattle.potential_ground.specs.RowTerms.{RowsAreTrueGround, ground_of}
 use Rattle.potential_ground.specs.Whole.{AcceptedPotentialsHold}
 
--- facts that hold do so as signed ones
+-- facts that hold do so as signed facts
 all-signed : PlainFactsHold → (p : Program) (facts : List Fact) → AllByRecursion (λ fact. Holds p fact) facts
     → AllSignedHold p (map (signed_fact p) facts)
 all-signed plain p [] h = tt

@@ -1,4 +1,4 @@
--- The lemmas that were worked out by hand, judged by computing.
+-- The worked lemmas, checked by computing.
 use Rattle.std.proofs.Common.{refl}
 use Rattle.guard_prep.specs.Tightening.{divisor_of}
 use Rattle.potential_ground.specs.WorkedCounters.{ThreeCountersAreBounded}

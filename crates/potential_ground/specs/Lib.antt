@@ -1,6 +1,6 @@
 -- the rows and the new values of rules as expressions
 pub mod RowTerms
--- values that were worked out by hand
+-- worked values
 pub mod Worked
 pub mod WorkedParts
 pub mod WorkedCounters

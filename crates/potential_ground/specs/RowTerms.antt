@@ -1,4 +1,4 @@
--- The rows and the new values of a program's rules as expressions, and that they are true of each step.
+-- The rows and the new values of a program's rules as expressions, which are true of each step.
 use Rattle.std.specs.Prelude.{◌≡◌, ℕ, suc, ◌+◌, Bool, List, [], ◌∷◌, map, ℤ, pos, Option, Some, None}
 use Rattle.guard_prep.specs.model.Terms.{Term, Literal, Variable, Addition, Multiplication, value}
 use Rattle.guard_prep.specs.model.Programs.{Program, Rule, rule_at, arity_of}
@@ -16,7 +16,7 @@ coefficients_term i (a ∷ coefs) = Addition (Multiplication (Literal a) (Variab
 abbrev pub form_expression : Form → Term
 form_expression f = Addition (coefficients_term 0 f.coefs) (Literal f.constant)
 
--- the rows, the new values and the number of variables of the rule with a number; where there is none, nothing
+-- the rows, the new values and the number of variables of the rule with a number; none if there is no such rule
 abbrev pub row_terms : Option Rule → List Term
 row_terms None = []
 row_terms (Some r) = map form_expression (rows_of r)
@@ -29,7 +29,7 @@ abbrev pub variable_count : Option Rule → ℕ
 variable_count None = 0
 variable_count (Some r) = r.left + r.free
 
--- what the prepared rows say of the steps of a program
+-- the rows and new values over which lemmas on a program are checked: the prepared ones
 abbrev pub ground_of : Program → (Term → Bool) → Ground
 ground_of p is_safe = record {
   program = p;
@@ -40,8 +40,8 @@ ground_of p is_safe = record {
   is_safe = is_safe;
 }
 
--- a form as an expression has the form's value, and what the rows of a valid program say is true of each step of each
--- run
+-- a form as an expression has the form's value, and the rows and new values of a valid program are true of each step of
+-- each run
 pub record RowsAreTrueGround : Type 0 where
   pub values : (f : Form) (z : List ℤ) → value (form_expression f) z ≡ form_value f (at z) (pos 1)
   pub ground : (p : Program) (is_safe : Term → Bool) → IsValid p → IsTrueGround (ground_of p is_safe)

@@ -1,4 +1,4 @@
--- The whole: of a valid program, lemmas that none is refused state what holds on all runs.
+-- Lemmas on a valid program, checked over its prepared rows, state facts that hold on all runs.
 use Rattle.std.specs.Prelude.{◌≡◌, List, None, map}
 use Rattle.std.specs.List.{AllByRecursion}
 use Rattle.guard_prep.specs.model.Programs.{Program}
@@ -11,7 +11,7 @@ use Rattle.potential_nodes.specs.SignedNodes.{SignedLemma}
 use Rattle.potential_nodes.specs.Acceptance.{facts_after, first_refusal}
 use Rattle.potential_ground.specs.RowTerms.{ground_of}
 
--- for a valid program and facts over absolute start values that hold of it: where no lemma behind these facts is refused
+-- for a valid program and facts over absolute start values that hold of it: if no lemma after these facts is refused
 -- over the program's prepared rows, the facts of all lemmas hold, too
 abbrev pub AcceptedPotentialsHold : Type 0
 AcceptedPotentialsHold = (p : Program) (facts : List Fact) (lemmas : List SignedLemma) → IsValid p

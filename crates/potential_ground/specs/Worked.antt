@@ -1,4 +1,4 @@
--- Rows and new values as expressions, worked out by hand.
+-- Worked values of rows and new values as expressions.
 use Rattle.std.specs.Prelude.{◌≡◌, [], ◌∷◌, pos, negsuc, Some, None, map}
 use Rattle.guard_prep.specs.model.Terms.{value}
 use Rattle.guard_prep.specs.WorkedRows.{two}
@@ -6,8 +6,8 @@ use Rattle.guard_prep.specs.WorkedPoints.{worked_rule}
 use Rattle.potential_ground.specs.RowTerms.{form_expression, row_terms, new_terms, variable_count}
 
 -- 2*x - y + 3 at (4, 5), and at (4), where y is 0; the rule l0(A) -> l1(A - B, A*A) where A >= 1 and A*A >= B: at 3, 2
--- and the square 9 its row A - 1 is 2, and its new values are 1 and 9; it has two variables; where there is no rule
--- there is nothing
+-- and the square 9 its row A - 1 is 2, and its new values are 1 and 9; it has two variables; a rule that doesn't exist
+-- has no rows and no new values
 pub record GroundsAreWorkedOut : Type 0 where
   pub form : value (form_expression (two (pos 2) (negsuc 0) (pos 3))) (pos 4 ∷ pos 5 ∷ []) ≡ pos 6
   pub missing : value (form_expression (two (pos 2) (negsuc 0) (pos 3))) (pos 4 ∷ []) ≡ pos 11

@@ -1,4 +1,4 @@
--- Three counters, each of which feeds the next one: constant gains, one after the other.
+-- A worked example with three counters, each of which feeds the next one: constant gains, one after the other.
 use Rattle.std.specs.Prelude.{◌≡◌, ℕ, List, [], ◌∷◌, ℤ, pos, negsuc, Option, Some, None}
 use Rattle.guard_prep.specs.model.Terms.{Literal, Variable, Addition, Subtraction}
 use Rattle.guard_prep.specs.model.Programs.{Program, AtLeast, AtMost, MoreThan, Compare}
@@ -49,14 +49,14 @@ multiple n b = ProductOf (Part (Constant n) (Part b NoParts))
 abbrev pub at_both : List Monomial → List SymbolFunction
 at_both q = function 0 q ∷ function 1 q ∷ []
 
--- 3*[A] + 2*[B] + [C], and a number
+-- the total 3*[A] + 2*[B] + [C] plus a number, where [x] is the positive part of x
 abbrev pub total : ℕ → Signed
 total n = SumOf (Part (multiple 3 part_a) (Part (multiple 2 part_b) (Part part_c (Part (Constant n) NoParts))))
 
--- the lemmas: rule 1 occurs once, rule 2 at most [A] times, rule 3, as each step by rule 2 raises B by the gain, at most
--- [B] + [A] times, rule 4 likewise, the three loops together by three gains of 1, and all rules by adding up. The gain
--- and the lemma that bounds it, the denominator of rule 2's function, its multiplier, and the constant of the totals can
--- be others
+-- the lemmas: rule 1 occurs once; rule 2 at most [A] times; rule 3 at most [B] + [A] times, since each step by rule 2
+-- raises B by the gain; rule 4 likewise; the three loops together by three gains of 1; and all rules by adding up. The
+-- parameters are the gain and the lemma that bounds it, the denominator of rule 2's function, its multiplier, and the
+-- constant of the totals
 abbrev pub counter_lemmas : ℤ → Option ℕ → ℕ → ℕ → ℕ → List SignedLemma
 counter_lemmas gain cited den multiplier constant =
     falls (function 0 one_form ∷ []) 1 [] (pays 1 [] ∷ []) (Constant 1)
@@ -72,8 +72,8 @@ counter_lemmas gain cited den multiplier constant =
     ∷ composes (Add 6 3) (plus_three (multiple 2 part_a) part_b (Constant 1))
     ∷ composes (Add 7 4) (total constant) ∷ []
 
--- they are accepted, and the last one states 3*[A] + 2*[B] + [C] + 1 for all rules; each with one number changed is
--- refused at the lemma that it breaks
+-- the lemmas are accepted, and the last one states 3*[A] + 2*[B] + [C] + 1 for all rules; with one number changed they
+-- are refused at the lemma that the change breaks
 pub record ThreeCountersAreBounded : Type 0 where
   pub accepted : refused_first three_counters (counter_lemmas (pos 1) (Some 2) 1 1 1) ≡ None
   pub all_rules : numbered (stated (counter_lemmas (pos 1) (Some 2) 1 1 1)) 8

@@ -1,4 +1,5 @@
--- A lexicographic loop: functions that are set anew, with peaks of what they are set to.
+-- A worked example with a lexicographic loop: functions that are reset, with peaks of the values that they are reset
+-- to.
 use Rattle.std.specs.Prelude.{◌≡◌, ℕ, List, [], ◌∷◌, ℤ, pos, negsuc, Option, Some, None}
 use Rattle.guard_prep.specs.model.Terms.{Literal, Variable, Addition, Subtraction}
 use Rattle.guard_prep.specs.model.Programs.{Program, AtLeast, AtMost, MoreThan, Compare}
@@ -47,14 +48,15 @@ form_b = times (pos 1) 1 ∷ []
 abbrev pub form_c : Polynomial
 form_c = times (pos 1) 2 ∷ []
 
--- the total [A]*[C] + [A] + [B] and a number
+-- the total [A]*[C] + [A] + [B] plus a number
 abbrev pub total : ℕ → Signed
 total n = SumOf (Part product_a_c (Part part_a (Part part_b (Part (Constant n) NoParts))))
 
--- the lemmas: rule 1 occurs once and rule 2 at most [A] times; B before rule 1 is at most [B] and C before rule 2 at most
--- [C], so these come to at most [B] and [A]*[C] together; rule 3 lowers B, which rules 1 and 2 set anew; A before rule 1
--- comes to at most [A]; and all rules together by a function that rule 1 sets to A and that rule 3 raises by 1. The gain
--- of rule 2, the row of rule 3's floor, the function that covers C, and the constant of the total can be others
+-- the lemmas: rule 1 occurs once and rule 2 at most [A] times; B before rule 1 is at most [B] and C before rule 2 at
+-- most [C], so their sums are at most [B] and [A]*[C]; rule 3 lowers B, which rules 1 and 2 reset; the sum of A before
+-- rule 1 is at most [A]; and all rules together by a function that rule 1 resets to A and that rule 3 raises by 1. The
+-- parameters are the gain of rule 2, the row of rule 3's floor, the function that covers C, and the constant of the
+-- total
 abbrev pub lexicographic_lemmas : Polynomial → ℕ → Polynomial → ℕ → List SignedLemma
 lexicographic_lemmas gain row cover constant =
     falls (function 0 one_form ∷ []) 1 [] (pays 1 [] ∷ []) (Constant 1)
@@ -72,8 +74,8 @@ lexicographic_lemmas gain row cover constant =
     (gains 1 form_a (Some 9) ∷ keeps 2 ∷ gains 3 one_form (Some 7) ∷ [])
     (pays 1 [] ∷ pays 2 (OneRow 1 0 ∷ []) ∷ pays 3 (OneRow 1 0 ∷ []) ∷ []) (total constant) ∷ []
 
--- they are accepted, and the last one states [A]*[C] + [A] + [B] + 1 for all rules; each with one number changed is
--- refused at the lemma that it breaks
+-- the lemmas are accepted, and the last one states [A]*[C] + [A] + [B] + 1 for all rules; with one number changed they
+-- are refused at the lemma that the change breaks
 pub record LexicographicLoopsAreBounded : Type 0 where
   pub accepted : refused_first lexicographic (lexicographic_lemmas form_c 1 form_c 1) ≡ None
   pub third_rule : numbered (stated (lexicographic_lemmas form_c 1 form_c 1)) 7

@@ -1,4 +1,4 @@
--- Parts of worked lemmas: programs, moves, payments, lemmas of each kind, and how a list of lemmas is judged.
+-- Parts of the worked lemmas: programs, moves, payments, lemmas of each kind, and the results of checking a list.
 use Rattle.std.specs.Prelude.{ℕ, zero, suc, Bool, true, false, List, [], ◌∷◌, ℤ, Option, Some, None}
 use Rattle.guard_prep.specs.model.Terms.{Term}
 use Rattle.guard_prep.specs.model.Programs.{Name, Symbol, Atom, Rule, Program}
@@ -19,12 +19,12 @@ use Rattle.potential_ground.specs.RowTerms.{ground_of}
 abbrev pub product : ℤ → ℕ → ℕ → Monomial
 product z i j = record { coef = z; vars = i ∷ j ∷ [] }
 
--- the names A, B and C, so many of them
+-- the first n of the names A, B and C
 abbrev pub names_of : ℕ → List Name
 names_of (suc (suc zero)) = (65 ∷ []) ∷ (66 ∷ []) ∷ []
 names_of n = (65 ∷ []) ∷ (66 ∷ []) ∷ (67 ∷ []) ∷ []
 
--- a rule over so many places without free variables, from one symbol to another
+-- a rule over n places without free variables, from one symbol to another
 abbrev pub rule : ℕ → ℕ → ℕ → List Term → List Atom → Rule
 rule places source target updates guard = record {
   source = source;
@@ -37,7 +37,7 @@ rule places source target updates guard = record {
   cost = None;
 }
 
--- a symbol l0, l1, .. with so many places
+-- a symbol l0, l1, .. with n places
 abbrev pub symbol : ℕ → ℕ → Symbol
 symbol places digit = record { name = 108 ∷ digit ∷ []; arity = places }
 
@@ -63,7 +63,7 @@ abbrev pub function : ℕ → Polynomial → SymbolFunction
 function s q = record { symbol = s; form = q }
 
 -- moves: one that keeps the function without a gain, one with a certificate, one with a gain that a lemma bounds, one
--- that sets the function anew with a gain that a lemma bounds, and one without
+-- that resets the function with a gain that a lemma bounds, and one that resets it without
 abbrev pub keeps : ℕ → Move
 keeps t = record { rule = t; keeps = true; gain = []; cited = None; certificate = [] }
 
@@ -110,13 +110,13 @@ peaks functions moves rule form b = record {
 abbrev pub composes : Combination → Signed → SignedLemma
 composes n b = record { node = Combined n; bound = b }
 
--- the first lemma of a list that is refused over the rows of a program, and the facts of all lemmas
+-- the first lemma of a list that is refused over the rows of a program; and the facts of all lemmas
 abbrev pub refused_first : Program → List SignedLemma → Option Refusal
 refused_first p lemmas = first_refusal (ground_of p expands_to_squares) [] 1 lemmas
 
 abbrev pub stated : List SignedLemma → List SignedFact
 stated lemmas = facts_after [] lemmas
 
--- a refusal
+-- a refusal at a lemma, for a reason
 abbrev pub refused_at : ℕ → Reason → Option Refusal
 refused_at n reason = Some (record { number = n; reason = reason })

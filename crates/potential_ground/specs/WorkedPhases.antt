@@ -1,4 +1,4 @@
--- A loop of two phases: what the second function rises by is at most the first one.
+-- A worked example with two phases: the second function rises by at most the first one.
 use Rattle.std.specs.Prelude.{◌≡◌, ℕ, List, [], ◌∷◌, ℤ, pos, negsuc, Option, Some, None}
 use Rattle.guard_prep.specs.model.Terms.{Literal, Variable, Addition, Subtraction}
 use Rattle.guard_prep.specs.model.Programs.{Program, AtLeast, AtMost, MoreThan, Compare}
@@ -22,21 +22,21 @@ abbrev pub phase_change : Program
 phase_change = over_two_symbols 2 (rule 2 0 1 ((Variable 0) ∷ (Variable 1) ∷ []) []
     ∷ rule 2 1 1 ((Addition (Variable 0) (Variable 1)) ∷ (Subtraction (Variable 1) (Literal (pos 1))) ∷ []) (Compare (Variable 0) AtLeast (Literal (pos 1)) ∷ []) ∷ [])
 
--- B + 1, and A and a number, as polynomials
+-- B + 1, and A plus a number, as polynomials
 abbrev pub first_phase : Polynomial
 first_phase = times (pos 1) 1 ∷ number (pos 1) ∷ []
 
 abbrev pub second_phase : ℤ → Polynomial
 second_phase z = times (pos 1) 0 ∷ number z ∷ []
 
--- 2*[B + 1] and a root of a number times [A + z]
+-- 2*[B + 1], and the root of a number times [A + z]
 abbrev pub twice_first : Signed
 twice_first = ProductOf (Part (Constant 2) (Part (PositivePart first_phase) NoParts))
 
 abbrev pub root_of_second : ℕ → ℤ → Signed
 root_of_second n z = Root (ProductOf (Part (Constant n) (Part (PositivePart (second_phase z)) NoParts)))
 
--- 2*[B + 1] + root(n*[A + z]) and a number
+-- 2*[B + 1] + root(n*[A + z]) plus a number
 abbrev pub phases_bound : ℕ → ℤ → ℕ → Signed
 phases_bound n z constant = SumOf (Part twice_first (Part (root_of_second n z) (Part (Constant constant) NoParts)))
 
@@ -50,16 +50,16 @@ counted_in_phases second multiplier = record {
   counted = record { rule = 2; floor = OneRow multiplier 0 ∷ [] } ∷ [];
 }
 
--- the lemmas: rule 1 occurs once; rule 2 by two phases; and both. The number that the second function has beside A, the
--- multiplier of its floor, what stands under the root, and the constant of the total can be others
+-- the lemmas: rule 1 occurs once; a bound on rule 2 by two phases; and both rules. The parameters are the number that
+-- the second function adds to A, the multiplier of its floor, the number under the root, and the constant of the total
 abbrev pub phase_lemmas : ℤ → ℕ → ℕ → ℤ → ℕ → List SignedLemma
 phase_lemmas second multiplier factor under constant =
     falls (function 0 one_form ∷ []) 1 [] (pays 1 [] ∷ []) (Constant 1)
     ∷ record { node = InPhases (counted_in_phases second multiplier); bound = phases_bound factor under 1 }
     ∷ composes (Add 1 2) (phases_bound factor under constant) ∷ []
 
--- they are accepted, and the last one states 2*[B + 1] + root(2*[A - 1]) + 2 for both rules; each with one number changed
--- is refused at the lemma that it breaks
+-- the lemmas are accepted, and the last one states 2*[B + 1] + root(2*[A - 1]) + 2 for both rules; with one number
+-- changed they are refused at the lemma that the change breaks
 pub record PhaseChangesAreBounded : Type 0 where
   pub accepted : refused_first phase_change (phase_lemmas (pos 0) 1 2 (negsuc 0) 2) ≡ None
   pub all_rules : numbered (stated (phase_lemmas (pos 0) 1 2 (negsuc 0) 2)) 3

@@ -1,4 +1,4 @@
--- A loop that closes a gap from either side: a function that is at most 0 behind one of its rules.
+-- A worked example with a loop that closes a gap from either side: a function that is at most 0 after one of its rules.
 use Rattle.std.specs.Prelude.{◌≡◌, ℕ, List, [], ◌∷◌, ℤ, pos, negsuc, Option, Some, None}
 use Rattle.guard_prep.specs.model.Terms.{Literal, Variable, Addition, Subtraction}
 use Rattle.guard_prep.specs.model.Programs.{Program, AtLeast, AtMost, MoreThan, Compare}
@@ -38,7 +38,7 @@ part_up = PositivePart up
 abbrev pub part_down : Signed
 part_down = PositivePart down
 
--- the total 2*[B - A - 2] + [A - B - 2] and a number
+-- the total 2*[B - A - 2] + [A - B - 2] plus a number
 abbrev pub total : ℕ → Signed
 total n = SumOf (Part (ProductOf (Part (Constant 2) (Part part_up NoParts))) (Part part_down (Part (Constant n) NoParts)))
 
@@ -49,10 +49,10 @@ three_moves = keeps 1 ∷ gains 2 one_form (Some 4) ∷ gains 3 one_form (Some 5
 abbrev pub four_moves : List Move
 four_moves = keeps 1 ∷ gains 2 one_form (Some 4) ∷ gains 3 one_form (Some 5) ∷ keeps 4 ∷ []
 
--- the lemmas: rule 1 occurs once, and B - A - 2 before it is at most its positive part, so it comes to that; rule 2
--- lowers B - A - 2, which rule 1 sets, and which is at most 0 behind rule 3; rule 3 lowers A - B - 2, which rule 2
--- raises by 1; and all rules together. The number that rule 3 sets the function to, the gain of rule 2, the function at
--- the start, the constant of the total, and the last lemma's moves can be others
+-- the lemmas: rule 1 occurs once, and B - A - 2 before it is at most its positive part, so its sum is; rule 2 lowers B
+-- - A - 2, which rule 1 resets, and which is at most 0 after rule 3; rule 3 lowers A - B - 2, which rule 2 raises by 1;
+-- and all rules together. The parameters are the value that rule 3 resets the function to, the gain of rule 2, the
+-- function at the start, the constant of the total, and the last lemma's moves
 abbrev pub side_lemmas : Polynomial → ℤ → ℕ → ℕ → List Move → List SignedLemma
 side_lemmas reset gain first constant moves =
     falls (function 0 one_form ∷ []) 1 [] (pays 1 [] ∷ []) (Constant 1)
@@ -65,8 +65,8 @@ side_lemmas reset gain first constant moves =
     ∷ falls (function 0 (number (pos first) ∷ []) ∷ function 1 one_form ∷ function 2 [] ∷ []) 1 moves
     (pays 1 [] ∷ pays 2 [] ∷ pays 3 [] ∷ pays 4 [] ∷ []) (total constant) ∷ []
 
--- they are accepted, and the last one states 2*[B - A - 2] + [A - B - 2] + 2 for all rules; each with one number
--- changed is refused at the lemma that it breaks
+-- the lemmas are accepted, and the last one states 2*[B - A - 2] + [A - B - 2] + 2 for all rules; with one number
+-- changed they are refused at the lemma that the change breaks
 pub record TwoSidesAreBounded : Type 0 where
   pub accepted : refused_first two_sides (side_lemmas [] (pos 1) 2 2 four_moves) ≡ None
   pub all_rules : numbered (stated (side_lemmas [] (pos 1) 2 2 four_moves)) 6

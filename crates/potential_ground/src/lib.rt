@@ -1,5 +1,5 @@
-//! The rows of a program's rules, as they are prepared, as what is known of its steps. The functions here have no code:
-//! the contract of each is the law, or values that were worked out by hand.
+//! The prepared rows of a program's rules as the rows over which lemmas about potentials are checked. The functions
+//! here have no code: the contract of each is a law, or values that were worked out by hand.
 #![tactic(auto)]
 
 ghost use Rattle.potential_ground.specs.RowTerms.{RowsAreTrueGround};
@@ -18,12 +18,12 @@ pub fn rows_are_true_ground()
     guard_prep::steps_are_points();
 }
 
-/// Rows and new values as expressions are what was worked out by hand.
+/// Worked values of rows and new values as expressions.
 pub fn grounds_are_as_worked_out()
     ensures { GroundsAreWorkedOut }
 {}
 
-/// For a valid program and facts that hold of it: where no lemma behind these facts is refused over the program's prepared
+/// For a valid program and facts that hold of it: if no lemma after these facts is refused over the program's prepared
 /// rows, the facts of all lemmas hold on all its runs.
 pub fn accepted_potentials_hold()
     ensures { AcceptedPotentialsHold }
@@ -34,9 +34,9 @@ pub fn accepted_potentials_hold()
     potential_nodes::accepted_lemmas_hold();
 }
 
-/// Five programs with all lemmas that bound how often their rules occur, over their own rows: the lists are accepted, their
-/// last lemma states the total, and each list with one number changed is refused at the lemma that it breaks, for the
-/// reason, that was worked out by hand.
+/// Worked values: five programs with lemmas that bound how often their rules occur, over their own prepared rows. The
+/// lists of lemmas are accepted, and their last lemma states the total; each list with one number changed is refused at
+/// the lemma that the change breaks, for the stated reason.
 pub fn lemmas_are_as_worked_out()
     ensures counters { ThreeCountersAreBounded }
     ensures lexicographic { LexicographicLoopsAreBounded }

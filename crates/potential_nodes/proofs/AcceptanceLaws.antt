@@ -1,4 +1,4 @@
--- Accepted lemmas state what holds.
+-- Accepted lemmas state facts that hold.
 use Rattle.std.proofs.Common.{◌≡◌, ℕ, suc, ◌+◌, List, [], ◌∷◌, ◌++◌, length, Option, Some, None, refl, sym, ap, ◌∙◌}
 use Rattle.std.proofs.Common.{arith}
 use Rattle.potentials.specs.model.Programs.{Program}
@@ -25,7 +25,7 @@ use Rattle.potential_nodes.proofs.PlainPeakLaws.{row-holds, sized-holds}
 use Rattle.potential_nodes.specs.PhaseNodes.{phases_checks}
 use Rattle.potential_nodes.proofs.PhaseNodeLaws.{phases-sound}
 
--- an accepted node states what holds
+-- the fact of an accepted node holds
 node-holds : WithinHolds → (g : Ground) (facts : List SignedFact) (n : SignedNode) (b : Signed) → IsTrueGround g
     → IsSafe g.is_safe → AllSignedHold g.program facts → first_refused (node_checks g facts n b) ≡ None
     → HoldsSigned g.program (node_fact facts n b)
@@ -45,13 +45,13 @@ accepted-nodes within_holds g facts l ground safe hold h =
     node-holds within_holds g facts l.node l.bound ground safe hold
     (none-refused (node_checks g facts l.node l.bound) (all-hold (lemma_checks g facts l) h).1)
 
--- facts and one more
+-- if some facts and one more hold, all of them hold
 hold-more : (p : Program) (facts : List SignedFact) (fact : SignedFact) → AllSignedHold p facts → HoldsSigned p fact
     → AllSignedHold p (facts ++ fact ∷ [])
 hold-more p [] fact hold holds = (holds, tt)
 hold-more p (f ∷ facts) fact (first, others) holds = (first, hold-more p facts fact others holds)
 
--- where nothing is refused all facts hold
+-- if no lemma is refused, all facts hold
 pub accepted-lemmas : WithinHolds → AcceptedLemmasHold
 accepted-lemmas within_holds g facts n [] ground safe hold h = hold
 accepted-lemmas within_holds g facts n (l ∷ lemmas) ground safe hold h =
@@ -67,7 +67,7 @@ accepted-lemmas within_holds g facts n (l ∷ lemmas) ground safe hold h =
     go None e k ih = ih (hold-more g.program facts (fact_of facts l) hold (accepted-nodes within_holds g facts l ground safe hold e)) k
     go (Some r) e k ih = absurd (some_none (record { number = n; reason = r }) k)
 
--- where nothing is refused each lemma is accepted
+-- if no lemma is refused, each is accepted
 accepts : (g : Ground) (facts : List SignedFact) (n : ℕ) (lemmas : List SignedLemma)
     → first_refusal g facts n lemmas ≡ None → AreAccepted g facts lemmas
 accepts g facts n [] h = tt
@@ -82,7 +82,7 @@ accepts g facts n (l ∷ lemmas) h =
     go None e k ih = (e, ih k)
     go (Some r) e k ih = absurd (some_none (record { number = n; reason = r }) k)
 
--- and where each is accepted nothing is refused
+-- if each lemma is accepted, none is refused
 accepted : (g : Ground) (facts : List SignedFact) (n : ℕ) (lemmas : List SignedLemma)
     → AreAccepted g facts lemmas → first_refusal g facts n lemmas ≡ None
 accepted g facts n [] h = refl

@@ -12,7 +12,7 @@ use Rattle.signed_bounds.specs.Within.{within, WithinHolds}
 use Rattle.potential_nodes.specs.Facts.{SignedFact, SumFact, PeakFact, SizeFact, HoldsSigned}
 use Rattle.potential_nodes.specs.Combinations.{with_other_bound, bound_of}
 
--- a bound within another one, taken once, is at most that
+-- if a bound is within another one, its value is at most the other's
 pub within-above : WithinHolds → (is_safe : Term → Bool) → IsSafe is_safe → (a b : Signed)
     → within is_safe 1 a b ≡ true → (start : List ℤ) → signed_val a start ≤ signed_val b start
 within-above within_holds is_safe safe a b test start =

@@ -12,7 +12,7 @@ use Rattle.potential_nodes.specs.Certificates.{all_opposite, shows, RowsHoldAt, 
 use Rattle.potential_nodes.proofs.LookupLaws.{both-hold}
 
 module _ (is_safe : Term → Bool) (safe : IsSafe is_safe) (rows : List Term) (z : List ℤ) where
-  -- a row that is there is at least 0, and one that isn't is 0
+  -- a row of the list is at least 0, and a row that doesn't exist is 0
   row-holds : (rows : List Term) → RowsHoldAt rows z → (i : ℕ) → pos 0 ≤ℤ value (term_at rows i) z
   row-holds [] hold i = omega (arith, ints)
   row-holds (r ∷ rows) (first, others) zero = first
@@ -42,7 +42,7 @@ module _ (is_safe : Term → Bool) (safe : IsSafe is_safe) (rows : List Term) (z
       at_least : (a : ℤ) → a ≡ pos 0 → pos 0 ≤ℤ a
       at_least a e = omega (arith, ints)
 
-  -- what is left of a goal is at most the goal
+  -- a goal minus the summands is at most the goal
   pub goal-holds : RowsHoldAt rows z → (summands : List Summand) (goal : Term)
       → all_opposite is_safe rows summands ≡ true → pos 0 ≤ℤ value (rest rows summands goal) z
       → pos 0 ≤ℤ value goal z

@@ -1,9 +1,9 @@
--- Checks that all hold.
+-- Checks that all hold, and the first that fails.
 use Rattle.std.proofs.Common.{◌≡◌, Bool, true, false, List, [], ◌∷◌, Some, None, refl, ap}
 use Rattle.potentials.proofs.model.Cases.{none_some, some_none, some_same}
 use Rattle.potential_nodes.specs.Checks.{Reason, Check, first_refused, AllHold, IsFirstFailure, RefusalsAreFailures}
 
--- where no check is refused all hold
+-- if no check is refused, all hold
 pub all-hold : (checks : List Check) → first_refused checks ≡ None → AllHold checks
 all-hold [] h = tt
 all-hold (c ∷ checks) h = go c.holds refl (λ k. all-hold checks k)
@@ -12,7 +12,7 @@ all-hold (c ∷ checks) h = go c.holds refl (λ k. all-hold checks k)
     go true e ih = (e, ih (rw e at h))
     go false e ih = absurd (some_none c.reason (rw e at h))
 
--- and where all hold none is refused
+-- if all checks hold, none is refused
 pub none-refused : (checks : List Check) → AllHold checks → first_refused checks ≡ None
 none-refused [] h = refl
 none-refused (c ∷ checks) (first, others) = rw first (none-refused checks others)

@@ -26,12 +26,12 @@ use Rattle.potential_nodes.proofs.LookupLaws.{both-hold, all-numbered}
 use Rattle.potential_nodes.proofs.FactLaws.{same_charge-is, same_charges-is, same_polynomial-is, sum_bound-holds, peak_bound-holds}
 use Rattle.potential_nodes.proofs.BoundLaws.{within-above, fact-above}
 
--- the charges of two lists
+-- the charges of two lists joined are the sum of their charges
 pub charges-append : (cs ds : List Charge) (t : ℕ) (env : List ℤ) → charges (cs ++ ds) t env ≡ charges cs t env + charges ds t env
 charges-append [] ds t env = omega arith
 charges-append (c ∷ cs) ds t env = let others = charges-append cs ds t env in omega (arith, others)
 
--- charges are one of them and the others
+-- the charges of a list are one of them and those of the others
 without-charge : (c : Charge) (ds rest : List Charge) → without_charge c ds ≡ Some rest → (t : ℕ) (env : List ℤ)
     → charges ds t env ≡ charge_at c t env + charges rest t env
 without-charge c [] rest h t env = absurd (none_some _ h)
@@ -56,7 +56,7 @@ without-charge c (d ∷ ds) rest h t env = go (same_charge c d) refl (without_ch
         omega (arith, first, same)
     go false e o f k ih = by_rest o f (rw (e, f) at k) ih
 
--- charges that are among others come to no more
+-- charges that are among others add up to at most the others
 among-less : (cs ds : List Charge) → are_among cs ds ≡ true → (t : ℕ) (env : List ℤ) → charges cs t env ≤ charges ds t env
 among-less [] ds h t env = omega arith
 among-less (c ∷ cs) ds h t env = go (without_charge c ds) refl h (λ rest k. among-less cs rest k t env)
@@ -71,12 +71,12 @@ among-less (c ∷ cs) ds h t env = go (without_charge c ds) refl h (λ rest k. a
         let less = ih rest k in
         omega (arith, is, less)
 
--- the lesser of two numbers doesn't rest on their order
+-- the lesser of two numbers doesn't depend on their order
 min-swapped : (a b : ℕ) → min a b ≤ min b a
 min-swapped a b = le-min (min-le_right a b) (min-le_left a b)
 
 module _ (p : Program) where
-  -- the sum of a form by a time and a peak
+  -- the fact composed of a time and a peak holds
   product-holds : (rule : ℕ) (form : Polynomial) (often high : Signed)
       → HoldsSum p (charges (once_charge rule ∷ [])) (signed_val often)
       → HoldsPeak p rule (λ env. polynomial_value form env) (signed_val high)
@@ -109,7 +109,7 @@ module _ (p : Program) where
           go true e = rw e (rw (swapped t ∙ e) (omega arith))
           go false e = rw e (rw (swapped t ∙ e) (omega arith))
 
-  -- the lesser of two bounds
+  -- the fact with the lesser of two bounds holds
   least-holds : (a b : SignedFact) (fact : SignedFact) → least_fact (Some a) (Some b) ≡ Some fact → HoldsSigned p a
       → HoldsSigned p b → HoldsSigned p fact
   least-holds (SumFact goal a) (SumFact goal' b) fact h one two = go (same_charges goal goal') refl h
@@ -143,7 +143,7 @@ module _ (p : Program) where
   least-holds (PeakFact rule form a) (SizeFact rule' place b) fact h one two = absurd (none_some _ h)
   least-holds (SizeFact rule place a) b fact h one two = absurd (none_some _ h)
 
-  -- two sums together
+  -- the fact on two sums together holds
   added-holds : (a b : SignedFact) (fact : SignedFact) → added_fact (Some a) (Some b) ≡ Some fact → HoldsSigned p a
       → HoldsSigned p b → HoldsSigned p fact
   added-holds (SumFact goal a) (SumFact goal' b) fact h one two =
@@ -159,7 +159,7 @@ module _ (p : Program) where
   added-holds (PeakFact rule form a) b fact h one two = absurd (none_some _ h)
   added-holds (SizeFact rule place a) b fact h one two = absurd (none_some _ h)
 
-  -- charges among those of a sum
+  -- the fact on charges that are among those of a sum holds
   among-holds : (goal : List Charge) (a : SignedFact) (fact : SignedFact) → among_fact goal (Some a) ≡ Some fact
       → HoldsSigned p a → HoldsSigned p fact
   among-holds goal (SumFact goal' a) fact h one = go (are_among goal goal') refl h
@@ -174,7 +174,7 @@ module _ (p : Program) where
   among-holds goal (SizeFact rule place a) fact h one = absurd (none_some _ h)
 
   module _ (facts : List SignedFact) (hold : AllSignedHold p facts) where
-    -- a fact of a lemma
+    -- the fact of a cited lemma holds
     lemma-holds : (n : ℕ) (fact : SignedFact) → numbered facts n ≡ Some fact → HoldsSigned p fact
     lemma-holds n fact e = all-numbered (λ x. HoldsSigned p x) facts n fact e hold
 
@@ -215,7 +215,7 @@ module _ (p : Program) where
         go (Some x) e k = among-holds goal x fact k (lemma-holds a x e)
         go None e k = absurd (none_some _ k)
 
--- what is stated of composed facts holds
+-- the stated fact of accepted composed facts holds
 pub combination-holds : WithinHolds → (g : Ground) (facts : List SignedFact) (n : Combination) (b : Signed)
     → IsSafe g.is_safe → AllSignedHold g.program facts → AllHold (combination_checks g facts n b)
     → HoldsSigned g.program (combination_fact facts n b)

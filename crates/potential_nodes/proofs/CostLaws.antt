@@ -1,4 +1,4 @@
--- What the steps of a rule are charged for its cost is what they spend.
+-- The charge of a rule's cost over its steps is the rule's spending.
 use Rattle.std.proofs.Common.{◌≡◌, ◌≢◌, ◌⊎◌, inl, inr, ℕ, ◌==◌, true, false, List, [], ◌∷◌, Option, Some, None}
 use Rattle.std.proofs.Common.{refl, sym, ap, ◌∙◌, arith}
 use Rattle.std.specs.Prelude.{ℤ}
@@ -12,7 +12,7 @@ use Rattle.potentials.specs.model.Spending.{or_zero, cost_at, cost_by, step_cost
 use Rattle.potentials.specs.Sums.{charges, weighed, variables_at}
 use Rattle.potential_nodes.specs.Costs.{cost_form, cost_form_in, cost_charge}
 
--- the polynomial of a cost has its value, and that of a rule the value of the rule's cost
+-- the polynomial of a cost has the value of the cost, and that of a rule the value of the rule's cost
 pub cost_form-value : (cost : Option Term) (env : List ℤ) → cost_at cost env ≡ or_zero (polynomial_value (cost_form cost) env)
 cost_form-value None env = refl
 cost_form-value (Some c) env = ap or_zero (sym (expanded-value c env))
@@ -21,7 +21,7 @@ pub cost_form_in-value : (o : Option Rule) (env : List ℤ) → cost_by o env �
 cost_form_in-value None env = refl
 cost_form_in-value (Some r) env = cost_form-value r.cost env
 
--- a rule's steps are charged what they spend
+-- the charge of a rule's cost over its steps is the rule's spending
 pub spent-charged : (p : Program) (t : ℕ) (start : List ℤ) (steps : List Step)
     → weighed p (charges (cost_charge p t ∷ [])) start steps ≡ spent p t start steps
 spent-charged p t start [] = refl

@@ -1,4 +1,4 @@
--- What a cited lemma says.
+-- The facts of cited lemmas hold.
 use Rattle.std.proofs.Common.{◌≡◌, ℕ, zero, suc, ◌==◌, Bool, true, false, List, [], ◌∷◌, Option, Some, None}
 use Rattle.std.proofs.Common.{refl, sym, ◌∙◌, ap, subst, arith}
 use Rattle.std.specs.Prelude.{ℤ, ◌&&◌, ◌||◌, if◌then◌else◌}
@@ -19,7 +19,7 @@ use Rattle.potential_nodes.specs.Facts.{same_variables, same_polynomial, same_ch
 use Rattle.potential_nodes.specs.Facts.{peak_bound_in, once_charge, says_never, is_never}
 use Rattle.potential_nodes.proofs.LookupLaws.{both-hold, all-numbered}
 
--- lists that the test finds equal are equal
+-- lists of variables, polynomials and charges that the tests find equal are equal
 pub same_variables-is : (vs ws : List ℕ) → same_variables vs ws ≡ true → vs ≡ ws
 same_variables-is [] [] h = refl
 same_variables-is [] (w ∷ ws) h = absurd (true≢false (sym h))
@@ -57,7 +57,7 @@ same_charges-is (c ∷ cs) (d ∷ ds) h =
     ∙ ap (λ (xs : List Charge). d ∷ xs) (same_charges-is cs ds both.1)
 
 module _ (p : Program) (facts : List SignedFact) (hold : AllSignedHold p facts) where
-  -- a lemma that states the sum of charges
+  -- the bound that a cited lemma states on a sum of charges holds
   pub sum_bound-holds : (goal : List Charge) (n : ℕ) (b : Signed) → sum_bound facts goal n ≡ Some b
       → HoldsSum p (charges goal) (signed_val b)
   sum_bound-holds goal n b h = go (numbered facts n) refl h
@@ -78,7 +78,7 @@ module _ (p : Program) (facts : List SignedFact) (hold : AllSignedHold p facts) 
       go (Some (PeakFact rule form b')) e k = absurd (none_some b k)
       go (Some (SizeFact rule place b')) e k = absurd (none_some b k)
 
-  -- a lemma that states the peak of a form
+  -- the bound that a cited lemma states on the peak of a form holds
   pub peak_bound-holds : (rule : ℕ) (form : Polynomial) (n : ℕ) (b : Signed) → peak_bound facts rule form n ≡ Some b
       → HoldsPeak p rule (λ env. polynomial_value form env) (signed_val b)
   peak_bound-holds rule form n b h = go (numbered facts n) refl h
@@ -112,7 +112,7 @@ no-step p t sum start c s d step same =
     omega (arith, most, one)
 
 module _ (p : Program) (t : ℕ) where
-  -- a fact that says so
+  -- if a fact says that a rule never occurs, the sum of 1 for each of its steps is at most 0
   fact-never : (fact : SignedFact) → says_never t fact ≡ true → HoldsSigned p fact
       → HoldsSum p (charges (once_charge t ∷ [])) (signed_val (Constant 0))
   fact-never (SumFact goal (Constant zero)) h fact =
@@ -122,7 +122,7 @@ module _ (p : Program) (t : ℕ) where
   fact-never (PeakFact rule form b) h fact = absurd (true≢false (sym h))
   fact-never (SizeFact rule place b) h fact = absurd (true≢false (sym h))
 
-  -- and one of a list
+  -- if some fact of a list says that a rule never occurs, the sum of 1 for each of its steps is at most 0
   never-holds : (facts : List SignedFact) → AllSignedHold p facts → is_never facts t ≡ true
       → HoldsSum p (charges (once_charge t ∷ [])) (signed_val (Constant 0))
   never-holds [] hold h = absurd (true≢false (sym h))
@@ -134,7 +134,7 @@ module _ (p : Program) (t : ℕ) where
       go true e k ih = fact-never fact e first
       go false e k ih = ih k
 
-  -- so a rule that never occurs takes no step
+  -- if some fact of a list says that a rule never occurs, no run takes a step by it
   pub never-steps : (facts : List SignedFact) → AllSignedHold p facts → is_never facts t ≡ true → (start : List ℤ)
       (c : Config) (s : Step) (d : Config) → IsTaken p start c s d → s.rule ≡ t → ⊥
   never-steps facts hold h start c s d step same = no-step p t (never-holds facts hold h) start c s d step same

@@ -1,4 +1,4 @@
--- What signed facts say of runs.
+-- What signed facts mean for runs.
 use Rattle.std.proofs.Common.{◌≡◌, ◌≢◌, ◌⊎◌, inl, inr, ◌≤◌, ◌<◌, ◌+◌, ℕ, zero, suc, ◌==◌, true, false, List, [], ◌∷◌}
 use Rattle.std.proofs.Common.{◌++◌, length, map, Option, Some, None, refl, sym, ap, ◌∙◌, subst, arith}
 use Rattle.std.specs.Prelude.{ℤ, pos, negsuc, neg_ℤ, ◌≤ℤ◌, slice_get, slice_index_or, nat_abs, max}
@@ -20,7 +20,7 @@ use Rattle.potential_nodes.specs.Facts.{SignedFact, SumFact, PeakFact, SizeFact,
 use Rattle.potential_nodes.specs.FactMeanings.{once_charges, HasUpdate, HasCost, FactsBoundRuns}
 use Rattle.potential_nodes.proofs.PlainFactLaws.{once-counted}
 
--- how often a rule occurs is at most the sum of 1 for each of its steps
+-- a rule occurs at most as often as the sum of 1 for each of its steps
 counted-once : (p : Program) (t : ℕ) → t ≢ 0 → (start : List ℤ) (steps : List Step)
     → count t steps ≤ weighed p (charges (once_charge t ∷ [])) start steps
 counted-once p t other start [] = let none = one_if_same-other 0 t (λ e. other (sym e)) in omega (arith, none)
@@ -33,7 +33,7 @@ counted-once p t other start (s ∷ earlier) = go (eqb_tells t s.rule) (counted-
     go (inr (test, different)) ih =
         let none = one_if_same-other s.rule t (λ e. different (sym e)) in rw test (omega (arith, ih, none))
 
--- a step by one of the rules is charged at least 1
+-- the charge of a step by one of these rules is at least 1
 charged-once : (t n u : ℕ) (env : List ℤ) → t ≤ u → u < t + n → 1 ≤ charges (once_charges t n) u env
 charged-once t zero u env low high = absurd (omega arith)
 charged-once t (suc n) u env low high = go (eqb_tells t u) (λ h. charged-once (suc t) n u env h (omega arith))
@@ -65,7 +65,7 @@ length-charged p start (s ∷ earlier) c (b, run, step) =
     let others = length-charged p start earlier b run in
     omega (arith, one, others)
 
--- what the steps of a rule spend is the sum of a polynomial with its cost's value
+-- the spending of a rule is the sum of a polynomial that has the value of the rule's cost
 spent-charged : (p : Program) (t : ℕ) (cost : Term) (form : Polynomial) → HasCost p t cost → HasTheValueOf cost form
     → (start : List ℤ) (steps : List Step)
     → spent p t start steps ≤ weighed p (charges (record { rule = t; form = form } ∷ [])) start steps
@@ -101,14 +101,14 @@ spent-charged p t cost form has is start (s ∷ earlier) =
     go (inr (test, other)) (inl (test', same)) ih = absurd (other (sym same))
     go (inr (test, other)) (inr (test', other')) ih = rw test (rw test' (omega (arith, ih)))
 
--- an element of a mapped list
+-- the element at a position of a mapped list is the image of that at the position
 map-at : (f : Term → ℤ) (us : List Term) (i : ℕ) (u : Term) → slice_get us i ≡ Some u
     → slice_index_or (map f us) i (pos 0) ≡ f u
 map-at f [] i u h = absurd (none_some u h)
 map-at f (v ∷ us) zero u h = ap f (some_same v u h)
 map-at f (v ∷ us) (suc i) u h = map-at f us i u h
 
--- the value at a place behind a step is that of the rule's update
+-- the value at a place after a step is that of the rule's update
 value-behind : (p : Program) (t i : ℕ) (u : Term) → HasUpdate p t i u → (start : List ℤ) (s : Step)
     (earlier : List Step) (c : Config) → IsRun p start (s ∷ earlier) c → s.rule ≡ t
     → place_value c (suc i) ≡ value u (variables_at p start s earlier)
@@ -121,7 +121,7 @@ value-behind p t i u has start s earlier c (b, run, step) same =
     ∙ map-at (λ w. value w (b.values ++ s.free)) step.rule.updates i u update
     ∙ ap (value u) (variables-are p start s earlier b run)
 
--- an integer that is at most a, and its opposite at most b, is by its absolute value at most the greater
+-- the absolute value of an integer is at most the greater of a and b, if it is at most a, and its negation at most b
 abs-le : (z : ℤ) (a b : ℕ) → z ≤ℤ pos a → neg_ℤ z ≤ℤ pos b → nat_abs z ≤ max a (max b 0)
 abs-le (pos n) a b h k = omega (arith, ints)
 abs-le (negsuc n) a b h k = omega (arith, ints)

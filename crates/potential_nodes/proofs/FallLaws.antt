@@ -1,4 +1,4 @@
--- An accepted node that pays for charges.
+-- An accepted node that pays for charges is sound.
 use Rattle.std.proofs.Common.{◌≡◌, ◌≢◌, ◌⊎◌, inl, inr, ℕ, ◌+◌, ◌<◌, ◌≤◌, ◌==◌, Bool, true, false, List, [], ◌∷◌, ◌++◌, Option, Some, None}
 use Rattle.std.proofs.Common.{refl, sym, ap, subst, arith, map}
 use Rattle.std.specs.Prelude.{ℤ, pos, negsuc, ◌*ℤ◌, ◌≤ℤ◌, nat_lt, if◌then◌else◌}
@@ -35,12 +35,12 @@ use Rattle.potential_nodes.proofs.FactLaws.{never-steps}
 use Rattle.potential_nodes.proofs.TableLaws.{TableHolds, table-holds, floor-holds, form-holds, source-has, moves-hold}
 use Rattle.potential_nodes.proofs.GainLaws.{HasGainBound, gains-bounded, potential-gains}
 
--- the positive part of a bound is that of the model
+-- the positive part in a signed bound is that of the model
 pub part-is : (z : ℤ) → positive_part z ≡ or_zero z
 part-is (pos n) = refl
 part-is (negsuc n) = refl
 
--- the bound of the start is the level there
+-- the bound of the start has the value of the level there
 pub start-is : (g : Ground) (tab : PotentialTable) (start : List ℤ)
     → signed_val (start_bound g tab) start ≡ first_level g.program (potential_of tab) start
 start-is g tab start = go (function_at tab g.program.start)
@@ -55,7 +55,7 @@ pub den-over_0 : (g : Ground) (tab : PotentialTable) (amounts : ℕ → Polynomi
     → TableHolds g tab amounts never → 1 ≤ tab.den
 den-over_0 g tab amounts never table = let one = table.den in grind (arith, nat_tests)
 
--- what is checked of a node that pays for charges
+-- the conditions that the checks of such a node ensure
 record FallHolds (g : Ground) (facts : List SignedFact) (n : FallNode) (b : Signed) : Type 0 where
   pub table : TableHolds g n.potential (amount_at n) (is_never facts)
   pub ascending : ascends (map payer n.payments) ≡ true
@@ -66,7 +66,7 @@ record FallHolds (g : Ground) (facts : List SignedFact) (n : FallNode) (b : Sign
   pub gains : AllByRecursion (λ m. (gain_check g m).holds ≡ true) n.potential.moves
   pub bound : within g.is_safe n.potential.den (fall_bound g facts n.potential) b ≡ true
 
--- from the list of checks
+-- if all checks hold, the conditions hold
 fall-holds : (g : Ground) (facts : List SignedFact) (n : FallNode) (b : Signed) → AllHold (fall_checks g facts n b)
     → FallHolds g facts n b
 fall-holds g facts n b all =
@@ -98,7 +98,7 @@ fall-holds g facts n b all =
       bound = eight.1.0;
     }
 
--- no rule of a list whose rules are all greater is charged
+-- if a rule is less than all rules of a list, its charge there is 0
 none-charged : (ys : List Payment) (n t : ℕ) (env : List ℤ) → t ≤ n → is_below_all n (map payer ys) ≡ true
     → charges (map payment_charge ys) t env ≡ 0
 none-charged [] n t env low h = refl
@@ -115,7 +115,7 @@ none-charged (y ∷ ys) n t env low h = go (eqb_tells y.rule t) (none-charged ys
     go (inl (test, same)) ih = absurd (omega (arith, above, low, same))
     go (inr (test, other)) ih = rw test (omega (arith, ih))
 
--- where rules ascend, each is charged its one amount
+-- if the rules of payments ascend, the charge of each is its one amount
 pub charges-are : (ys : List Payment) → ascends (map payer ys) ≡ true → (t : ℕ) (env : List ℤ)
     → charges (map payment_charge ys) t env ≡ or_zero (polynomial_value (amount_in (lookup payer t ys)) env)
 charges-are [] h t env = refl
@@ -133,7 +133,7 @@ charges-are (y ∷ ys) h t env = go (eqb_tells y.rule t) (charges-are ys both.1 
         rw test (omega (arith, none))
     go (inr (test, other)) ih = rw test (omega (arith, ih))
 
--- what is taken is the amount, 0 where there is no payment
+-- the amount that a step takes is that of the payment, 0 if there is no payment
 pub taken-is : (n : FallNode) (t : ℕ) (env : List ℤ) → taken (goal_of n) t env ≡ polynomial_value (amount_at n t) env
 taken-is n t env = go (payment_at n t)
   where
@@ -142,7 +142,7 @@ taken-is n t env = go (payment_at n t)
     go None = refl
     go (Some y) = refl
 
--- the amount of a rule reads its variables
+-- the amount of a rule reads the rule's variables alone
 pub payment-reads : (g : Ground) (tab : PotentialTable) (y : Payment) → (payment_shape g tab y).holds ≡ true
     → (has_function tab (source_in (rule_at g.program y.rule)) ≡ true) × (reads_below (g.variables y.rule) y.amount ≡ true)
 payment-reads g tab y h =
@@ -184,7 +184,7 @@ module _ (g : Ground) (facts : List SignedFact) (n : FallNode) (b : Signed) (gro
         amount = λ keeps has. subst (λ (z : ℤ). pos 0 ≤ℤ z) (sym is) positive;
       }
 
-  -- the potential pays
+  -- the potential of an accepted node pays
   fall-pays : AlwaysPays g.program (potential_of n.potential) n.potential.den (goal_of n)
   fall-pays start = record {
     moves = moves-hold g n.potential (amount_at n) (is_never facts) ground safe checked.table
@@ -193,7 +193,7 @@ module _ (g : Ground) (facts : List SignedFact) (n : FallNode) (b : Signed) (gro
     each = λ c s d step paid. payment-holds start c s d step paid;
   }
 
-  -- each gain has a bound
+  -- the sum of each gain has a bound
   gain-bounds : AllByRecursion (λ m. HasGainBound g facts m) n.potential.moves
   gain-bounds = all-weaker (λ (m : Move). ((sum_shape facts m).holds ≡ true) × ((gain_check g m).holds ≡ true)) (λ (m : Move). HasGainBound g facts m)
       (λ m both. record { cites = both.0; free = both.1 }) n.potential.moves
@@ -209,7 +209,7 @@ module _ (g : Ground) (facts : List SignedFact) (n : FallNode) (b : Signed) (gro
         (let first = start-is g n.potential start in omega (arith, low, first));
   }
 
-  -- the sum of the charges is bounded
+  -- the sum of the charges is at most the stated bound
   fall-sum : WithinHolds → HoldsSigned g.program (SumFact (charges_of n) b)
   fall-sum within_holds =
       let gained = potential-gains g.program n.potential (signed_sum (gain_parts facts n.potential.moves)) (gains-bounded g facts safe hold n.potential.moves gain-bounds) in

@@ -26,7 +26,7 @@ use Rattle.potential_nodes.proofs.LookupLaws.{is_there-some}
 use Rattle.potential_nodes.proofs.TermLaws.{form-value}
 use Rattle.potential_nodes.proofs.FactLaws.{sum_bound-holds}
 
--- a gain that is never over 0
+-- a gain that the test accepts as never over 0 is never over 0
 pub free-gain : (g : Ground) → IsSafe g.is_safe → (q : Polynomial) → g.is_safe (Negation (form_term q)) ≡ true
     → (env : List ℤ) → polynomial_value q env ≤ℤ pos 0
 free-gain g safe q h env = low _ _ (form-value q env) (safe.each (Negation (form_term q)) h env)
@@ -34,7 +34,7 @@ free-gain g safe q h env = low _ _ (form-value q env) (safe.each (Negation (form
     low : (x y : ℤ) → x ≡ y → pos 0 ≤ℤ neg_ℤ x → y ≤ℤ pos 0
     low x y e k = omega (arith, ints, e, k)
 
--- a charge that is never over 0
+-- a charge of a form that is never over 0 is 0
 free-charge : (c : Charge) → ((env : List ℤ) → polynomial_value c.form env ≤ℤ pos 0) → (t : ℕ) (env : List ℤ)
     → charge_at c t env ≡ 0
 free-charge c h t env = go (c.rule == t) refl
@@ -43,13 +43,13 @@ free-charge c h t env = go (c.rule == t) refl
     go true e = let low = or_zero-le (polynomial_value c.form env) 0 (h env) in rw e (omega (arith, low))
     go false e = rw e refl
 
--- the gain of a move has a bound: the lemma that it cites states it, or it is never over 0
+-- the sum of a move's gain has a bound: the cited lemma states one, or the gain is never over 0
 pub record HasGainBound (g : Ground) (facts : List SignedFact) (m : Move) : Type 0 where
   pub cites : cites_sum_by facts m m.cited ≡ true
   pub free : (is_there m.cited || g.is_safe (Negation (form_term m.gain))) ≡ true
 
 module _ (g : Ground) (facts : List SignedFact) (safe : IsSafe g.is_safe) (hold : AllSignedHold g.program facts) where
-  -- the sum of the gains of moves with bounds
+  -- the sum of all gains of moves with bounds is at most the sum of their bounds
   pub gains-bounded : (moves : List Move) → AllByRecursion (λ m. HasGainBound g facts m) moves
       → HoldsSum g.program (charges (map move_charge moves)) (signed_sum (gain_parts facts moves))
   gains-bounded [] all = zero-sum g.program (charges []) (λ t env. refl)
@@ -84,7 +84,7 @@ module _ (g : Ground) (facts : List SignedFact) (safe : IsSafe g.is_safe) (hold 
           (parts g.program (charges (map move_charge (m ∷ moves))) (charges (map move_charge moves)) (signed_sum (gain_parts facts moves))
           (λ t env. let zero = nothing t env in omega (arith, zero)) ih)
 
--- a move's gain is among the charges of all moves
+-- the gain of a move is among the charges of all moves
 gain-listed : (moves : List Move) (t : ℕ) (env : List ℤ)
     → or_zero (polynomial_value (gain_in (lookup rule_of t moves)) env) ≤ charges (map move_charge moves) t env
 gain-listed [] t env = omega arith
@@ -96,7 +96,7 @@ gain-listed (m ∷ moves) t env = go (m.rule == t) refl (gain-listed moves t env
     go true e ih = rw e (omega arith)
     go false e ih = rw e (omega (arith, ih))
 
--- and the gain of a move that keeps the function among the charges of those
+-- the gain of a move that keeps the function is among the charges of the moves that do
 kept-listed : (moves : List Move) (t : ℕ) (env : List ℤ)
     → gain_by (kind_in (lookup rule_of t moves)) (polynomial_value (gain_in (lookup rule_of t moves)) env)
     ≤ charges (map move_charge (filter keeps_function moves)) t env
@@ -113,7 +113,7 @@ kept-listed (m ∷ moves) t env = go (m.rule == t) refl (m.keeps) refl (kept-lis
     go false e true k ih = rw e (rw k (rw e (omega (arith, ih))))
     go false e false k ih = rw e (rw k (omega (arith, ih)))
 
--- so bounds on the charges are bounds on what the potential gains
+-- a bound on the charges of the moves is one on the gains of the potential
 pub potential-gains : (p : Program) (tab : PotentialTable) (b : List ℤ → ℕ) → HoldsSum p (charges (map move_charge tab.moves)) b
     → HoldsSum p (gains (potential_of tab)) b
 potential-gains p tab b sum = parts p (gains (potential_of tab)) (charges (map move_charge tab.moves)) b (gain-listed tab.moves) sum

@@ -1,4 +1,4 @@
--- An accepted node that covers a form.
+-- An accepted node that covers a form is sound.
 use Rattle.std.proofs.Common.{◌≡◌, ◌⊎◌, inl, inr, ℕ, ◌+◌, ◌*◌, ◌<◌, ◌≤◌, ◌==◌, max, Bool, true, false, List, [], ◌∷◌, ◌++◌, Option, Some, None}
 use Rattle.std.proofs.Common.{refl, sym, ◌∙◌, ap, subst, arith, map, filter}
 use Rattle.std.specs.Prelude.{ℤ, pos, ◌≤ℤ◌, ◌||◌, if◌then◌else◌}
@@ -38,7 +38,7 @@ use Rattle.potential_nodes.proofs.TableLaws.{TableHolds, table-holds, floor-hold
 use Rattle.potential_nodes.proofs.GainLaws.{HasGainBound, gains-bounded, potential-kept_gains, free-gain}
 use Rattle.potential_nodes.proofs.FallLaws.{start-is, den-over_0}
 
--- what is checked of a node that covers a form
+-- the conditions that the checks of such a node ensure
 record PeakHolds (g : Ground) (facts : List SignedFact) (n : PeakNode) (b : Signed) : Type 0 where
   pub table : TableHolds g n.potential no_amounts (is_never facts)
   pub shape : (covered_shape g n).holds ≡ true
@@ -48,7 +48,7 @@ record PeakHolds (g : Ground) (facts : List SignedFact) (n : PeakNode) (b : Sign
   pub first : (head_check g facts n.potential b (start_bound g n.potential)).holds ≡ true
   pub heads : AllHold (head_checks g facts n.potential b (peak_parts facts (reset_moves n.potential)))
 
--- from the list of checks
+-- if all checks hold, the conditions hold
 peak-holds : (g : Ground) (facts : List SignedFact) (n : PeakNode) (b : Signed) → AllHold (peak_checks g facts n b)
     → PeakHolds g facts n b
 peak-holds g facts n b all =
@@ -75,12 +75,12 @@ peak-holds g facts n b all =
       heads = five.1.1;
     }
 
--- the maximum of some parts is no greater with one more
+-- the maximum of some parts is at most that of the parts and one more
 with-more : (o : Option Signed) (ps : SignedParts) (start : List ℤ) → signed_maximum ps start ≤ signed_maximum (with_bound o ps) start
 with-more None ps start = omega arith
 with-more (Some b) ps start = le-max_right (signed_val b start) (signed_maximum ps start)
 
--- the peak that a reset of a list cites is among the levels that are looked at
+-- the peak that a reset cites is among the levels that are checked
 reset-listed : (facts : List SignedFact) (start : List ℤ) (t : ℕ) (m : Move) (moves : List Move)
     → lookup rule_of t moves ≡ Some m → m.keeps ≡ false → (b : Signed) → peak_cited facts m ≡ Some b
     → signed_val b start ≤ signed_maximum (peak_parts facts (filter sets_anew moves)) start
@@ -107,7 +107,7 @@ reset-listed facts start t m (x ∷ moves) found resets b cited =
         (le-max_left (signed_val b start) (signed_maximum (peak_parts facts (filter sets_anew moves)) start)))
     go false e k kept ih = others k kept (ih (rw e at found))
 
--- a form that is never over 0
+-- a form that is never over 0 has any bound as its peak
 free-peak : (p : Program) (t : ℕ) (q : Polynomial) (b : Bounding) → ((env : List ℤ) → polynomial_value q env ≤ℤ pos 0)
     → HoldsPeak p t (λ env. polynomial_value q env) b
 free-peak p t q b low = record { each = λ start s earlier c run same. high (low (variables_at p start s earlier)) }
@@ -115,7 +115,7 @@ free-peak p t q b low = record { each = λ start s earlier c run same. high (low
     high : {z : ℤ} {n : ℕ} → z ≤ℤ pos 0 → z ≤ℤ pos n
     high h = omega (arith, ints, h)
 
--- the greatest of three numbers is the second, or at most the greater of the others
+-- the greatest of three numbers is the second, or at most the greater of the other two
 greatest : (x v m : ℕ) → (max x (max v m) ≤ v) ⊎ (max x (max v m) ≤ max x m)
 greatest x v m = go (cases_lt (max x m) v)
   where
@@ -131,7 +131,7 @@ greatest x v m = go (cases_lt (max x m) v)
 
 module _ (g : Ground) (facts : List SignedFact) (n : PeakNode) (b : Signed) (ground : IsTrueGround g)
     (safe : IsSafe g.is_safe) (hold : AllSignedHold g.program facts) (checked : PeakHolds g facts n b) where
-  -- the form reads its rule's variables, and the rule leaves a symbol with a function
+  -- the rule leaves a symbol with a function, and the form reads the rule's variables
   covered_parts : (has_function n.potential (source_in (rule_at g.program n.rule)) ≡ true) × (reads_below (g.variables n.rule) n.form ≡ true)
   covered_parts = both-hold (has_function n.potential (source_in (rule_at g.program n.rule))) (reads_below (g.variables n.rule) n.form) checked.shape
 
@@ -159,11 +159,11 @@ module _ (g : Ground) (facts : List SignedFact) (n : PeakNode) (b : Signed) (gro
       (all-filter (λ (m : Move). ((cited_shape facts m).holds ≡ true) × ((gain_check g m).holds ≡ true)) keeps_function n.potential.moves
       (all-both (λ (m : Move). (cited_shape facts m).holds ≡ true) (λ (m : Move). (gain_check g m).holds ≡ true) n.potential.moves checked.cited checked.gains))
 
-  -- what a reset reaches at most
+  -- the greatest level that a reset reaches
   abbrev top : Bounding
   top start = signed_maximum (peak_parts facts (reset_moves n.potential)) start
 
-  -- each reset has a peak for its gain
+  -- the gain of each reset has that level as its peak
   reset-peak : (t : ℕ) (m : Move) → move_at n.potential t ≡ Some m → m.keeps ≡ false
       → HoldsPeak g.program t (λ env. polynomial_value m.gain env) top
   reset-peak t m found resets =
@@ -210,7 +210,7 @@ module _ (g : Ground) (facts : List SignedFact) (n : PeakNode) (b : Signed) (gro
           subst (λ (o : Option Move). HoldsPeak g.program t (λ env. polynomial_value (gain_in o) env) top) (sym e)
           (by_kind t m e m.keeps refl resets)
 
-  -- the bound is high enough for each level, so for the greatest
+  -- if the bound is high enough for each level, it is for the greatest
   head-enough : WithinHolds → (h : Signed) → (head_check g facts n.potential b h).holds ≡ true → (start : List ℤ) (k : ℕ)
       → n.potential.den * k ≤ signed_val h start + signed_sum (gain_parts facts (kept_moves n.potential)) start → k ≤ signed_val b start
   head-enough within_holds h test start k low =
@@ -243,7 +243,7 @@ module _ (g : Ground) (facts : List SignedFact) (n : PeakNode) (b : Signed) (gro
       go (inl above) ih = head-enough within_holds h first start k (omega (arith, low, above))
       go (inr below) ih = ih (omega (arith, low, below))
 
-  -- the peak is bounded
+  -- the form is at most the stated bound at each step by the rule
   peak-bounded : WithinHolds → HoldsSigned g.program (PeakFact n.rule n.form b)
   peak-bounded within_holds =
       let sum = potential-kept_gains g.program n.potential (signed_sum (gain_parts facts (kept_moves n.potential)))

@@ -1,4 +1,4 @@
--- An accepted node of two phases.
+-- An accepted node of two phases is sound.
 use Rattle.std.proofs.Common.{◌≡◌, ℕ, ◌*◌, ◌≤◌, ◌==◌, Bool, true, false, List, [], ◌∷◌, ◌++◌, Option, Some, None}
 use Rattle.std.proofs.Common.{refl, sym, ◌∙◌, ap, subst, arith, map}
 use Rattle.std.specs.Prelude.{ℤ, pos, neg_ℤ, ◌+ℤ◌, ◌-ℤ◌, ◌*ℤ◌, ◌≤ℤ◌, if◌then◌else◌}
@@ -38,7 +38,7 @@ use Rattle.potential_nodes.proofs.StepLaws.{source-is, function-reads}
 use Rattle.potential_nodes.proofs.TableLaws.{TableHolds, table-holds, floor-holds, source-has, moves-hold}
 use Rattle.potential_nodes.proofs.FallLaws.{part-is, den-over_0, charges-are, taken-is, payment-reads, amounts-read}
 
--- what each element of a list gives holds of the list that is made of it
+-- a property of each element's image is one of all images
 all-map_back : {A B : Type 0} (f : A → B) (P : B → Type 0) (xs : List A) → AllByRecursion (λ x. P (f x)) xs
     → AllByRecursion P (map f xs)
 all-map_back f P [] all = tt
@@ -70,7 +70,7 @@ same-symbols (f ∷ fs) (h ∷ hs) e s = go (f.symbol == s) refl (same-symbols f
     go true test ih = let other = ap (λ (n : ℕ). n == s) (sym (first e)) ∙ test in rw (test, other) refl
     go false test ih = let other = ap (λ (n : ℕ). n == s) (sym (first e)) ∙ test in rw (test, other) ih
 
--- the move of a rule in both tables is made of one move
+-- the moves of a rule in both tables are made of one move
 found-move : (f : PhaseMove → Move) → ((m : PhaseMove) → rule_of (f m) ≡ m.rule) → (P : Move → Type 0)
     → ((m : PhaseMove) → P (f m)) → (moves : List PhaseMove) (t : ℕ) (m : Move)
     → lookup rule_of t (map f moves) ≡ Some m → P m
@@ -81,7 +81,7 @@ found-move f same P holds moves t m found =
     every [] = tt
     every (x ∷ xs) = (holds x, every xs)
 
--- what is checked of a node of two phases
+-- the conditions that the checks of such a node ensure
 record PhasesAreHeld (g : Ground) (facts : List SignedFact) (n : PhasesNode) (b : Signed) : Type 0 where
   pub first : TableHolds g (first_table n) (amount_at (phases_fall n)) (is_never facts)
   pub second : TableHolds g (second_table g n) (amount_at (phases_fall n)) (is_never facts)
@@ -91,7 +91,7 @@ record PhasesAreHeld (g : Ground) (facts : List SignedFact) (n : PhasesNode) (b 
   pub floors : AllByRecursion (λ y. (floor_check g (second_table g n) y).holds ≡ true) (map unit_payment n.counted)
   pub bound : within g.is_safe n.den (phases_signed g n) b ≡ true
 
--- from the list of checks
+-- if all checks hold, the conditions hold
 phases-are-held : (g : Ground) (facts : List SignedFact) (n : PhasesNode) (b : Signed) → AllHold (phases_checks g facts n b)
     → PhasesAreHeld g facts n b
 phases-are-held g facts n b all =
@@ -126,7 +126,7 @@ phases-are-held g facts n b all =
       bound = seven.1.0;
     }
 
--- a counted rule takes 1, and another one nothing
+-- the amount of a counted rule is 1, and that of another rule 0
 amount-counted : (n : PhasesNode) (t : ℕ) (env : List ℤ)
     → taken (goal_of (phases_fall n)) t env ≡ (if is_counted n t then pos 1 else pos 0)
 amount-counted n t env = go (payment_at (phases_fall n) t) refl
@@ -155,7 +155,7 @@ module _ (g : Ground) (facts : List SignedFact) (n : PhasesNode) (b : Signed) (g
       (λ t h start c s d step same. never-steps g.program t facts hold h start c s d step same)
       (goal_of (phases_fall n)) (taken-is (phases_fall n)) (amounts-read g (phases_fall n) checked.shapes) start
 
-  -- a move that is found keeps the functions
+  -- each move of a table keeps the function
   kept-step : (tab : PotentialTable) → ((m : Move) (t : ℕ) → move_at tab t ≡ Some m → m.keeps ≡ true) → (c : Config)
       (s : Step) (d : Config) → MovesBy (kind_in (move_at tab s.rule)) (potential_of tab) tab.den (goal_of (phases_fall n)) c s d
       → (m : Move) × (move_at tab s.rule ≡ Some m) × IsKept (potential_of tab) tab.den (goal_of (phases_fall n)) c s d
@@ -173,11 +173,11 @@ module _ (g : Ground) (facts : List SignedFact) (n : PhasesNode) (b : Signed) (g
       go None e move = absurd move
       go (Some m) e move = (m, e, by_kind m e m.keeps refl move)
 
-  -- the gain of a rule in the first table is nothing
+  -- the gain of a rule in the first table is 0
   first-gain : (m : Move) (t : ℕ) → move_at (first_table n) t ≡ Some m → m.gain ≡ []
   first-gain m t e = found-move first_move (λ x. refl) (λ (m : Move). m.gain ≡ []) (λ x. refl) n.moves t m e
 
-  -- and in the second table the first function of the source, where it is counted
+  -- the gain of a rule in the second table is the first function of its source, if the rule is counted
   second-gain : (m : Move) (t : ℕ) → move_at (second_table g n) t ≡ Some m
       → m.gain ≡ (if is_counted n t then source_form g (first_table n) t else [])
   second-gain m t e =
@@ -190,7 +190,7 @@ module _ (g : Ground) (facts : List SignedFact) (n : PhasesNode) (b : Signed) (g
       every [] = tt
       every (x ∷ xs) = (refl, every xs)
 
-  -- the first function of the source, over the variables
+  -- the first function of a rule's source, over the rule's variables, has the value before the step
   source-first : (start : List ℤ) (c : Config) (s : Step) (d : Config) → IsTaken g.program start c s d
       → polynomial_value (source_form g (first_table n) s.rule) (c.values ++ s.free)
       ≡ polynomial_value (form_in (function_at (first_table n) c.at)) c.values
@@ -201,7 +201,7 @@ module _ (g : Ground) (facts : List SignedFact) (n : PhasesNode) (b : Signed) (g
       ∙ reads-append c.values s.free (form_in (function_at (first_table n) c.at))
       (subst (λ (k : ℕ). reads_below k (form_in (function_at (first_table n) c.at)) ≡ true) (sym known.places) reads)
 
-  -- functions are there for the same symbols
+  -- a symbol has a first function exactly if it has a second one
   both-there : (s : ℕ) → is_there (function_at (first_table n) s) ≡ is_there (function_at (second_table g n) s)
   both-there s = same-symbols n.firsts n.seconds (same_variables-is (map symbol_of n.firsts) (map symbol_of n.seconds) checked.symbols) s
 
@@ -290,7 +290,7 @@ module _ (g : Ground) (facts : List SignedFact) (n : PhasesNode) (b : Signed) (g
   goes-in-phases : (start : List ℤ) → GoesInPhases g.program start (phases_of g n) n.den
   goes-in-phases start = record { moves = falls-in-phases start; floors = high-before start }
 
-  -- what stands under the root, as the bound has it and as the law has it
+  -- the value under the root in the bound is that in the law
   under-is : (start : List ℤ)
       → 2 * (n.den * or_zero (polynomial_value (form_in (function_at (second_table g n) g.program.start)) start -ℤ pos n.den))
       ≡ (2 * n.den) * (positive_part (polynomial_value (less_number (form_in (function_at (second_table g n) g.program.start)) n.den) start) * 1)
@@ -325,7 +325,7 @@ module _ (g : Ground) (facts : List SignedFact) (n : PhasesNode) (b : Signed) (g
         (omega (arith, low, part));
   }
 
-  -- the charges are what is counted
+  -- the charges of the counted rules are at most the weight of counted steps
   charges-counted : (t : ℕ) (env : List ℤ) → charges (charges_of (phases_fall n)) t env ≤ counts (phases_of g n) t env
   charges-counted t env =
       let is = charges-are (map unit_payment n.counted) checked.ascending t env in

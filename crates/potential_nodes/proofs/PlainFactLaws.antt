@@ -17,7 +17,7 @@ use Rattle.potential_nodes.proofs.CostLaws.{spent-charged}
 use Rattle.std.proofs.lemmas.Bool.Decides.{eqb_tells}
 use Rattle.potentials.proofs.model.RunLaws.{one_if_same-same}
 
--- 1 for each step by a rule adds up to at most how often it occurs
+-- the sum of 1 for each step by a rule is at most how often it occurs
 pub once-counted : (p : Program) (t : ℕ) (start : List ℤ) (steps : List Step)
     → weighed p (charges (once_charge t ∷ [])) start steps ≤ count t steps
 once-counted p t start [] = omega arith
@@ -62,7 +62,7 @@ signed-costs keep = record {
   };
 }
 
--- facts on costs as they were worked out
+-- the worked values of facts on costs hold
 pub costs-worked_out : SignedBoundsKeepValues → CostsAreWorkedOut
 costs-worked_out keep = record {
   entering = refl;

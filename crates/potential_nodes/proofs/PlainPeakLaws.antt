@@ -1,4 +1,4 @@
--- Peaks by certificates and by sizes hold.
+-- Nodes that bound a peak by a certificate, or by sizes, are sound.
 use Rattle.std.proofs.Common.{◌≡◌, ◌⊎◌, inl, inr, ℕ, zero, suc, ◌+◌, ◌*◌, ◌<◌, ◌≤◌, ◌==◌, Bool, true, false, List, [], ◌∷◌, ◌++◌, Option, Some, None}
 use Rattle.std.proofs.Common.{refl, sym, ◌∙◌, ap, subst, arith, length, map, mul-le-mul_left}
 use Rattle.std.specs.Prelude.{ℤ, pos, negsuc, ◌+ℤ◌, ◌-ℤ◌, ◌*ℤ◌, ◌≤ℤ◌, ◌&&◌, if◌then◌else◌, nat_abs, slice_index_or, nat_lt}
@@ -42,7 +42,7 @@ use Rattle.potential_nodes.proofs.BoundLaws.{within-above}
 no_table : PotentialTable
 no_table = record { functions = []; den = 1; moves = [] }
 
--- a form that a certificate bounds by a number
+-- a form is at most the number by which a certificate bounds it
 row-low : (g : Ground) (n : RowNode) → IsTrueGround g → IsSafe g.is_safe → reads_below (g.variables n.rule) n.form ≡ true
     → shows g.is_safe (g.rows n.rule) n.certificate (Subtraction (Literal (pos n.number)) (form_term n.form)) ≡ true
     → (start : List ℤ) (c : Config) (s : Step) (d : Config) → IsTaken g.program start c s d → s.rule ≡ n.rule
@@ -66,7 +66,7 @@ row-holds within_holds g n b ground safe (reads, (shown, (test, none))) =
     (λ start. within-above within_holds g.is_safe safe (Constant n.number) b test start)
     (rows g.program n.rule n.number (λ env. polynomial_value n.form env) (row-low g n ground safe reads shown))
 
--- an integer is at most its coefficient's size times its own
+-- an integer times a coefficient is at most the absolute coefficient times a bound on the integer's absolute value
 product-size : (a x : ℤ) (m : ℕ) → nat_abs x ≤ m → (a *ℤ x) ≤ℤ pos (nat_abs a * m)
 product-size (pos a) (pos x) m h = let up = mul-le-mul_left a h in omega (arith, ints, up)
 product-size (pos a) (negsuc x) m h = omega (arith, ints)
@@ -74,7 +74,7 @@ product-size (negsuc a) (pos x) m h = omega (arith, ints)
 product-size (negsuc a) (negsuc x) m h = let up = mul-le-mul_left (suc a) h in omega (arith, ints, up)
 
 module _ (g : Ground) (facts : List SignedFact) (n : SizedNode) (hold : AllSignedHold g.program facts) where
-  -- a size that is found holds
+  -- a size that a cited fact states holds
   size_in-holds : (e place : ℕ) (o : Option SignedFact) → ((fact : SignedFact) → o ≡ Some fact → HoldsSigned g.program fact)
       → (b : Signed) → size_in e place o ≡ Some b → HoldsSignedSize g.program e place (signed_val b)
   size_in-holds e place None holds b h = absurd (none_some _ h)
@@ -107,7 +107,7 @@ module _ (g : Ground) (facts : List SignedFact) (n : SizedNode) (hold : AllSigne
           (λ fact is. all-numbered (λ x. HoldsSigned g.program x) facts k fact is hold) b (found ∙ l)
 
   module _ (start : List ℤ) (earlier : List Step) (c : Config) (run : IsRun g.program start earlier c) (free : List ℤ) where
-    -- a variable of the rule's places
+    -- a variable of the rule's places is at most the size of its place
     variable-low : (i : ℕ) → i < length c.values → (b : Signed) → place_size facts n (last_rule earlier) i ≡ Some b
         → nat_abs (slice_index_or (c.values ++ free) i (pos 0)) ≤ signed_val b start
     variable-low i low b h =
@@ -119,7 +119,7 @@ module _ (g : Ground) (facts : List SignedFact) (n : SizedNode) (hold : AllSigne
         front (x ∷ xs) zero low = refl
         front (x ∷ xs) (suc i) low = front xs i (omega (arith, low))
 
-    -- a monomial
+    -- a monomial is at most its bound
     monomial-low : (m : Monomial) (vars : List ℕ) → all_below (length c.values) vars ≡ true → (b : Signed)
         → monomial_size (place_size facts n (last_rule earlier)) m vars ≡ Some b
         → (m.coef *ℤ product_value vars (c.values ++ free)) ≤ℤ pos (signed_val b start)
@@ -154,7 +154,7 @@ module _ (g : Ground) (facts : List SignedFact) (n : SizedNode) (hold : AllSigne
                 up y v w h e = omega (arith, ints, h, e)
     monomial-low m (i ∷ j ∷ vars) reads b h = absurd (none_some _ h)
 
-    -- a polynomial
+    -- a polynomial is at most the sum of its monomials' bounds
     polynomial-low : (q : Polynomial) → reads_below (length c.values) q ≡ true → (parts : SignedParts)
         → polynomial_size (place_size facts n (last_rule earlier)) q ≡ Some parts
         → polynomial_value q (c.values ++ free) ≤ℤ pos (signed_sum parts start)
@@ -184,7 +184,7 @@ module _ (g : Ground) (facts : List SignedFact) (n : SizedNode) (hold : AllSigne
         go (Some b) e None f k ih = absurd (none_some _ k)
         go None e r f k ih = absurd (none_some _ k)
 
--- what all elements of a list pass, one that is contained passes
+-- a property of all numbers of a list is one of a number that is in it
 all-contained : (P : ℕ → Type 0) (xs : List ℕ) → AllByRecursion P xs → (x : ℕ) → is_in x xs ≡ true → P x
 all-contained P [] all x h = absurd (true≢false (sym h))
 all-contained P (y ∷ ys) (first, others) x h = go (is_in-cases x y ys h) (λ m. all-contained P ys others x m)
@@ -195,7 +195,7 @@ all-contained P (y ∷ ys) (first, others) x h = go (is_in-cases x y ys h) (λ m
 
 module _ (within_holds : WithinHolds) (g : Ground) (facts : List SignedFact) (n : SizedNode) (b : Signed)
     (safe : IsSafe g.is_safe) (hold : AllSignedHold g.program facts) (all : AllHold (sized_checks g facts n b)) where
-  -- at a step by the rule
+  -- the form is at most the stated bound at a step by the rule
   sized-low : (start : List ℤ) (s : Step) (earlier : List Step) (d : Config) → IsRun g.program start (s ∷ earlier) d
       → s.rule ≡ n.rule → polynomial_value n.form (variables_at g.program start s earlier) ≤ℤ pos (signed_val b start)
   sized-low start s earlier d (c, run, step) same =

@@ -1,4 +1,4 @@
--- The values of a table's forms at a step.
+-- The values of a table's polynomials at a step.
 use Rattle.std.proofs.Common.{◌≡◌, ℕ, true, List, ◌++◌, Option, Some, None}
 use Rattle.std.proofs.Common.{refl, sym, ◌∙◌, ap, subst}
 use Rattle.std.specs.Prelude.{ℤ}
@@ -15,7 +15,7 @@ use Rattle.potential_nodes.specs.Tables.{gain_in, form_at, source_form, behind}
 use Rattle.potential_nodes.proofs.LookupLaws.{lookup-all}
 use Rattle.potential_nodes.proofs.TermLaws.{form-value, after-value, reads-append, reads-append_twice}
 
--- a step leaves the source of its rule and leads to the target
+-- a step leaves the source of its rule and leads to its target
 pub source-is : (p : Program) (c : Config) (s : Step) (d : Config) → IsStep p c s d
     → source_in (rule_at p s.rule) ≡ Some c.at
 source-is p c s d step = ap source_in step.numbered ∙ ap Some (sym step.leads.source)
@@ -49,11 +49,11 @@ gain-reads variables tab all t = go (move_at tab t) refl
 
 module _ (g : Ground) (tab : PotentialTable) (c : Config) (s : Step) (d : Config) (step : IsStep g.program c s d)
     (ground : IsGroundOf g c s d) where
-  -- the values of the unknowns
+  -- the values of the unknowns at the step
   abbrev pub point : List ℤ
   point = (c.values ++ s.free) ++ ground.more
 
-  -- a form of the rule's variables
+  -- a form of the rule's variables has the same value at the unknowns and at the variables
   pub variables-value : (q : Polynomial) → reads_below (g.variables s.rule) q ≡ true
       → value (form_term q) point ≡ polynomial_value q (c.values ++ s.free)
   variables-value q h =
@@ -61,7 +61,7 @@ module _ (g : Ground) (tab : PotentialTable) (c : Config) (s : Step) (d : Config
       ∙ reads-append (c.values ++ s.free) ground.more q
       (subst (λ (n : ℕ). reads_below n q ≡ true) (sym ground.variables) h)
 
-  -- the function before the step
+  -- the function of the source has the value before the step
   pub source-value : AllByRecursion (λ f. reads_below (g.places f.symbol) f.form ≡ true) tab.functions
       → value (form_term (source_form g tab s.rule)) point ≡ polynomial_value (form_in (function_at tab c.at)) c.values
   source-value all =
@@ -71,7 +71,7 @@ module _ (g : Ground) (tab : PotentialTable) (c : Config) (s : Step) (d : Config
       ∙ reads-append_twice c.values s.free ground.more (form_in (function_at tab c.at))
       (subst (λ (n : ℕ). reads_below n (form_in (function_at tab c.at)) ≡ true) (sym ground.places) reads))
 
-  -- the function behind the step
+  -- the function of the target has the value after the step
   pub target-value : value (behind g tab s.rule) point ≡ polynomial_value (form_in (function_at tab d.at)) d.values
   target-value =
       ap (λ (o : Option ℕ). value (form_after (g.new_values s.rule) (form_at tab o)) point) (target-is g.program c s d step)

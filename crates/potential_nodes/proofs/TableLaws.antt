@@ -26,7 +26,7 @@ use Rattle.potential_nodes.proofs.LookupLaws.{both-hold, lookup-all, all-map, al
 use Rattle.potential_nodes.proofs.CertificateLaws.{shown-holds}
 use Rattle.potential_nodes.proofs.StepLaws.{source-is, gain-reads, variables-value, source-value, target-value}
 
--- what is checked of a table
+-- the conditions that the checks of a table ensure
 pub record TableHolds (g : Ground) (tab : PotentialTable) (amounts : ℕ → Polynomial) (never : ℕ → Bool) : Type 0 where
   pub den : nat_le 1 tab.den ≡ true
   pub functions : AllByRecursion (λ f. reads_below (g.places f.symbol) f.form ≡ true) tab.functions
@@ -34,7 +34,7 @@ pub record TableHolds (g : Ground) (tab : PotentialTable) (amounts : ℕ → Pol
   pub missing : AllHold (missing_checks g tab never)
   pub moves : AllByRecursion (λ m. (move_check g tab amounts m).holds ≡ true) tab.moves
 
--- from the lists of checks
+-- if all checks hold, the conditions hold
 pub table-holds : (g : Ground) (tab : PotentialTable) (amounts : ℕ → Polynomial) (never : ℕ → Bool)
     → AllHold (table_shape g tab) → AllHold (missing_checks g tab never)
     → AllHold (map (move_check g tab amounts) tab.moves) → TableHolds g tab amounts never
@@ -67,7 +67,7 @@ has-move g tab never all zero r found = absurd (none_some r found)
 has-move g tab never all (suc i) r found =
     missing-at tab never 1 g.program.rules i r (suc i) (omega arith) found all
 
--- inequalities from certificates whose parts have these values
+-- inequalities between the values from those of the certified goals
 kept-inequality : (before gain behind paid f h f' a : ℤ) → before ≡ f → gain ≡ h → behind ≡ f' → paid ≡ a
     → pos 0 ≤ℤ ((before +ℤ gain) -ℤ (behind +ℤ paid)) → (f' +ℤ a) ≤ℤ (f +ℤ h)
 kept-inequality before gain behind paid f h f' a e1 e2 e3 e4 k = omega (arith, ints, e1, e2, e3, e4, k)
@@ -90,12 +90,12 @@ module _ (g : Ground) (tab : PotentialTable) (amounts : ℕ → Polynomial) (nev
       (both-hold (not m.keeps || has_function tab (source_in (rule_at g.program m.rule))) (reads_below (g.variables m.rule) m.gain) both.1).1)
       tab.moves table.shapes
 
-  -- den times a form
+  -- den times a form as an expression has the value of den times the form
   den-value : (q : Polynomial) → reads_below (g.variables s.rule) q ≡ true
       → value (times_den tab q) ((c.values ++ s.free) ++ at_step.more) ≡ pos tab.den *ℤ polynomial_value q (c.values ++ s.free)
   den-value q h = ap (λ (z : ℤ). pos tab.den *ℤ z) (variables-value g tab c s d step.step at_step q h)
 
-  -- a certificate that the function before the step is at least den times a form
+  -- if the certificate shows it, the function before the step is at least den times a form
   pub floor-holds : (t : ℕ) → s.rule ≡ t → (q : Polynomial) → reads_below (g.variables t) q ≡ true
       → (certificate : _) → shows g.is_safe (g.rows t) certificate (floor_goal g tab t q) ≡ true
       → (pos tab.den *ℤ polynomial_value q (c.values ++ s.free)) ≤ℤ polynomial_value (form_in (function_at tab c.at)) c.values
@@ -108,7 +108,7 @@ module _ (g : Ground) (tab : PotentialTable) (amounts : ℕ → Polynomial) (nev
       let paid = den-value q (subst (λ (n : ℕ). reads_below (g.variables n) q ≡ true) (sym same) reads) in
       difference-inequality _ _ _ _ before paid shown
 
-  -- a certificate that a form is at least 0
+  -- if the certificate shows it, a form is at least 0 at the step
   pub form-holds : (t : ℕ) → s.rule ≡ t → (q : Polynomial) → reads_below (g.variables t) q ≡ true
       → (certificate : _) → shows g.is_safe (g.rows t) certificate (form_term q) ≡ true
       → pos 0 ≤ℤ polynomial_value q (c.values ++ s.free)
@@ -120,7 +120,7 @@ module _ (g : Ground) (tab : PotentialTable) (amounts : ℕ → Polynomial) (nev
       (subst (λ (n : ℕ). reads_below (g.variables n) q ≡ true) (sym same) reads) in
       subst (λ (x : ℤ). pos 0 ≤ℤ x) e shown
 
-  -- a symbol that a rule leaves and that has a function
+  -- if a rule leaves a symbol with a function, so does each step by it
   pub source-has : (t : ℕ) → s.rule ≡ t → has_function tab (source_in (rule_at g.program t)) ≡ true
       → is_there (function_at tab c.at) ≡ true
   source-has t same h =
@@ -129,7 +129,7 @@ module _ (g : Ground) (tab : PotentialTable) (amounts : ℕ → Polynomial) (nev
 
   module _ (goal : Goal) (amount-is : (t : ℕ) (env : List ℤ) → taken goal t env ≡ polynomial_value (amounts t) env)
       (amounts-read : (t : ℕ) → reads_below (g.variables t) (amounts t) ≡ true) where
-    -- a move that keeps the function
+    -- a step by a move that keeps the function keeps it
     kept-move : (m : Move) → move_at tab s.rule ≡ Some m → m.keeps ≡ true
         → IsKept (potential_of tab) tab.den goal c s d
     kept-move m found keeps =
@@ -159,7 +159,7 @@ module _ (g : Ground) (tab : PotentialTable) (amounts : ℕ → Polynomial) (nev
           falls = kept-inequality _ _ _ _ _ _ _ _ before (gain ∙ sym gained) behind_is paid shown;
         }
 
-    -- a move that sets it anew
+    -- a step by a move that resets the function resets it to at most the gain
     reset-move : (m : Move) → move_at tab s.rule ≡ Some m → m.keeps ≡ false
         → polynomial_value (form_in (function_at tab d.at)) d.values
         ≤ℤ polynomial_value (gain_in (move_at tab s.rule)) (c.values ++ s.free)
@@ -190,7 +190,7 @@ module _ (g : Ground) (tab : PotentialTable) (amounts : ℕ → Polynomial) (nev
         last true true v h k all = absurd (true≢false k)
         last false b v h k all = absurd (true≢false (sym h))
 
-    -- what the step does, by the move of its rule
+    -- the effect of a step is that of its rule's move
     move-holds : (never s.rule ≡ true → ⊥) → is_there (function_at tab d.at) ≡ true
         → MovesBy (kind_in (move_at tab s.rule)) (potential_of tab) tab.den goal c s d
     move-holds occurs has = go (move_at tab s.rule) refl

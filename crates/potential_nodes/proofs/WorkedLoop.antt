@@ -1,4 +1,4 @@
--- The loop that counts up, whose bound a potential shows.
+-- The worked loop that counts up, which a potential bounds.
 use Rattle.std.proofs.Common.{◌≡◌, ℕ, zero, suc, List, [], ◌∷◌, ◌++◌, length, map, Some}
 use Rattle.std.proofs.Common.{refl, sym, ◌∙◌, ap, subst, arith}
 use Rattle.std.specs.Prelude.{ℤ, pos, ◌-ℤ◌, ◌≤ℤ◌, ◌<ℤ◌, slice_index_or}
@@ -24,7 +24,7 @@ use Rattle.potential_nodes.proofs.AcceptanceLaws.{accepted-nodes}
 abbrev below : Atom
 below = Compare (Variable 0) LessThan (Variable 1)
 
--- two values without free ones
+-- two values without free ones are the values of A and B
 with-values : (vs fs : List ℤ) → length vs ≡ 2 → length fs ≡ 0
     → (x : ℤ) × (y : ℤ) × (vs ≡ x ∷ y ∷ []) × (fs ≡ [])
 with-values (x ∷ y ∷ []) [] two none = (x, y, refl, refl)
@@ -33,7 +33,7 @@ with-values (x ∷ []) fs two none = absurd (omega (arith, two))
 with-values (x ∷ y ∷ z ∷ vs) fs two none = absurd (omega (arith, two))
 with-values (x ∷ y ∷ []) (f ∷ fs) two none = absurd (omega (arith, none))
 
--- what is known of a step by a rule, at the values of its variables
+-- the rows and new values of a step by a rule are true at the values of its variables
 step-ground : (t : ℕ) (r : Rule) (c d : Config) (free : List ℤ) → Leads r c free d → length (c.values ++ free) ≡ 2
     → length c.values ≡ 2 → RowsHoldAt (loop_rows t) (c.values ++ free)
     → map (λ u. value u (c.values ++ free)) (loop_new_values t) ≡ d.values
@@ -50,7 +50,7 @@ step-ground t r c d free leads variables places rows new_values = record {
     nothing [] = refl
     nothing (x ∷ xs) = ap (λ (ys : List ℤ). x ∷ ys) (nothing xs)
 
--- it is true of each step
+-- the rows and new values of the loop are true of each step
 loop-is-true : IsTrueGround loop_ground
 loop-is-true = record {
   each = λ start c s d taken. go c d s.rule s.free taken.step.rule taken.step.numbered taken.step.leads;
@@ -109,7 +109,7 @@ one_round = (
   count_up,
 )
 
--- the lemma that bounds rule 2
+-- the lemma on rule 2
 abbrev loop_lemma : SignedLemma
 loop_lemma = record {
   node = pays_once (table 1 (gap (pos 0)) (keep 1 [] ∷ keep 2 [] ∷ []));

@@ -1,4 +1,4 @@
--- Certificates: a form is at least 0 wherever the rows are, shown by multiples of rows and of products of two rows.
+-- Certificates: combinations of rows and of products of two rows show that a form is at least 0 wherever the rows are.
 use Rattle.std.specs.Prelude.{◌≡◌, ℕ, Bool, true, ◌&&◌, List, [], ◌∷◌, ℤ, pos, ◌≤ℤ◌}
 use Rattle.std.specs.List.{AllByRecursion}
 use Rattle.potentials.specs.model.Terms.{Term, Literal, Variable, Negation, Addition, Subtraction, Multiplication}
@@ -6,26 +6,26 @@ use Rattle.potentials.specs.model.Terms.{value}
 use Rattle.signed_bounds.specs.Safe.{IsSafe}
 use Rattle.potential_nodes.specs.PolynomialTerms.{term_at}
 
--- a summand of a certificate: m times row i; m times row i times row j; or m times variable u times row i, which row k
--- is the opposite of
+-- a summand of a certificate: m times row i; m times row i times row j; or m times variable u times row i, where row k
+-- is the negation of row i
 pub data Summand : Type 0 where
   OneRow : ℕ → ℕ → Summand
   TwoRows : ℕ → ℕ → ℕ → Summand
   ZeroRow : ℤ → ℕ → ℕ → ℕ → Summand
 
--- the expression that a summand stands for; a row that isn't there is 0
+-- the expression of a summand; a row that doesn't exist is 0
 abbrev pub summand_term : List Term → Summand → Term
 summand_term rows (OneRow m i) = Multiplication (Literal (pos m)) (term_at rows i)
 summand_term rows (TwoRows m i j) =
     Multiplication (Literal (pos m)) (Multiplication (term_at rows i) (term_at rows j))
 summand_term rows (ZeroRow m i k u) = Multiplication (Literal m) (Multiplication (Variable u) (term_at rows i))
 
--- a goal less each summand
+-- a goal minus each summand
 abbrev pub rest : List Term → List Summand → Term → Term
 rest rows [] goal = goal
 rest rows (s ∷ summands) goal = rest rows summands (Subtraction goal (summand_term rows s))
 
--- whether the two rows that a summand says are opposites have a sum of at most 0
+-- whether the two rows that a summand says are negations of each other have a sum of at most 0
 abbrev pub are_opposite : (Term → Bool) → List Term → Summand → Bool
 are_opposite is_safe rows (OneRow m i) = true
 are_opposite is_safe rows (TwoRows m i j) = true
@@ -35,7 +35,7 @@ abbrev pub all_opposite : (Term → Bool) → List Term → List Summand → Boo
 all_opposite is_safe rows [] = true
 all_opposite is_safe rows (s ∷ summands) = are_opposite is_safe rows s && all_opposite is_safe rows summands
 
--- whether the summands show the goal: what is left of it is never negative
+-- whether the summands show the goal: what remains after subtracting them is never negative
 abbrev pub shows : (Term → Bool) → List Term → List Summand → Term → Bool
 shows is_safe rows summands goal = all_opposite is_safe rows summands && is_safe (rest rows summands goal)
 
@@ -43,7 +43,7 @@ shows is_safe rows summands goal = all_opposite is_safe rows summands && is_safe
 abbrev pub RowsHoldAt : List Term → List ℤ → Type 0
 RowsHoldAt rows z = AllByRecursion (λ row. pos 0 ≤ℤ value row z) rows
 
--- a goal that is shown is at least 0 wherever all rows are
+-- a goal that a certificate shows is at least 0 wherever all rows are
 pub record CertificatesOfProductsHold : Type 0 where
   pub each : (is_safe : Term → Bool) → IsSafe is_safe → (rows : List Term) (summands : List Summand) (goal : Term)
       → shows is_safe rows summands goal ≡ true → (z : List ℤ) → RowsHoldAt rows z → pos 0 ≤ℤ value goal z

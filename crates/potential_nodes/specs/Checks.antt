@@ -2,8 +2,9 @@
 use Rattle.std.specs.Prelude.{◌≡◌, ℕ, Bool, true, false, if◌then◌else◌, List, [], ◌∷◌, ◌++◌, Option, Some, None}
 use Rattle.std.specs.List.{AllByRecursion}
 
--- why a node isn't accepted: its shape; a rule without a move that may occur; the certificate of a move, of a floor (or
--- of a form that is at most a number) or of an amount; a gain without a bound; a stated bound that may be too low
+-- why a node isn't accepted: its shape; a rule that may occur has no move; the certificate of a move, of a floor (or of
+-- a form that is at most a number) or of an amount doesn't show it; a gain has no bound; or the stated bound may be too
+-- low
 pub data Reason : Type 0 where
   BadShape : Reason
   MissingTime : ℕ → Reason
@@ -13,7 +14,7 @@ pub data Reason : Type 0 where
   BadGain : ℕ → Reason
   LowBound : Reason
 
--- a check, with the reason that stands where it fails
+-- a check, with the reason that is reported if it fails
 pub record Check : Type 0 where
   pub reason : Reason
   pub holds : Bool
@@ -21,7 +22,7 @@ pub record Check : Type 0 where
 abbrev pub check : Reason → Bool → Check
 check reason holds = record { reason = reason; holds = holds }
 
--- the reason of the first check that fails, where one does
+-- the reason of the first check that fails, if one does
 abbrev pub first_refused : List Check → Option Reason
 first_refused [] = None
 first_refused (c ∷ checks) = if c.holds then first_refused checks else Some c.reason
@@ -40,7 +41,7 @@ pub record IsFirstFailure (checks : List Check) (reason : Reason) : Type 0 where
   pub fails : failed.holds ≡ false
   pub says : failed.reason ≡ reason
 
--- no check is refused exactly where all hold, and a refusal has the reason of the first that fails
+-- no check is refused exactly if all hold, and a refusal has the reason of the first check that fails
 pub record RefusalsAreFailures : Type 0 where
   pub holds : (checks : List Check) → first_refused checks ≡ None → AllHold checks
   pub accepts : (checks : List Check) → AllHold checks → first_refused checks ≡ None

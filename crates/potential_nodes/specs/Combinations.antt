@@ -12,7 +12,7 @@ use Rattle.potential_nodes.specs.Facts.{same_polynomial}
 use Rattle.potential_nodes.specs.Facts.{sum_bound, peak_bound, once_charge}
 use Rattle.potential_nodes.specs.Checks.{Check, check, BadShape, LowBound}
 
--- how facts are composed, each by its number: how often a rule occurs times a peak; the lesser of two bounds on
+-- a composition of facts, each cited by its number: how often a rule occurs times a peak; the lesser of two bounds on
 -- one sum or one peak; two sums together; and charges that are among those of a sum
 pub data Combination : Type 0 where
   Times : ℕ → Polynomial → ℕ → ℕ → Combination
@@ -20,17 +20,17 @@ pub data Combination : Type 0 where
   Add : ℕ → ℕ → Combination
   Among : List Charge → ℕ → Combination
 
--- two parts of a bound
+-- the list of two parts of a bound
 abbrev pub both_parts : Signed → Signed → SignedParts
 both_parts a b = Part a (Part b NoParts)
 
--- the sum of a form of a rule by its time and its peak
+-- the fact on the sum of a form of a rule, composed of the rule's time and the form's peak
 abbrev pub product_fact : ℕ → Polynomial → Option Signed → Option Signed → Option SignedFact
 product_fact rule form (Some often) (Some high) =
     Some (SumFact (record { rule = rule; form = form } ∷ []) (ProductOf (both_parts often high)))
 product_fact rule form _ _ = None
 
--- the lesser of two bounds, where both are on the same
+-- the lesser of two bounds, and the fact with it if both facts are on the same sum or peak
 abbrev pub lesser : Signed → Signed → Signed
 lesser a b = MinimumOf a (Part b NoParts)
 
@@ -41,28 +41,28 @@ least_fact (Some (PeakFact rule form a)) (Some (PeakFact rule' form' b)) =
     if (rule == rule') && same_polynomial form form' then Some (PeakFact rule form (lesser a b)) else None
 least_fact _ _ = None
 
--- two sums together
+-- the fact on two sums together
 abbrev pub added_fact : Option SignedFact → Option SignedFact → Option SignedFact
 added_fact (Some (SumFact goal a)) (Some (SumFact goal' b)) =
     Some (SumFact (goal ++ goal') (SumOf (both_parts a b)))
 added_fact _ _ = None
 
--- charges without one that is the same, where there is one
+-- the charges without one that is the same as c, if there is one
 abbrev pub without_charge : Charge → List Charge → Option (List Charge)
 without_charge c [] = None
 without_charge c (d ∷ ds) = if same_charge c d then Some ds else option_map (λ rest. d ∷ rest) (without_charge c ds)
 
--- whether each charge is found in the second list, and is used up there
+-- whether each charge is found in the second list, where none is used twice
 abbrev pub are_among : List Charge → List Charge → Bool
 are_among [] ds = true
 are_among (c ∷ cs) ds = elim (without_charge c ds) [ None ↦ false | Some rest ↦ are_among cs rest ]
 
--- charges that are among those of a sum
+-- the fact on charges that are among those of a sum
 abbrev pub among_fact : List Charge → Option SignedFact → Option SignedFact
 among_fact goal (Some (SumFact goal' a)) = if are_among goal goal' then Some (SumFact goal a) else None
 among_fact goal _ = None
 
--- the composed fact, where there is one
+-- the composed fact, if there is one
 abbrev pub composed : List SignedFact → Combination → Option SignedFact
 composed facts (Times rule form time peak) =
     product_fact rule form (sum_bound facts (once_charge rule ∷ []) time) (peak_bound facts rule form peak)
@@ -81,17 +81,18 @@ bound_of (SumFact goal a) = a
 bound_of (PeakFact rule form a) = a
 bound_of (SizeFact rule place a) = a
 
--- the stated bound is at least that of the fact
+-- the stated bound is at least that of the fact, if there is a fact
 abbrev pub is_within_fact : Ground → Option SignedFact → Signed → Bool
 is_within_fact g None b = false
 is_within_fact g (Some fact) b = within g.is_safe 1 (bound_of fact) b
 
--- what is checked of composed facts: the facts are there that are composed, and the bound is high enough
+-- the checks of composed facts: the cited facts can be composed, and the stated bound is high enough
 abbrev pub combination_checks : Ground → List SignedFact → Combination → Signed → List Check
 combination_checks g facts n b =
     check BadShape (is_there (composed facts n)) ∷ check LowBound (is_within_fact g (composed facts n) b) ∷ []
 
--- what is stated then; where nothing is composed, that no charge at all comes to the bound
+-- the fact with the stated bound; if nothing is composed, a fact that always holds: that the sum of no charges is at
+-- most the bound
 abbrev pub stated_in : Option SignedFact → Signed → SignedFact
 stated_in None b = SumFact [] b
 stated_in (Some fact) b = with_other_bound fact b

@@ -7,12 +7,12 @@ use Rattle.potentials.specs.Sums.{Charge}
 use Rattle.signed_bounds.specs.poly_terms.Expanding.{expanded}
 use Rattle.potential_nodes.specs.Facts.{one_form}
 
--- the cost of a step as a polynomial over the variables of its rule: the written cost, or 1 where none is written
+-- the cost of a step as a polynomial over the variables of its rule: the written cost, or 1 if none is written
 abbrev pub cost_form : Option Term → Polynomial
 cost_form None = one_form
 cost_form (Some c) = expanded c
 
--- the same of a rule; where there is no rule, the polynomial 0
+-- the cost of a rule as a polynomial; 0 if there is no rule
 abbrev pub cost_form_in : Option Rule → Polynomial
 cost_form_in None = []
 cost_form_in (Some r) = cost_form r.cost

@@ -1,4 +1,4 @@
--- What signed facts say of runs: how often a rule occurs, how long a run is, what it spends, and how large values are.
+-- What signed facts mean for runs: bounds on how often a rule occurs, on how long a run is, on costs, and on values.
 use Rattle.std.specs.Prelude.{◌≡◌, ◌≢◌, ◌≤◌, ℕ, zero, suc, List, [], ◌∷◌, length, ℤ, pos, neg_ℤ, ◌≤ℤ◌, Some, slice_get}
 use Rattle.potentials.specs.model.Terms.{Term, value}
 use Rattle.potentials.specs.model.Programs.{Program, Rule, rule_at}
@@ -10,7 +10,7 @@ use Rattle.signed_bounds.specs.poly_terms.Laws.{HasTheValueOf}
 use Rattle.signed_bounds.specs.Bounds.{Signed, MaximumOf, NoParts, Part, signed_val}
 use Rattle.potential_nodes.specs.Facts.{SignedFact, SumFact, PeakFact, SizeFact, HoldsSigned, once_charge}
 
--- 1 for each step by some rules: so many, numbered from t on
+-- the charges of 1 for each step by n rules, numbered from t on
 abbrev pub once_charges : ℕ → ℕ → List Charge
 once_charges t zero = []
 once_charges t (suc n) = once_charge t ∷ once_charges (suc t) n
@@ -27,9 +27,10 @@ pub record HasCost (p : Program) (t : ℕ) (cost : Term) : Type 0 where
   pub numbered : rule_at p t ≡ Some rule
   pub written : rule.cost ≡ Some cost
 
--- a sum of 1 for each step by a rule bounds how often it occurs, and the other way round; a sum of 1 for each step by
--- each rule bounds how long a run is; a sum of a rule's cost bounds what its steps spend; peaks of a new value and of
--- its opposite bound the value behind the step from above and from below, and together its absolute value
+-- a bound on the sum of 1 for each step by a rule is one on how often the rule occurs, and the other way round; a bound
+-- on the sum of 1 for each step by each rule is one on the length of a run; a bound on the sum of a rule's cost is one
+-- on its spending; bounds on the peaks of a new value and of its negation are bounds on the value after the step from
+-- above and from below, and together one on its absolute value
 pub record FactsBoundRuns : Type 0 where
   pub counts : (p : Program) (t : ℕ) (b : Signed) → t ≢ 0 → HoldsSigned p (SumFact (once_charge t ∷ []) b)
       → (start : List ℤ) (steps : List Step) (c : Config) → IsRun p start steps c → count t steps ≤ signed_val b start

@@ -11,19 +11,20 @@ use Rattle.potentials.specs.Sums.{Charge, charges, HoldsSum, HoldsPeak}
 use Rattle.signed_bounds.specs.Bounds.{Signed, Constant, signed_val}
 use Rattle.potential_nodes.specs.Lookup.{numbered}
 
--- a bound on the sum of charges, on a form at the steps of a rule, or on the absolute value at a place after a rule
+-- a fact: a bound on the sum of charges, on a form at the steps of a rule, or on the absolute value at a place after a
+-- rule
 pub data SignedFact : Type 0 where
   SumFact : List Charge → Signed → SignedFact
   PeakFact : ℕ → Polynomial → Signed → SignedFact
   SizeFact : ℕ → ℕ → Signed → SignedFact
 
--- after every run whose last step is by the rule, the absolute value at the place is at most what the bound says; for
--- the virtual entry this concerns the runs without a step
+-- after every run whose last step is by the rule, the absolute value at the place is at most the bound; for the virtual
+-- entry, after the runs without a step
 pub record HoldsSignedSize (p : Program) (rule place : ℕ) (bound : List ℤ → ℕ) : Type 0 where
   pub each : (start : List ℤ) (steps : List Step) (c : Config) → IsRun p start steps c → last_rule steps ≡ rule
       → nat_abs (place_value c place) ≤ bound start
 
--- a fact holds on all runs
+-- the fact holds on all runs
 abbrev pub HoldsSigned : Program → SignedFact → Type 0
 HoldsSigned p (SumFact goal b) = HoldsSum p (charges goal) (signed_val b)
 HoldsSigned p (PeakFact rule form b) = HoldsPeak p rule (λ env. polynomial_value form env) (signed_val b)
@@ -33,7 +34,7 @@ HoldsSigned p (SizeFact rule place b) = HoldsSignedSize p rule place (signed_val
 abbrev pub AllSignedHold : Program → List SignedFact → Type 0
 AllSignedHold p facts = AllByRecursion (λ fact. HoldsSigned p fact) facts
 
--- whether two lists of variables, two polynomials, two lists of charges are the same
+-- whether two lists of variables are the same, two polynomials, two lists of charges
 abbrev pub same_variables : List ℕ → List ℕ → Bool
 same_variables [] [] = true
 same_variables [] (w ∷ ws) = false
@@ -55,18 +56,18 @@ same_charges [] (d ∷ ds) = false
 same_charges (c ∷ cs) [] = false
 same_charges (c ∷ cs) (d ∷ ds) = same_charge c d && same_charges cs ds
 
--- the bound of a fact, where it is on the sum of just these charges
+-- the bound of a fact, if the fact is on the sum of just these charges
 abbrev pub sum_bound_in : List Charge → Option SignedFact → Option Signed
 sum_bound_in goal (Some (SumFact goal' b)) = if same_charges goal goal' then Some b else None
 sum_bound_in goal _ = None
 
--- the bound of a fact, where it is on just this form at the steps of the rule
+-- the bound of a fact, if the fact is on just this form at the steps of the rule
 abbrev pub peak_bound_in : ℕ → Polynomial → Option SignedFact → Option Signed
 peak_bound_in rule form (Some (PeakFact rule' form' b)) =
     if (rule == rule') && same_polynomial form form' then Some b else None
 peak_bound_in rule form _ = None
 
--- what the fact with a number says of a sum of charges, and of a form at the steps of a rule
+-- the bound that the fact with a number states on a sum of charges, and on a form at the steps of a rule
 abbrev pub sum_bound : List SignedFact → List Charge → ℕ → Option Signed
 sum_bound facts goal n = sum_bound_in goal (numbered facts n)
 

@@ -1,4 +1,4 @@
--- A potential that pays for charges: when a node of this kind is accepted, and what it states.
+-- A potential that pays for charges: when a node of this kind is accepted, and the fact that it states.
 use Rattle.std.specs.Prelude.{ℕ, Bool, true, ◌&&◌, ◌||◌, List, [], ◌∷◌, ◌++◌, map, Option, Some, None}
 use Rattle.potentials.specs.model.Terms.{Negation}
 use Rattle.potentials.specs.model.Programs.{rule_at}
@@ -17,20 +17,20 @@ use Rattle.potential_nodes.specs.Checks.{Check, check, BadShape, BadFloor, BadAm
 use Rattle.potential_nodes.specs.Tables.{Move, PotentialTable, move_charge, has_function, floor_goal, table_shape}
 use Rattle.potential_nodes.specs.Tables.{missing_checks, move_check, start_bound}
 
--- a payment: the rule, the amount over its variables, and the certificates that the function before the step bears it
--- and that it isn't negative
+-- a payment: the rule, the amount over its variables, and certificates that the function before the step bears the
+-- amount and that it isn't negative
 pub record Payment : Type 0 where
   pub rule : ℕ
   pub amount : Polynomial
   pub floor : List Summand
   pub positive : List Summand
 
--- a potential, and what it pays
+-- a potential, and its payments
 pub record FallNode : Type 0 where
   pub potential : PotentialTable
   pub payments : List Payment
 
--- the rule of a payment; the payment of a rule, where there is one; and its amount, 0 where there is none
+-- the rule of a payment; the payment of a rule, if there is one; and its amount, 0 if there is none
 abbrev pub payer : Payment → ℕ
 payer y = y.rule
 
@@ -44,7 +44,7 @@ amount_in (Some y) = y.amount
 abbrev pub amount_at : FallNode → ℕ → Polynomial
 amount_at n t = amount_in (payment_at n t)
 
--- the goal that a node pays for, as amounts of rules and as charges
+-- the goal of a node: the amounts of its payments, as a goal and as charges
 abbrev pub goal_of : FallNode → Goal
 goal_of n = record {
   is_paid = λ t. is_there (payment_at n t);
@@ -57,12 +57,13 @@ payment_charge y = record { rule = y.rule; form = y.amount }
 abbrev pub charges_of : FallNode → List Charge
 charges_of n = map payment_charge n.payments
 
--- a payment is of a rule that leaves a symbol with a function, and its amount reads the rule's variables alone
+-- the check of a payment's shape: its rule leaves a symbol with a function, and its amount reads the rule's variables
+-- alone
 abbrev pub payment_shape : Ground → PotentialTable → Payment → Check
 payment_shape g tab y = check BadShape
     (has_function tab (source_in (rule_at g.program y.rule)) && reads_below (g.variables y.rule) y.amount)
 
--- the bound that a fact gives for the sum of a move's gain, where one is cited
+-- the bound that the cited fact states on the sum of a move's gain, if a fact is cited
 abbrev pub sum_cited_by : List SignedFact → Move → Option ℕ → Option Signed
 sum_cited_by facts m None = None
 sum_cited_by facts m (Some n) = sum_bound facts (move_charge m ∷ []) n
@@ -70,7 +71,7 @@ sum_cited_by facts m (Some n) = sum_bound facts (move_charge m ∷ []) n
 abbrev pub sum_cited : List SignedFact → Move → Option Signed
 sum_cited facts m = sum_cited_by facts m m.cited
 
--- a fact that a move cites is of the sum of its gain
+-- whether the fact that a move cites, if it cites one, is on the sum of its gain
 abbrev pub cites_sum_by : List SignedFact → Move → Option ℕ → Bool
 cites_sum_by facts m None = true
 cites_sum_by facts m (Some n) = is_there (sum_bound facts (move_charge m ∷ []) n)
@@ -78,11 +79,11 @@ cites_sum_by facts m (Some n) = is_there (sum_bound facts (move_charge m ∷ [])
 abbrev pub sum_shape : List SignedFact → Move → Check
 sum_shape facts m = check BadShape (cites_sum_by facts m m.cited)
 
--- the gain of a move is never over 0, or a fact is cited for it
+-- the check of a move's gain: the gain is never over 0, or a fact is cited for it
 abbrev pub gain_check : Ground → Move → Check
 gain_check g m = check (BadGain m.rule) (is_there m.cited || g.is_safe (Negation (form_term m.gain)))
 
--- the certificates of a payment
+-- the checks of a payment's certificates
 abbrev pub floor_check : Ground → PotentialTable → Payment → Check
 floor_check g tab y =
     check (BadFloor y.rule) (shows g.is_safe (g.rows y.rule) y.floor (floor_goal g tab y.rule y.amount))
@@ -90,7 +91,7 @@ floor_check g tab y =
 abbrev pub amount_check : Ground → Payment → Check
 amount_check g y = check (BadAmount y.rule) (shows g.is_safe (g.rows y.rule) y.positive (form_term y.amount))
 
--- the bounds of the gains of moves
+-- the bounds on the sums of the gains of moves
 abbrev pub with_bound : Option Signed → SignedParts → SignedParts
 with_bound None parts = parts
 with_bound (Some b) parts = Part b parts
@@ -99,11 +100,11 @@ abbrev pub gain_parts : List SignedFact → List Move → SignedParts
 gain_parts facts [] = NoParts
 gain_parts facts (m ∷ moves) = with_bound (sum_cited facts m) (gain_parts facts moves)
 
--- the bound of a node, den times: the level at the start and the gains
+-- the bound of a node, times den: the level at the start plus the gains
 abbrev pub fall_bound : Ground → List SignedFact → PotentialTable → Signed
 fall_bound g facts tab = SumOf (Part (start_bound g tab) (gain_parts facts tab.moves))
 
--- what is checked of a node that pays for charges after lemmas with these facts, in the order of the reasons
+-- the checks of a node that pays for charges, after lemmas with these facts, in the order of the reasons
 abbrev pub fall_checks : Ground → List SignedFact → FallNode → Signed → List Check
 fall_checks g facts n b =
     (table_shape g n.potential ++ (check BadShape (ascends (map payer n.payments))

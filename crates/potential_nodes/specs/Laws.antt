@@ -1,4 +1,4 @@
--- What accepted nodes show.
+-- Accepted nodes are sound.
 use Rattle.std.specs.Prelude.{◌≡◌, List, None}
 use Rattle.potentials.specs.Nodes.{AlwaysPays, AlwaysCovers}
 use Rattle.potentials.specs.model.Polynomials.{polynomial_value}
@@ -11,14 +11,14 @@ use Rattle.potential_nodes.specs.Tables.{potential_of}
 use Rattle.potential_nodes.specs.Falls.{FallNode, goal_of, charges_of, fall_checks}
 use Rattle.potential_nodes.specs.Peaks.{PeakNode, peak_checks}
 
--- an accepted node that pays for charges: its potential pays, and its bound holds
+-- if a node that pays for charges is accepted, its potential pays, and its fact holds
 abbrev pub FallsAreSound : Type 0
 FallsAreSound = (g : Ground) (facts : List SignedFact) (n : FallNode) (b : Signed) → IsTrueGround g → IsSafe g.is_safe
     → AllSignedHold g.program facts → first_refused (fall_checks g facts n b) ≡ None
     → AlwaysPays g.program (potential_of n.potential) n.potential.den (goal_of n)
     × HoldsSigned g.program (SumFact (charges_of n) b)
 
--- an accepted node that covers a form: its potential covers it, and its bound holds
+-- if a node that covers a form is accepted, its potential covers the form, and its fact holds
 abbrev pub PeaksAreSound : Type 0
 PeaksAreSound = (g : Ground) (facts : List SignedFact) (n : PeakNode) (b : Signed) → IsTrueGround g → IsSafe g.is_safe
     → AllSignedHold g.program facts → first_refused (peak_checks g facts n b) ≡ None

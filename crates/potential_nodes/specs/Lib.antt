@@ -1,4 +1,4 @@
--- what nodes consist of, and what is checked of them
+-- The parts of nodes, and their checks.
 pub mod Lookup
 pub mod PolynomialTerms
 pub mod Certificates
@@ -18,7 +18,7 @@ pub mod Limits
 pub mod Acceptance
 pub mod FactMeanings
 pub mod Laws
--- values that were worked out by hand
+-- worked values
 pub mod Worked
 pub mod WorkedCosts
 -- the crates below, which callers name through this one

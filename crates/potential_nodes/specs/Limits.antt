@@ -1,4 +1,4 @@
--- How large a lemma may be, so that judging it takes little time.
+-- The limits on the size of a lemma, so that checking it takes little time.
 use Rattle.std.specs.Prelude.{ℕ, Bool, true, ◌&&◌, not, nat_le, List, [], ◌∷◌, length}
 use Rattle.std.specs.List.{list_all}
 use Rattle.potentials.specs.model.Limits.{monomial_limit, degree_limit}
@@ -23,14 +23,14 @@ summand_limit = 1024
 abbrev pub is_short : List Summand → Bool
 is_short summands = nat_le (length summands) summand_limit
 
--- whether a polynomial has at most 64 monomials of at most 8 factors each
+-- whether a monomial has at most 8 factors, and a polynomial at most 64 such monomials
 abbrev pub is_small_monomial : Monomial → Bool
 is_small_monomial m = nat_le (length m.vars) degree_limit
 
 abbrev pub is_small : Polynomial → Bool
 is_small p = nat_le (length p) monomial_limit && list_all is_small_monomial p
 
--- so it is for what tables, payments, phases and charges have
+-- whether the polynomials and certificates of functions, moves, payments, phases and charges are within the limits
 abbrev pub is_small_function : SymbolFunction → Bool
 is_small_function f = is_small f.form
 

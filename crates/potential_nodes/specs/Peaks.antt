@@ -1,4 +1,4 @@
--- A potential that covers a form of a rule: when a node of this kind is accepted, and what it states.
+-- A potential that covers a form of a rule: when a node of this kind is accepted, and the fact that it states.
 use Rattle.std.specs.Prelude.{ℕ, Bool, true, ◌&&◌, if◌then◌else◌, List, [], ◌∷◌, ◌++◌, map, filter, not, Option, Some}
 use Rattle.std.specs.Prelude.{None}
 use Rattle.potentials.specs.model.Programs.{rule_at}
@@ -23,16 +23,16 @@ pub record PeakNode : Type 0 where
   pub form : Polynomial
   pub floor : List Summand
 
--- nothing is paid
+-- no amounts: 0 for each rule
 abbrev pub no_amounts : ℕ → Polynomial
 no_amounts t = []
 
--- the rule leaves a symbol with a function, and the form reads its variables alone
+-- the check that the rule leaves a symbol with a function, and that the form reads the rule's variables alone
 abbrev pub covered_shape : Ground → PeakNode → Check
 covered_shape g n = check BadShape
     (has_function n.potential (source_in (rule_at g.program n.rule)) && reads_below (g.variables n.rule) n.form)
 
--- the bound that a fact gives for the peak of a move's gain, where one is cited
+-- the bound that the cited fact states on the peak of a move's gain, if a fact is cited
 abbrev pub peak_cited_by : List SignedFact → Move → Option ℕ → Option Signed
 peak_cited_by facts m None = None
 peak_cited_by facts m (Some n) = peak_bound facts m.rule m.gain n
@@ -40,17 +40,17 @@ peak_cited_by facts m (Some n) = peak_bound facts m.rule m.gain n
 abbrev pub peak_cited : List SignedFact → Move → Option Signed
 peak_cited facts m = peak_cited_by facts m m.cited
 
--- a fact that a move cites is of the peak of its gain
+-- whether the fact that a move cites, if it cites one, is on the peak of its gain
 abbrev pub cites_peak_by : List SignedFact → Move → Option ℕ → Bool
 cites_peak_by facts m None = true
 cites_peak_by facts m (Some n) = is_there (peak_bound facts m.rule m.gain n)
 
--- a move that keeps the function cites a sum, and one that sets it anew a peak
+-- the check that a move that keeps the function cites a sum, and one that resets it a peak
 abbrev pub cited_shape : List SignedFact → Move → Check
 cited_shape facts m =
     check BadShape (if m.keeps then cites_sum_by facts m m.cited else cites_peak_by facts m m.cited)
 
--- the moves that keep the function, and those that set it anew
+-- the moves that keep the function, and those that reset it
 abbrev pub keeps_function : Move → Bool
 keeps_function m = m.keeps
 
@@ -63,22 +63,22 @@ kept_moves tab = filter keeps_function tab.moves
 abbrev pub reset_moves : PotentialTable → List Move
 reset_moves tab = filter sets_anew tab.moves
 
--- the bounds of the peaks of gains
+-- the bounds on the peaks of the resets' gains
 abbrev pub peak_parts : List SignedFact → List Move → SignedParts
 peak_parts facts [] = NoParts
 peak_parts facts (m ∷ moves) = with_bound (peak_cited facts m) (peak_parts facts moves)
 
--- the bound is high enough for a level and the gains above it
+-- the check that the stated bound is high enough for a level and the gains above it
 abbrev pub head_check : Ground → List SignedFact → PotentialTable → Signed → Signed → Check
 head_check g facts tab b head = check LowBound
     (within g.is_safe tab.den (SumOf (Part head (gain_parts facts (kept_moves tab)))) b)
 
--- so it is for each level of a list
+-- the checks that the stated bound is high enough for each level of a list
 abbrev pub head_checks : Ground → List SignedFact → PotentialTable → Signed → SignedParts → List Check
 head_checks g facts tab b NoParts = []
 head_checks g facts tab b (Part head heads) = head_check g facts tab b head ∷ head_checks g facts tab b heads
 
--- what is checked of a node that covers a form after lemmas with these facts, in the order of the reasons
+-- the checks of a node that covers a form, after lemmas with these facts, in the order of the reasons
 abbrev pub peak_checks : Ground → List SignedFact → PeakNode → Signed → List Check
 peak_checks g facts n b =
     (table_shape g n.potential ++ (covered_shape g n ∷ map (cited_shape facts) n.potential.moves))

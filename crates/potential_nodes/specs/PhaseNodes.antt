@@ -1,4 +1,4 @@
--- Two phases: when a node of this kind is accepted, and what it states.
+-- Two phases: when a node of this kind is accepted, and the fact that it states.
 use Rattle.std.specs.Prelude.{ℕ, ◌*◌, Bool, true, ◌&&◌, if◌then◌else◌, List, [], ◌∷◌, ◌++◌, map, pos, neg_ℤ}
 use Rattle.std.specs.Prelude.{None}
 use Rattle.potentials.specs.model.Polynomials.{Polynomial, polynomial_value}
@@ -36,25 +36,25 @@ pub record PhasesNode : Type 0 where
   pub moves : List PhaseMove
   pub counted : List CountedRule
 
--- a counted rule pays 1
+-- the payment of 1 for a counted rule
 abbrev pub unit_payment : CountedRule → Payment
 unit_payment c = record { rule = c.rule; amount = one_form; floor = c.floor; positive = [] }
 
--- the first functions as a potential: each move keeps them without a gain
+-- the first functions as a potential, which each move keeps without a gain
 abbrev pub first_move : PhaseMove → Move
 first_move m = record { rule = m.rule; keeps = true; gain = []; cited = None; certificate = m.first }
 
 abbrev pub first_table : PhasesNode → PotentialTable
 first_table n = record { functions = n.firsts; den = n.den; moves = map first_move n.moves }
 
--- what is counted, as payments of 1
+-- the counted rules as payments of 1
 abbrev pub phases_fall : PhasesNode → FallNode
 phases_fall n = record { potential = first_table n; payments = map unit_payment n.counted }
 
 abbrev pub is_counted : PhasesNode → ℕ → Bool
 is_counted n t = is_there (payment_at (phases_fall n) t)
 
--- the second functions as a potential: a move of a counted rule gains the first function of its source
+-- the second functions as a potential: the gain of a move of a counted rule is the first function of its source
 abbrev pub second_move : Ground → PhasesNode → PhaseMove → Move
 second_move g n m = record {
   rule = m.rule;
@@ -67,7 +67,7 @@ second_move g n m = record {
 abbrev pub second_table : Ground → PhasesNode → PotentialTable
 second_table g n = record { functions = n.seconds; den = n.den; moves = map (second_move g n) n.moves }
 
--- the two phases that a node stands for
+-- the two phases of a node
 abbrev pub phases_of : Ground → PhasesNode → Phases
 phases_of g n = record {
   has = λ s. is_there (function_at (first_table n) s);
@@ -76,7 +76,7 @@ phases_of g n = record {
   counted = is_counted n;
 }
 
--- the certificates of a move show that both functions go on in phases
+-- the certificates of a move show that each step by its rule goes in phases
 abbrev pub shows_move : Ground → PhasesNode → PotentialTable → Move → Bool
 shows_move g n tab m =
     shows g.is_safe (g.rows m.rule) m.certificate (move_goal g tab (amount_at (phases_fall n)) m)
@@ -85,12 +85,12 @@ abbrev pub phase_check : Ground → PhasesNode → PhaseMove → Check
 phase_check g n m = check (BadMove m.rule)
     (shows_move g n (first_table n) (first_move m) && shows_move g n (second_table g n) (second_move g n m))
 
--- a polynomial less a number
+-- a polynomial minus a number
 abbrev pub less_number : Polynomial → ℕ → Polynomial
 less_number q k = record { coef = neg_ℤ (pos k); vars = [] } ∷ q
 
--- the bound of a node, den times: den, twice the first function at the start, and the root of 2 * den times the second
--- one there less den
+-- the bound of a node, times den: den, plus twice the first function at the start, plus the root of 2 * den times the
+-- second one there less den
 abbrev pub phases_root : Ground → PhasesNode → Signed
 phases_root g n = Root (ProductOf (Part (Constant (2 * n.den))
     (Part (PositivePart (less_number (form_in (function_at (second_table g n) g.program.start)) n.den)) NoParts)))
@@ -100,14 +100,14 @@ phases_signed g n = SumOf (Part (Constant n.den) (Part (ProductOf (Part (Constan
     (Part (PositivePart (form_in (function_at (first_table n) g.program.start))) NoParts)))
     (Part (phases_root g n) NoParts)))
 
--- both functions are there for the same symbols
+-- the checks of the shape: the same symbols have a first function and a second one
 abbrev pub phases_shape : Ground → PhasesNode → List Check
 phases_shape g n =
     check BadShape (same_variables (map symbol_of n.firsts) (map symbol_of n.seconds))
     ∷ check BadShape (ascends (map payer (map unit_payment n.counted)))
     ∷ map (payment_shape g (first_table n)) (map unit_payment n.counted)
 
--- what is checked of a node of two phases after lemmas with these facts, in the order of the reasons
+-- the checks of a node of two phases, after lemmas with these facts, in the order of the reasons
 abbrev pub phases_checks : Ground → List SignedFact → PhasesNode → Signed → List Check
 phases_checks g facts n b =
     (table_shape g (first_table n) ++ (table_shape g (second_table g n) ++ phases_shape g n))

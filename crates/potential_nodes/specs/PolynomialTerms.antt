@@ -3,7 +3,7 @@ use Rattle.std.specs.Prelude.{ℕ, Bool, true, ◌&&◌, nat_lt, List, [], ◌�
 use Rattle.potentials.specs.model.Terms.{Term, Literal, Variable, Addition, Multiplication}
 use Rattle.potentials.specs.model.Polynomials.{Monomial, Polynomial}
 
--- a product of variables, a monomial and a polynomial, where expression put i stands for variable i
+-- a product of variables, a monomial and a polynomial as expressions, with expression put i for variable i
 abbrev pub product_term : (ℕ → Term) → List ℕ → Term
 product_term put [] = Literal (pos 1)
 product_term put (i ∷ vars) = Multiplication (put i) (product_term put vars)
@@ -19,7 +19,7 @@ polynomial_term put (m ∷ ms) = Addition (monomial_term put m) (polynomial_term
 abbrev pub form_term : Polynomial → Term
 form_term p = polynomial_term Variable p
 
--- an expression of a list, and 0 where there is none
+-- the expression at a position of a list, or 0 if there is none
 abbrev pub term_at : List Term → ℕ → Term
 term_at terms i = slice_index_or terms i (Literal (pos 0))
 
@@ -27,7 +27,7 @@ term_at terms i = slice_index_or terms i (Literal (pos 0))
 abbrev pub form_after : List Term → Polynomial → Term
 form_after new_values p = polynomial_term (term_at new_values) p
 
--- whether the first n variables are the only ones that are read
+-- whether only the first n variables are read
 abbrev pub all_below : ℕ → List ℕ → Bool
 all_below n [] = true
 all_below n (i ∷ vars) = nat_lt i n && all_below n vars

@@ -20,8 +20,8 @@ pub record SymbolFunction : Type 0 where
   pub symbol : ℕ
   pub form : Polynomial
 
--- the move of a rule to a symbol with a function: whether it keeps the function of its source or sets it anew, what it
--- gains at most, the number of the fact that bounds the gain where one is needed, and the certificate
+-- the move of a rule to a symbol with a function: whether it keeps the function of its source or resets it, its
+-- greatest gain, the number of the fact that bounds the gain if one is needed, and the certificate
 pub record Move : Type 0 where
   pub rule : ℕ
   pub keeps : Bool
@@ -35,21 +35,21 @@ pub record PotentialTable : Type 0 where
   pub den : ℕ
   pub moves : List Move
 
--- the keys of functions and moves
+-- the symbol of a function, and the rule of a move
 abbrev pub symbol_of : SymbolFunction → ℕ
 symbol_of f = f.symbol
 
 abbrev pub rule_of : Move → ℕ
 rule_of m = m.rule
 
--- the function of a symbol and the move of a rule, where there is one
+-- the function of a symbol and the move of a rule, if there is one
 abbrev pub function_at : PotentialTable → ℕ → Option SymbolFunction
 function_at tab s = lookup symbol_of s tab.functions
 
 abbrev pub move_at : PotentialTable → ℕ → Option Move
 move_at tab t = lookup rule_of t tab.moves
 
--- the polynomial of a function, and the gain of a move, 0 where there is none; what a move does
+-- the polynomial of a function, and the gain of a move, 0 if there is none; and what a move does
 abbrev pub form_in : Option SymbolFunction → Polynomial
 form_in None = []
 form_in (Some f) = f.form
@@ -62,7 +62,7 @@ abbrev pub kind_in : Option Move → Kind
 kind_in None = Never
 kind_in (Some m) = if m.keeps then Keeps else Resets
 
--- the potential that a table stands for
+-- the potential of a table
 abbrev pub potential_of : PotentialTable → Potential
 potential_of tab = record {
   has = λ s. is_there (function_at tab s);
@@ -75,7 +75,7 @@ potential_of tab = record {
 abbrev pub move_charge : Move → Charge
 move_charge m = record { rule = m.rule; form = m.gain }
 
--- whether a symbol that may be there has a function; its polynomial, and 0 where there is none
+-- whether a symbol, if there is one, has a function; and the function's polynomial, 0 if it has none
 abbrev pub has_function : PotentialTable → Option ℕ → Bool
 has_function tab None = false
 has_function tab (Some s) = is_there (function_at tab s)
@@ -91,16 +91,16 @@ source_form g tab t = form_at tab (source_in (rule_at g.program t))
 abbrev pub target_form : Ground → PotentialTable → ℕ → Polynomial
 target_form g tab t = form_at tab (target_in (rule_at g.program t))
 
--- the function behind a step, over the unknowns of its rule
+-- the function after a step, over the unknowns of its rule
 abbrev pub behind : Ground → PotentialTable → ℕ → Term
 behind g tab t = form_after (g.new_values t) (target_form g tab t)
 
--- den times a form
+-- den times a form, as an expression
 abbrev pub times_den : PotentialTable → Polynomial → Term
 times_den tab form = Multiplication (Literal (pos tab.den)) (form_term form)
 
--- what is at least 0 at each step of a move, where the rule takes the amount: what is left of the function before it
--- and the gain, or of the gain alone
+-- the goal of a move, which is at least 0 at each step by its rule: the function before the step plus the gain, minus
+-- the function after it and den times the amount; for a reset the gain minus the function after it
 abbrev pub kept_goal : Ground → PotentialTable → Move → Polynomial → Term
 kept_goal g tab m amount =
     Subtraction (Addition (form_term (source_form g tab m.rule)) (form_term m.gain))
@@ -112,23 +112,23 @@ reset_goal g tab m = Subtraction (form_term m.gain) (behind g tab m.rule)
 abbrev pub move_goal : Ground → PotentialTable → (ℕ → Polynomial) → Move → Term
 move_goal g tab amounts m = if m.keeps then kept_goal g tab m (amounts m.rule) else reset_goal g tab m
 
--- what is at least 0 at each step by a rule where the function before it is at least den times the form
+-- the goal that the function before a step by a rule is at least den times the form
 abbrev pub floor_goal : Ground → PotentialTable → ℕ → Polynomial → Term
 floor_goal g tab t form = Subtraction (form_term (source_form g tab t)) (times_den tab form)
 
--- a function reads the places of its symbol alone
+-- the check that a function reads the places of its symbol alone
 abbrev pub function_shape : Ground → SymbolFunction → Check
 function_shape g f = check BadShape (reads_below (g.places f.symbol) f.form)
 
--- a move is of a rule that leads to a symbol with a function, and leaves one where it keeps the function; its gain
--- reads the rule's variables alone
+-- the check of a move's shape: its rule leads to a symbol with a function, and leaves one if it keeps the function; its
+-- gain reads the rule's variables alone
 abbrev pub move_shape : Ground → PotentialTable → Move → Check
 move_shape g tab m = check BadShape
     (has_function tab (target_in (rule_at g.program m.rule))
     && ((not m.keeps || has_function tab (source_in (rule_at g.program m.rule)))
     && reads_below (g.variables m.rule) m.gain))
 
--- the shape of a table: den is at least 1, symbols and rules ascend, and each function and move has its shape
+-- the checks of a table's shape: den is at least 1, symbols and rules ascend, and each function and move has its shape
 abbrev pub table_shape : Ground → PotentialTable → List Check
 table_shape g tab =
     check BadShape (nat_le 1 tab.den) ∷ check BadShape (ascends (map symbol_of tab.functions))
@@ -148,7 +148,7 @@ missing_from tab never t (r ∷ rules) =
 abbrev pub missing_checks : Ground → PotentialTable → (ℕ → Bool) → List Check
 missing_checks g tab never = missing_from tab never 1 g.program.rules
 
--- the certificate of a move shows its goal
+-- the check that the certificate of a move shows its goal
 abbrev pub move_check : Ground → PotentialTable → (ℕ → Polynomial) → Move → Check
 move_check g tab amounts m =
     check (BadMove m.rule) (shows g.is_safe (g.rows m.rule) m.certificate (move_goal g tab amounts m))

@@ -1,4 +1,4 @@
--- Nodes that are accepted and nodes that aren't, worked out by hand on a program with one loop.
+-- Worked values of nodes that are accepted and nodes that aren't, on a program with one loop.
 use Rattle.std.specs.Prelude.{◌≡◌, ℕ, zero, suc, true, false, List, [], ◌∷◌, ℤ, pos, negsuc, Option, Some, None}
 use Rattle.potentials.specs.model.Terms.{Term, Literal, Variable, Addition, Subtraction, Multiplication}
 use Rattle.potentials.specs.model.Programs.{Program, Rule, LessThan, Compare}
@@ -51,7 +51,7 @@ loop = over_two_places (entering_loop ∷ counting_up ∷ [])
 abbrev pub loop_row : Term
 loop_row = Subtraction (Subtraction (Variable 1) (Variable 0)) (Literal (pos 1))
 
--- what is known of its steps
+-- the rows and the new values of the loop's steps
 abbrev pub loop_rows : ℕ → List Term
 loop_rows (suc (suc zero)) = loop_row ∷ []
 loop_rows t = []
@@ -87,8 +87,9 @@ value_of_a = times (pos 1) 0 ∷ []
 abbrev pub five_times : Term
 five_times = Multiplication (Literal (negsuc 4)) (Multiplication (Variable 1) (Variable 0))
 
--- certificates on the row B - A - 1: it shows B - A and nothing does without it; less its square 0 isn't shown; where A
--- and -A are rows -5*B*A is, by -5 times and not by 4 times; and a row isn't its own opposite
+-- worked certificates on the row B - A - 1: it shows B - A, which isn't shown without it; 0 minus its square isn't
+-- shown; where A and -A are rows, -5*B*A is shown by -5 times their product with B, but not by 4 times; and a row
+-- isn't its own negation
 pub record CertificatesAreWorkedOut : Type 0 where
   pub row : shows expands_to_squares (loop_row ∷ []) (OneRow 1 0 ∷ []) (Subtraction (Variable 1) (Variable 0)) ≡ true
   pub no_row : shows expands_to_squares (loop_row ∷ []) [] (Subtraction (Variable 1) (Variable 0)) ≡ false
@@ -105,7 +106,7 @@ pub record CertificatesAreWorkedOut : Type 0 where
 abbrev pub at_both : Polynomial → List SymbolFunction
 at_both q = record { symbol = 0; form = q } ∷ record { symbol = 1; form = q } ∷ []
 
--- a move that keeps the function with a gain, by no lemma and no row
+-- a move that keeps the function with a gain, without a cited lemma or a certificate
 abbrev pub keep : ℕ → Polynomial → Move
 keep t gain = record { rule = t; keeps = true; gain = gain; cited = None; certificate = [] }
 
@@ -113,20 +114,20 @@ keep t gain = record { rule = t; keeps = true; gain = gain; cited = None; certif
 abbrev pub table : ℕ → Polynomial → List Move → PotentialTable
 table den q moves = record { functions = at_both q; den = den; moves = moves }
 
--- it pays 1 for each step by rule 2
+-- a node in which the potential pays 1 for each step by rule 2
 abbrev pub pays_once : PotentialTable → SignedNode
 pays_once tab = Fall (record {
   potential = tab;
   payments = record { rule = 2; amount = one_form; floor = OneRow 1 0 ∷ []; positive = [] } ∷ [];
 })
 
--- whether a node with a bound is accepted after facts, and why not
+-- the reason why a node with a bound isn't accepted after these facts; none if it is
 abbrev pub refused : List SignedFact → SignedNode → Signed → Option Reason
 refused facts n b = refusal loop_ground facts (record { node = n; bound = b })
 
--- B - A at both symbols pays, with the bound [B - A]; not with a lower bound, with no move of rule 1 unless it never
--- occurs, with a function that is lower by 1, with A, with den 0, with moves in another order, or with a gain of 1 that no
--- fact bounds
+-- B - A at both symbols pays, with the bound [B - A]; but not with a lower bound, without a move of rule 1 unless it
+-- never occurs, with a function that is lower by 1, with A, with den 0, with moves in another order, or with a gain of
+-- 1 that no fact bounds
 pub record FallsAreWorkedOut : Type 0 where
   pub accepted : refused [] (pays_once (table 1 (gap (pos 0)) (keep 1 [] ∷ keep 2 [] ∷ [])))
       (PositivePart (gap (pos 0))) ≡ None
@@ -147,7 +148,7 @@ pub record FallsAreWorkedOut : Type 0 where
   pub gain : refused [] (pays_once (table 1 (gap (pos 0)) (keep 1 (number (pos 1) ∷ []) ∷ keep 2 [] ∷ [])))
       (PositivePart (gap (pos 0))) ≡ Some (BadGain 1)
 
--- B - A as a peak at rule 2
+-- a node in which B - A covers B - A at rule 2
 abbrev pub covers_gap : SignedNode
 covers_gap = Peak (record {
   potential = table 1 (gap (pos 0)) (keep 1 [] ∷ keep 2 [] ∷ []);
@@ -156,7 +157,8 @@ covers_gap = Peak (record {
   floor = [];
 })
 
--- a peak with its bound and with a lower one; A - B + 2, which is at most 1 at rule 2, and not shown to be at most 0
+-- a peak is accepted with its bound, but not with a lower one; A - B + 2 is at most 1 at rule 2, and isn't shown to be
+-- at most 0
 pub record PeaksAreWorkedOut : Type 0 where
   pub accepted : refused [] covers_gap (PositivePart (gap (pos 0))) ≡ None
   pub low : refused [] covers_gap (PositivePart (gap (negsuc 0))) ≡ Some LowBound
@@ -194,7 +196,7 @@ three_facts =
     SumFact (once_charge 2 ∷ []) (Constant 5) ∷ PeakFact 2 value_of_a (Constant 3)
     ∷ SumFact (once_charge 1 ∷ []) (Constant 1) ∷ []
 
--- what is composed of them, and what isn't
+-- facts composed of these three, and compositions that fail
 pub record CombinationsAreWorkedOut : Type 0 where
   pub product : refused three_facts (Combined (Times 2 value_of_a 1 2)) (Constant 15) ≡ None
   pub product_low : refused three_facts (Combined (Times 2 value_of_a 1 2)) (Constant 14) ≡ Some LowBound
@@ -207,7 +209,7 @@ pub record CombinationsAreWorkedOut : Type 0 where
   pub not_among : refused three_facts (Combined (Among (once_charge 1 ∷ []) 1)) (Constant 5) ≡ Some BadShape
   pub no_lemma : refused three_facts (Combined (Among [] 4)) (Constant 5) ≡ Some BadShape
 
--- B - A as both functions of two phases
+-- a node of two phases with B - A as both functions
 abbrev pub gap_phases : PhasesNode
 gap_phases = record {
   firsts = at_both (gap (pos 0));
@@ -217,12 +219,12 @@ gap_phases = record {
   counted = record { rule = 2; floor = OneRow 1 0 ∷ [] } ∷ [];
 }
 
--- they are accepted with the bound that they compose, and not with [B - A]
+-- two phases are accepted with the bound that they compose, but not with [B - A]
 pub record PhaseNodesAreWorkedOut : Type 0 where
   pub accepted : refused [] (InPhases gap_phases) (phases_signed loop_ground gap_phases) ≡ None
   pub low : refused [] (InPhases gap_phases) (PositivePart (gap (pos 0))) ≡ Some LowBound
 
--- what is known of the loop's steps is true, so rule 2 occurs at most [B - A] times, and not always once less
+-- the rows are true of the loop's steps, so rule 2 occurs at most [B - A] times, and not always at most once less
 pub record LoopsAreBounded : Type 0 where
   pub ground : IsTrueGround loop_ground
   pub bound : HoldsSum loop (charges (once_charge 2 ∷ [])) (signed_val (PositivePart (gap (pos 0))))

@@ -1,6 +1,6 @@
-//! Nodes that show facts about all runs by potentials: what they consist of, when they are accepted, and that an
-//! accepted one states what holds. The functions here have no code: the contract of each is the law, or values that
-//! were worked out by hand.
+//! Nodes that show facts about all runs by potentials: their parts, when they are accepted, and that an accepted node
+//! states a fact that holds. The functions here have no code: the contract of each is a law, or values that were worked
+//! out by hand.
 #![tactic(auto)]
 
 ghost use Rattle.potential_nodes.specs.Certificates.{CertificatesOfProductsHold};
@@ -18,19 +18,20 @@ pub fn certificates_of_products_hold()
     ensures { CertificatesOfProductsHold }
 {}
 
-/// No check of a list is refused exactly where all hold, and a refusal has the reason of the first that fails.
+/// No check of a list is refused exactly if all checks hold, and a refusal has the reason of the first check that
+/// fails.
 pub fn refusals_are_failures()
     ensures { RefusalsAreFailures }
 {}
 
-/// No lemma of a list is refused exactly where each is accepted behind the facts of those before it, and the refusal of
-/// a list has the number and the reason of the first lemma that isn't.
+/// No lemma of a list is refused exactly if each is accepted after the facts of those before it, and the refusal of a
+/// list has the number and the reason of the first lemma that isn't accepted.
 pub fn refusals_are_first()
     ensures { FirstRefusalsAreFirst }
 {}
 
-/// What signed facts say of runs: how often a rule occurs, how long a run is, what the steps of a rule spend, and how
-/// large the value at a place is behind a step, from above, from below and by its absolute value.
+/// What signed facts mean for runs: they bound how often a rule occurs, how long a run is, the cost of a rule's steps,
+/// and the value at a place after a step, from above, from below and in absolute value.
 pub fn facts_bound_runs()
     ensures { FactsBoundRuns }
 {}
@@ -42,14 +43,14 @@ pub fn plain_facts_hold()
     signed_bounds::signed_bounds_keep_values();
 }
 
-/// The sum that a fact on a rule's cost says something of as a signed one is what the rule's steps spend.
+/// The sum in the signed fact on a rule's cost is what the rule's steps spend.
 pub fn signed_costs_are_costs()
     ensures { SignedCostsAreCosts }
 {
     signed_bounds::signed_bounds_keep_values();
 }
 
-/// Facts on costs as signed ones are what was worked out by hand, and hold or don't.
+/// Worked values of facts on costs as signed facts, which hold or don't.
 pub fn costs_are_as_worked_out()
     ensures { CostsAreWorkedOut }
 {
@@ -77,14 +78,14 @@ pub fn accepted_nodes_hold()
     signed_bounds::within_holds();
 }
 
-/// Where no lemma of a list is refused, the facts of all of them hold on all runs.
+/// If no lemma of a list is refused, the facts of all of them hold on all runs.
 pub fn accepted_lemmas_hold()
     ensures { AcceptedLemmasHold }
 {
     signed_bounds::within_holds();
 }
 
-/// Certificates and nodes of all kinds are accepted, or refused for the reason, that was worked out by hand.
+/// Worked values of certificates and of nodes of all kinds, which are accepted, or refused for a reason.
 pub fn nodes_are_as_worked_out()
     ensures certificates { CertificatesAreWorkedOut }
     ensures falls { FallsAreWorkedOut }
@@ -93,8 +94,8 @@ pub fn nodes_are_as_worked_out()
     ensures phases { PhaseNodesAreWorkedOut }
 {}
 
-/// The whole way on a loop that counts A up to B: what is known of its steps is true, and the charge 1 of its rule adds
-/// up to at most `[B - A]` in each run, and not always to 1 less.
+/// A whole example, a loop that counts A up to B: the rows of its steps are true of them, and the charge 1 of its rule
+/// adds up to at most `[B - A]` in each run, but not always to 1 less.
 pub fn loops_are_bounded()
     ensures { LoopsAreBounded }
 {

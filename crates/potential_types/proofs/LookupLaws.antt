@@ -5,26 +5,26 @@ use Rattle.std.specs.Prelude.{slice_get, option_map}
 use Rattle.std.specs.Slice.{IsItemAt}
 use Rattle.potential_nodes.specs.Lookup.{numbered}
 
--- an element of a mapped list
+-- the element at a position of a mapped list is the image of that at the position
 mapped-get : {A B : Type 0} (f : A → B) (xs : List A) (i : ℕ) (x : A) → i < length xs → x ≡ get_or xs i x
     → slice_get (map f xs) i ≡ Some (f x)
 mapped-get f [] i x h e = absurd (omega (arith, h))
 mapped-get f (y ∷ xs) zero x h e = ap (λ z. Some (f z)) (sym e)
 mapped-get f (y ∷ xs) (suc i) x h e = mapped-get f xs i x (omega (arith, h)) e
 
--- there is none past the end
+-- past the end of a list there is no element
 get-past : {A B : Type 0} (f : A → B) (xs : List A) (i : ℕ) → length xs ≤ i → slice_get (map f xs) i ≡ None
 get-past f [] i h = refl
 get-past f (y ∷ xs) zero h = absurd (omega (arith, h))
 get-past f (y ∷ xs) (suc i) h = get-past f xs i (omega (arith, h))
 
--- mapping first or last is the same
+-- the element at a position of the image of a list is the image of the element at it
 pub get-map : {A B : Type 0} (f : A → B) (xs : List A) (i : ℕ) → slice_get (map f xs) i ≡ option_map f (slice_get xs i)
 get-map f [] i = refl
 get-map f (y ∷ xs) zero = refl
 get-map f (y ∷ xs) (suc i) = get-map f xs i
 
--- what is found one before a number, from 1 on, is the element with the number
+-- the element at a position one less than a number, from 1 on, is the element with that number
 pub item-numbered : {A B : Type 0} (f : A → B) (xs : List A) (n : ℕ) (o : Option (Bor A)) → 0 < n
     → IsItemAt xs (n - 1) o → option_map (λ r. f r.now) o ≡ numbered (map f xs) n
 item-numbered f xs zero o low h = absurd (omega (arith, low))

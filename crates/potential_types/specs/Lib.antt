@@ -1,4 +1,4 @@
--- lemmas, facts and reasons as plain data
+-- Lemmas, facts and reasons as plain data.
 pub mod Views
 -- bounds that are the number 0
 pub mod Zeros

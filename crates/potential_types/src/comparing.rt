@@ -88,7 +88,7 @@ fn is_one(p: &Poly) -> bool
     }
 }
 
-/// Whether charges are just 1 for each step by a rule.
+/// Whether the charges are just 1 for each step by a rule.
 pub(crate) fn is_once(rule: u32, charges: &[Charge]) -> bool
     ensures { result ≡ are_same_charges (charge_once rule ∷ []) (map charge_of charges.now) }
 {
@@ -98,7 +98,7 @@ pub(crate) fn is_once(rule: u32, charges: &[Charge]) -> bool
     }
 }
 
-/// Whether charges are just a polynomial at the steps of a rule.
+/// Whether the charges are just one polynomial, at the steps of a rule.
 pub(crate) fn is_only(rule: u32, form: &Poly, charges: &[Charge]) -> bool
     ensures { result ≡ are_same_charges (record { rule = rule; form = poly_of form.now } ∷ []) (map charge_of charges.now) }
 {
@@ -110,7 +110,7 @@ pub(crate) fn is_only(rule: u32, form: &Poly, charges: &[Charge]) -> bool
     }
 }
 
-// Whether the first variables, so many, are the only ones among these.
+// Whether all of these variables are among the first `count`.
 fn all_below(count: u32, vars: &[u32]) -> bool
     ensures { result ≡ are_all_below count vars.now }
 {
@@ -131,7 +131,7 @@ fn monomials_read_below(count: u32, monomials: &[Monomial]) -> bool
     }
 }
 
-/// Whether a polynomial reads the first variables alone, so many.
+/// Whether a polynomial reads only the first `count` variables.
 pub fn reads_below(count: u32, p: &Poly) -> bool
     ensures { result ≡ is_reading_below count (poly_of p.now) }
 {

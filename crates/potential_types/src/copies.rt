@@ -12,7 +12,7 @@ use poly_terms::{Memory, Monomial, Poly};
 use signed_bounds::Signed;
 use std::alloc::Global;
 
-// A monomial.
+// A copy of a monomial.
 fn copied_monomial(alloc: Global, monomial: &Monomial) -> Result<Monomial, Memory>
     ensures { IfOk result (λ m. monomial_of m ≡ monomial_of monomial.now) }
 {
@@ -22,7 +22,7 @@ fn copied_monomial(alloc: Global, monomial: &Monomial) -> Result<Monomial, Memor
     })
 }
 
-/// Monomials, in order.
+/// Copies of monomials, in order.
 pub fn copied_monomials(alloc: Global, monomials: &[Monomial]) -> Result<Vec<Monomial>, Memory>
     ensures { IfOk result (λ copies. monomials_of copies.items ≡ monomials_of monomials.now) }
 {
@@ -33,7 +33,7 @@ pub fn copied_monomials(alloc: Global, monomials: &[Monomial]) -> Result<Vec<Mon
     Ok(copies)
 }
 
-/// A polynomial.
+/// A copy of a polynomial.
 pub fn copied_poly(alloc: Global, p: &Poly) -> Result<Poly, Memory>
     ensures { IfOk result (λ q. poly_of q ≡ poly_of p.now) }
 {
@@ -42,7 +42,7 @@ pub fn copied_poly(alloc: Global, p: &Poly) -> Result<Poly, Memory>
     })
 }
 
-// A charge.
+// A copy of a charge.
 fn copied_charge(alloc: Global, charge: &Charge) -> Result<Charge, Memory>
     ensures { IfOk result (λ c. charge_of c ≡ charge_of charge.now) }
 {
@@ -52,7 +52,7 @@ fn copied_charge(alloc: Global, charge: &Charge) -> Result<Charge, Memory>
     })
 }
 
-/// Charges, in order.
+/// Copies of charges, in order.
 pub fn copied_charges(alloc: Global, charges: &[Charge]) -> Result<Vec<Charge>, Memory>
     ensures { IfOk result (λ copies. map charge_of copies.items ≡ map charge_of charges.now) }
 {
@@ -63,7 +63,7 @@ pub fn copied_charges(alloc: Global, charges: &[Charge]) -> Result<Vec<Charge>, 
     Ok(copies)
 }
 
-/// A certificate.
+/// A copy of a certificate.
 pub fn copied_certificate(alloc: Global, certificate: &[Summand]) -> Result<Vec<Summand>, Memory>
     ensures { IfOk result (λ copies. summands_of copies.items ≡ summands_of certificate.now) }
 {
@@ -74,7 +74,7 @@ pub fn copied_certificate(alloc: Global, certificate: &[Summand]) -> Result<Vec<
     Ok(copies)
 }
 
-/// A bound.
+/// A copy of a bound.
 #[cycle(copied)]
 pub fn copied_bound(alloc: Global, bound: &Signed) -> Result<Signed, Memory>
     ensures { IfOk result (λ b. signed_of b ≡ signed_of bound.now) }
@@ -104,7 +104,7 @@ pub fn copied_bound(alloc: Global, bound: &Signed) -> Result<Signed, Memory>
     }
 }
 
-// Bounds, in order.
+// Copies of bounds, in order.
 #[cycle(copied)]
 fn copied_parts(alloc: Global, parts: &[Signed]) -> Result<Vec<Signed>, Memory>
     ensures { IfOk result (λ copies. signeds_of copies.items ≡ signeds_of parts.now) }

@@ -3,7 +3,7 @@
 use poly_terms::Poly;
 use signed_bounds::Signed;
 
-/// A polynomial over the variables of a rule, which counts at each of its steps where it is positive.
+/// A polynomial over the variables of a rule, whose positive part is counted at each step by the rule.
 #[derive(Drop)]
 pub struct Charge {
     /// The number of the rule, from 1 on.
@@ -11,13 +11,13 @@ pub struct Charge {
     pub form: Poly,
 }
 
-/// What holds on all runs.
+/// A fact, which may hold on all runs.
 #[derive(Drop)]
 pub enum SignedFact {
-    /// A bound on what the steps of a run are charged together.
+    /// A bound on the sum of the charges of the steps of a run.
     Sum(Vec<Charge>, Signed),
     /// A bound on a polynomial over the variables of a rule, at each of its steps.
     Peak(u32, Poly, Signed),
-    /// A bound on the absolute value at a place, from 1 on, behind each step by a rule, or at the start for rule 0.
+    /// A bound on the absolute value at a place, from 1 on, after each step by a rule, or at the start for rule 0.
     Size(u32, u32, Signed),
 }

@@ -1,9 +1,9 @@
-//! Lemmas about potentials as the code holds them: nodes, the facts that they state, and why one isn't accepted. Contracts
-//! see each as the plain data of `potential_nodes`.
+//! Lemmas about potentials as Rust types: nodes, the facts that they state, and why a lemma isn't accepted. Contracts
+//! read each as the plain data of `potential_nodes`.
 //!
-//! Builds on `potential_nodes` (what lemmas are), `signed_bounds` and `poly_terms`. Main guarantee: copies have the same
-//! plain form, and whether a lemma is within the limits, whether polynomials or charges are the same and which fact has a
-//! number is decided exactly as `potential_nodes` defines it.
+//! Builds on `potential_nodes` (the definitions), `signed_bounds` and `poly_terms`. Main guarantee: copies have the
+//! same plain form; and whether a lemma is within the limits, whether polynomials or charges are the same, and which
+//! fact has a number is decided exactly as `potential_nodes` defines it.
 #![tactic(auto)]
 
 mod comparing;

@@ -1,4 +1,4 @@
-//! How large a lemma may be.
+//! The limits on the size of a lemma.
 
 ghost use Rattle.std.specs.Prelude.{◌≡◌, map};
 ghost use Rattle.std.specs.List.{list_all};
@@ -27,8 +27,8 @@ const MONOMIAL_LIMIT: usize = 64;
 
 const DEGREE_LIMIT: usize = 8;
 
-/// Whether a lemma is within the limits: its polynomials have at most 64 monomials of at most 8 factors, its certificates
-/// at most 1,024 summands, and the bound that it states doesn't exceed those of bounds.
+/// Whether a lemma is within the limits: its polynomials have at most 64 monomials of at most 8 factors, its
+/// certificates at most 1,024 summands, and the bound that it states is within the limits of bounds.
 pub fn is_within_limits(lemma: &SignedLemma) -> bool
     ensures { result ≡ is_limited (node_of lemma.now.node) (signed_of lemma.now.bound) }
 {

@@ -27,7 +27,7 @@ pub fn numbered(facts: &[SignedFact], number: u32) -> Option<&SignedFact>
     facts.get(number as usize - 1)
 }
 
-// The bound of a fact, where it is on the sum of just this polynomial at the steps of the rule.
+// The bound of a fact, if the fact is on the sum of just this polynomial at the steps of the rule.
 fn sum_stated<'f>(rule: u32, form: &Poly, fact: &'f SignedFact) -> Option<&'f Signed>
     ensures { option_map (λ b. signed_of b.now) result
         ≡ sum_bound_in (record { rule = rule; form = poly_of form.now } ∷ []) (Some (fact_view fact.now)) }
@@ -45,7 +45,7 @@ fn sum_stated<'f>(rule: u32, form: &Poly, fact: &'f SignedFact) -> Option<&'f Si
     }
 }
 
-/// The bound of the fact with a number, where it is on the sum of just this polynomial at the steps of the rule.
+/// The bound of the fact with a number, if the fact is on the sum of just this polynomial at the steps of the rule.
 pub fn sum_of_form<'f>(
     facts: &'f [SignedFact],
     rule: u32,
@@ -61,7 +61,7 @@ pub fn sum_of_form<'f>(
     }
 }
 
-// The bound of a fact, where it is on how often the rule occurs.
+// The bound of a fact, if the fact is on how often the rule occurs.
 fn time_stated(rule: u32, fact: &SignedFact) -> Option<&Signed>
     ensures { option_map (λ b. signed_of b.now) result ≡ sum_bound_in (charge_once rule ∷ []) (Some (fact_view fact.now)) }
 {
@@ -78,7 +78,7 @@ fn time_stated(rule: u32, fact: &SignedFact) -> Option<&Signed>
     }
 }
 
-/// The bound of the fact with a number, where it is on how often the rule occurs.
+/// The bound of the fact with a number, if the fact is on how often the rule occurs.
 pub fn time_bound(facts: &[SignedFact], rule: u32, number: u32) -> Option<&Signed>
     ensures { option_map (λ b. signed_of b.now) result
         ≡ bound_of_sum (map fact_view facts.now) (charge_once rule ∷ []) number }
@@ -89,7 +89,7 @@ pub fn time_bound(facts: &[SignedFact], rule: u32, number: u32) -> Option<&Signe
     }
 }
 
-// The bound of a fact, where it is on just this polynomial at the steps of the rule.
+// The bound of a fact, if the fact is on just this polynomial at the steps of the rule.
 fn peak_stated<'f>(rule: u32, form: &Poly, fact: &'f SignedFact) -> Option<&'f Signed>
     ensures { option_map (λ b. signed_of b.now) result
         ≡ peak_bound_in rule (poly_of form.now) (Some (fact_view fact.now)) }
@@ -107,7 +107,7 @@ fn peak_stated<'f>(rule: u32, form: &Poly, fact: &'f SignedFact) -> Option<&'f S
     }
 }
 
-/// The bound of the fact with a number, where it is on just this polynomial at the steps of the rule.
+/// The bound of the fact with a number, if the fact is on just this polynomial at the steps of the rule.
 pub fn peak_bound<'f>(
     facts: &'f [SignedFact],
     rule: u32,
@@ -123,7 +123,7 @@ pub fn peak_bound<'f>(
     }
 }
 
-// The bound of a fact, where it is on the absolute value at a place behind a rule.
+// The bound of a fact, if the fact is on the absolute value at a place after a rule.
 fn size_stated(rule: u32, place: u64, fact: &SignedFact) -> Option<&Signed>
     ensures { option_map (λ b. signed_of b.now) result ≡ size_in rule place (Some (fact_view fact.now)) }
 {
@@ -140,7 +140,7 @@ fn size_stated(rule: u32, place: u64, fact: &SignedFact) -> Option<&Signed>
     }
 }
 
-/// The bound of the fact with a number, where it is on the absolute value at a place, from 1 on, behind a rule.
+/// The bound of the fact with a number, if the fact is on the absolute value at a place, from 1 on, after a rule.
 pub fn size_bound(facts: &[SignedFact], rule: u32, place: u64, number: u32) -> Option<&Signed>
     ensures { option_map (λ b. signed_of b.now) result
         ≡ size_in rule place (fact_numbered (map fact_view facts.now) number) }

@@ -6,20 +6,20 @@ use crate::tables::{PotentialTable, SymbolFunction};
 use poly_terms::Poly;
 use signed_bounds::Signed;
 
-/// What a potential pays at the steps of a rule.
+/// The amount that a potential pays at the steps of a rule.
 #[derive(Drop)]
 pub struct Payment {
     /// The number of the rule, from 1 on.
     pub rule: u32,
     /// The amount, over the rule's variables.
     pub amount: Poly,
-    /// Shows that the function before the step is at least the amount, times the denominator.
+    /// The certificate that the function before the step is at least the amount, times the denominator.
     pub floor: Vec<Summand>,
-    /// Shows that the amount isn't negative.
+    /// The certificate that the amount isn't negative.
     pub positive: Vec<Summand>,
 }
 
-/// A potential that pays amounts by ascending rules.
+/// A potential, and the amounts that it pays, by ascending rules.
 #[derive(Drop)]
 pub struct FallNode {
     pub potential: PotentialTable,
@@ -32,7 +32,7 @@ pub struct PeakNode {
     pub potential: PotentialTable,
     pub rule: u32,
     pub form: Poly,
-    /// Shows that the function before the step is at least the polynomial, times the denominator.
+    /// The certificate that the function before the step is at least the polynomial, times the denominator.
     pub floor: Vec<Summand>,
 }
 
@@ -45,7 +45,7 @@ pub struct RowNode {
     pub certificate: Vec<Summand>,
 }
 
-/// A fact that is composed of others, each by its number.
+/// A fact that is composed of others, each cited by its number.
 #[derive(Drop)]
 pub enum Combination {
     /// The sum of a polynomial over a rule's steps: how often the rule occurs, times the peak of the polynomial.
@@ -63,7 +63,7 @@ pub enum Combination {
     Among(Vec<Charge>, u32),
 }
 
-/// A polynomial over the places of a rule's source, by sizes behind the rules before it.
+/// A polynomial over the places of a rule's source, bounded by their sizes after the rules before it.
 #[derive(Drop)]
 pub struct SizedNode {
     pub rule: u32,

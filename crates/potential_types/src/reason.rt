@@ -1,9 +1,9 @@
 //! Why a lemma isn't accepted.
 
-/// The first check of a lemma that fails; rules have their number.
+/// The first check of a lemma that fails, with the number of the rule that it is about.
 #[derive(Clone, Copy)]
 pub enum Reason {
-    /// Its shape: a limit, an order, a symbol, a variable or a cited fact.
+    /// The shape is wrong: a limit, an order, a symbol, a variable or a cited fact.
     BadShape,
     /// A rule that leads to a symbol with a function and may occur has no move.
     MissingTime(u32),

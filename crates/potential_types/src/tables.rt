@@ -11,16 +11,16 @@ pub struct SymbolFunction {
     pub form: Poly,
 }
 
-/// What a rule to a symbol with a function does to the potential.
+/// The effect of a rule to a symbol with a function on the potential.
 #[derive(Drop)]
 pub struct Move {
     /// The number of the rule, from 1 on.
     pub rule: u32,
-    /// Whether it keeps the function of its source, up to the gain, or sets the function anew, to at most the gain.
+    /// Whether the rule keeps the function of its source, up to the gain, or resets the function to at most the gain.
     pub keeps: bool,
-    /// What is gained at most, over the rule's variables.
+    /// The greatest gain, over the rule's variables.
     pub gain: Poly,
-    /// The number of the fact that bounds the gain, from 1 on, where one is cited.
+    /// The number of the fact that bounds the gain, from 1 on, if one is cited.
     pub cited: Option<u32>,
     pub certificate: Vec<Summand>,
 }

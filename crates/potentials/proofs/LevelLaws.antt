@@ -1,4 +1,4 @@
--- How the level of a potential changes from step to step.
+-- The level of a potential changes from step to step by the gain and the payment.
 use Rattle.std.proofs.Common.{◌≡◌, ℕ, ◌+◌, ◌*◌, ◌≤◌, true, false, Bool, List, [], ◌∷◌, ◌++◌, max}
 use Rattle.std.proofs.Common.{refl, ◌∙◌, ap, subst, arith}
 use Rattle.std.specs.Prelude.{ℤ, pos, ◌+ℤ◌, ◌*ℤ◌, ◌≤ℤ◌}
@@ -16,14 +16,14 @@ use Rattle.potentials.specs.Laws.{PotentialsPayForGoals, PotentialsCoverPeaks}
 use Rattle.potentials.proofs.PositiveParts.{le-or_zero, or_zero-le, or_zero-mono, or_zero-times, or_zero-sum, or_zero-paid}
 use Rattle.potentials.proofs.SumLaws.{variables-are}
 
--- the level where there is a function, and where there is none
+-- the level at a symbol with a function is its positive part, and at another symbol 0
 pub level-some : (f : Potential) (c : Config) → f.has c.at ≡ true → level f c ≡ or_zero (f.function c.at c.values)
 level-some f c h = rw h refl
 
 pub level-none : (f : Potential) (c : Config) → f.has c.at ≡ false → level f c ≡ 0
 level-none f c h = rw h refl
 
--- what is taken where a rule is paid for, and where it isn't
+-- a step by a rule that is paid for takes the amount, and another step takes 0
 pub taken-some : (g : Goal) (t : ℕ) (env : List ℤ) → g.is_paid t ≡ true → taken g t env ≡ g.amount t env
 taken-some g t env h = rw h refl
 
@@ -48,7 +48,7 @@ module _ (p : Program) (start : List ℤ) (f : Potential) (den : ℕ) (g : Goal)
   free h = let none = ap or_zero (taken-none g s.rule env h) in
       let nothing = ap (λ (n : ℕ). den * n) none in omega (arith, nothing)
 
-  -- a paid step takes no more than the level that there is
+  -- a paid step takes at most the level before it
   borne : g.is_paid s.rule ≡ true → den * payments g s.rule env ≤ level f c
   borne h =
       let paid = pays.each c s d step h in
@@ -57,12 +57,12 @@ module _ (p : Program) (start : List ℤ) (f : Potential) (den : ℕ) (g : Goal)
       let part = or_zero-times den (g.amount s.rule env) (f.function c.at c.values) paid.floor in
       omega (arith, amount, high, part)
 
-  -- so any step takes no more than the level that there is
+  -- any step takes at most the level before it
   within : (v : Bool) → g.is_paid s.rule ≡ v → den * payments g s.rule env ≤ level f c
   within true h = borne h
   within false h = let nothing = free h in omega (arith, nothing)
 
-  -- a step that keeps the function
+  -- the level after a step that keeps the function, plus the payment, is at most the level before it and the gain
   kept : f.kind s.rule ≡ Keeps → f.has d.at ≡ true → (v : Bool) → g.is_paid s.rule ≡ v → IsKept f den g c s d
       → den * payments g s.rule env + or_zero (f.function d.at d.values) ≤ level f c + gains f s.rule env
   kept keeps has true h move =
@@ -89,7 +89,7 @@ module _ (p : Program) (start : List ℤ) (f : Potential) (den : ℕ) (g : Goal)
       without : (a b : ℤ) → (a +ℤ pos den *ℤ pos 0) ≤ℤ b → a ≤ℤ b
       without a b h = omega (arith, ints, h)
 
-  -- a step to a symbol with a function, by the kind of its rule
+  -- the level after a step to a symbol with a function, by the kind of its rule
   moved : (k : Kind) → f.kind s.rule ≡ k → f.has d.at ≡ true → MovesBy k f den g c s d
       → den * payments g s.rule env + or_zero (f.function d.at d.values) ≤ level f c + gains f s.rule env
   moved Keeps e has move = kept e has (g.is_paid s.rule) refl move
@@ -99,7 +99,7 @@ module _ (p : Program) (start : List ℤ) (f : Potential) (den : ℕ) (g : Goal)
       omega (arith, one, two)
   moved Never e has move = absurd move
 
-  -- what a step takes, with the level behind it, is at most the level before it and the gain
+  -- the payment of a step, plus the level after it, is at most the level before it plus the gain
   pub level-pays : den * payments g s.rule env + level f d ≤ level f c + gains f s.rule env
   level-pays = go (f.has d.at) refl
     where
@@ -113,7 +113,7 @@ module _ (p : Program) (start : List ℤ) (f : Potential) (den : ℕ) (g : Goal)
           let one = within (g.is_paid s.rule) refl in
           omega (arith, low, one)
 
--- what a run has paid for comes from its first level and its gains
+-- the payments of a run are bounded by its first level and its gains
 pub run-pays : (p : Program) (start : List ℤ) (f : Potential) (den : ℕ) (g : Goal) → Pays p start f den g
     → (steps : List Step) (c : Config) → IsRun p start steps c
     → den * weighed p (payments g) start steps + level f c
@@ -132,7 +132,8 @@ potentials_pay = record { each = run-pays }
 
 module _ (p : Program) (start : List ℤ) (f : Potential) (den rule top : ℕ) (form : List ℤ → ℤ)
     (covers : Covers p start f den rule form) (reach : ResetsReach p start f top) where
-  -- a step to a symbol with a function leads no higher than the level and the gain that is kept, or than top
+  -- after a step to a symbol with a function the level is at most the level before it plus the gain that is kept, or
+  -- top
   rises : (c : Config) (s : Step) (d : Config) → IsTaken p start c s d → f.has d.at ≡ true → (k : Kind)
       → f.kind s.rule ≡ k → MovesBy k f den nothing_paid c s d → (room : ℕ) → level f c ≤ max (level f (begin_at p start)) top + room
       → or_zero (f.function d.at d.values) ≤ max (level f (begin_at p start)) top + (gain_by k (f.gain s.rule (c.values ++ s.free)) + room)
@@ -154,7 +155,7 @@ module _ (p : Program) (start : List ℤ) (f : Potential) (den rule top : ℕ) (
       through a b c h k = omega (arith, ints)
   rises c s d step has Never e move room low = absurd move
 
-  -- the level of a run is at most the ceiling and what steps that keep the function have gained
+  -- the level of a run is at most the ceiling plus the gains of the steps that keep the function
   level-covered : (steps : List Step) (c : Config) → IsRun p start steps c
       → level f c ≤ max (level f (begin_at p start)) top + weighed p (kept_gains f) start steps
   level-covered [] c run =
@@ -176,7 +177,7 @@ module _ (p : Program) (start : List ℤ) (f : Potential) (den rule top : ℕ) (
           omega (arith, high, now)
       go false has before = let low = level-none f d has in omega (arith, low)
 
-  -- so a covered form is at most that
+  -- a covered form is at most that bound
   pub form-covered : (s : Step) (earlier : List Step) (d : Config) → IsRun p start (s ∷ earlier) d → s.rule ≡ rule
       → (pos den *ℤ form (variables_at p start s earlier))
       ≤ℤ pos (max (level f (begin_at p start)) top + weighed p (kept_gains f) start earlier)

@@ -26,7 +26,7 @@ falls p f den g gained b pays sum above = record {
       above.each start (weighed p (payments g) start steps) (omega (arith, paid, most));
 }
 
--- resets whose gains have a peak reach no higher
+-- if top is a peak of the gain of each reset, no reset gains more
 pub resets-reach : (p : Program) (f : Potential) (top : Bounding) → ResetsHavePeaks p f top → (start : List ℤ)
     → ResetsReach p start f (top start)
 resets-reach p f top peaks start = record {

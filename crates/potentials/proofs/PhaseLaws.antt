@@ -15,14 +15,14 @@ use Rattle.potentials.specs.Phases.{Phases, counts, FallsInPhases, IsHighBefore,
 use Rattle.potentials.specs.Phases.{under_root, PhasesHold}
 use Rattle.potentials.proofs.PositiveParts.{le-or_zero}
 
--- where a number times den is small enough, so is the number times den with a root
+-- arithmetic: if a quadratic inequality in m holds, den * m is at most den + 2 * a plus the root
 module _ (den m a b r : ℕ) where
-  -- both sides den times
+  -- the inequality multiplied by den
   scaled : den * (m * (m + 1)) ≤ 2 * b + 2 * (m * a)
       → (den * m) * (den * m) + den * (den * m) ≤ 2 * (den * b) + 2 * (a * (den * m))
   scaled h = let more = mul-le-mul_left den h in omega (arith, more)
 
-  -- what is above 2 * a
+  -- the square of the part of x above 2 * a is bounded
   squared : (x e rest : ℕ) → e + 2 * a ≡ x → x * x + rest ≤ 2 * (den * b) + 2 * (a * x) → e * e ≤ 2 * (den * b)
   squared x e rest is h =
       let square = ap (λ (v : ℕ). v * v) is in
@@ -47,7 +47,7 @@ module _ (den m a b r : ℕ) where
       go (inr below) = omega (arith, below)
 
 module _ (den : ℕ) (f g : ℤ) where
-  -- what the first function comes to at most after m counted steps, and twice the second one
+  -- bounds on the first function after m counted steps, and on twice the second one
   abbrev pub first_after : ℕ → ℤ
   first_after zero = f
   first_after (suc m) = first_after m -ℤ pos den
@@ -56,7 +56,7 @@ module _ (den : ℕ) (f g : ℤ) where
   second_after zero = g +ℤ g
   second_after (suc m) = (second_after m +ℤ (first_after m +ℤ first_after m)) -ℤ pos (den + den)
 
-  -- in closed form
+  -- the bounds in closed form
   first-closed : (m : ℕ) → first_after m +ℤ pos (den * m) ≡ f
   first-closed zero = omega (arith, ints)
   first-closed (suc m) = let before = first-closed m in omega (arith, ints, before)
@@ -77,7 +77,7 @@ module _ (den : ℕ) (f g : ℤ) where
           → ((u +ℤ (v +ℤ v)) -ℤ pos (den + den)) +ℤ pos (den * (suc m * (suc m + 1))) ≡ (g +ℤ g) +ℤ (q +ℤ q)
       next u v p q m h i e = omega (arith, ints, h, i, e)
 
-  -- where twice den is at most that, m is small enough
+  -- if the second bound is at least twice den, m is small enough
   pub counted-low : (m : ℕ) → pos (den + den) ≤ℤ second_after m
       → den * (m * (m + 1)) ≤ 2 * or_zero (g -ℤ pos den) + 2 * (m * or_zero f)
   counted-low m h =
@@ -91,22 +91,22 @@ module _ (den : ℕ) (f g : ℤ) where
       low u p b q s h i j k = omega (arith, ints, h, i, j, k)
 
 module _ (p : Program) (start : List ℤ) (f : Phases) (den : ℕ) (goes : GoesInPhases p start f den) where
-  -- the values at the start
+  -- the values of both functions at the start
   abbrev first_0 : ℤ
   first_0 = f.first p.start start
 
   abbrev second_0 : ℤ
   second_0 = f.second p.start start
 
-  -- behind n counted steps: the functions where there are some; and no step was counted, or there was enough before
-  -- the last one
+  -- the invariant after n counted steps: the bounds on the functions, if there are some; and either no step was
+  -- counted, or the second function was at least den before the last counted one
   record Behind (n : ℕ) (c : Config) : Type 0 where
     pub first : f.has c.at ≡ true → f.first c.at c.values ≤ℤ first_after den first_0 second_0 n
     pub second : f.has c.at ≡ true
         → (f.second c.at c.values +ℤ f.second c.at c.values) ≤ℤ second_after den first_0 second_0 n
     pub last : (n ≡ 0) ⊎ ((m : ℕ) × (n ≡ suc m) × (pos (den + den) ≤ℤ second_after den first_0 second_0 m))
 
-  -- a step that isn't counted
+  -- the invariant is kept by a step that isn't counted
   uncounted : (n : ℕ) (c : Config) (s : Step) (d : Config) → IsTaken p start c s d → f.counted s.rule ≡ false
       → Behind n c → Behind n d
   uncounted n c s d step e before = record {
@@ -134,7 +134,7 @@ module _ (p : Program) (start : List ℤ) (f : Phases) (den : ℕ) (goes : GoesI
           ≤ℤ (f.second c.at c.values +ℤ (if v then f.first c.at c.values else pos 0))) e move.second in
           twice _ _ _ falls (before.second move.source)
 
-  -- a counted step
+  -- the invariant is kept by a counted step
   counted : (n : ℕ) (c : Config) (s : Step) (d : Config) → IsTaken p start c s d → f.counted s.rule ≡ true
       → Behind n c → Behind (suc n) d
   counted n c s d step e before = record {
@@ -170,7 +170,7 @@ module _ (p : Program) (start : List ℤ) (f : Phases) (den : ℕ) (goes : GoesI
           ≤ℤ (f.second c.at c.values +ℤ (if v then f.first c.at c.values else pos 0))) e move.second in
           twice _ _ _ _ _ falls (before.second move.source) (before.first move.source)
 
-  -- so it is behind each run
+  -- the invariant holds after each run
   behind-run : (steps : List Step) (c : Config) → IsRun p start steps c → Behind (weighed p (counts f) start steps) c
   behind-run [] c run = record {
     first = λ has. equal _ _ (ap (λ (a : ℕ). f.first a c.values) run.at ∙ ap (λ (v : List ℤ). f.first p.start v) run.values);
@@ -194,7 +194,7 @@ module _ (p : Program) (start : List ℤ) (f : Phases) (den : ℕ) (goes : GoesI
           let is : weighed p (counts f) start earlier ≡ weighed p (counts f) start (s ∷ earlier) = rw e (omega arith) in
           subst (λ (n : ℕ). Behind n d) is (uncounted (weighed p (counts f) start earlier) c s d taken e before)
 
-  -- the counted steps, den times
+  -- den times the number of counted steps is at most the bound
   pub phases-low : (r : ℕ) → IsAtLeastRoot (under_root p f den start) r → (steps : List Step) (c : Config)
       → IsRun p start steps c
       → den * weighed p (counts f) start steps ≤ den + 2 * or_zero (f.first p.start start) + r

@@ -14,7 +14,7 @@ pub or_zero-le : (z : ℤ) (n : ℕ) → z ≤ℤ pos n → or_zero z ≤ n
 or_zero-le (pos m) n h = omega (arith, ints, h)
 or_zero-le (negsuc m) n h = omega arith
 
--- it grows with the integer
+-- the positive part grows with the integer
 pub or_zero-mono : (y z : ℤ) → y ≤ℤ z → or_zero y ≤ or_zero z
 or_zero-mono y z h = let above = le-or_zero z in or_zero-le y (or_zero z) (omega (arith, ints))
 
@@ -23,19 +23,19 @@ pub or_zero-is : (z : ℤ) → pos 0 ≤ℤ z → z ≡ pos (or_zero z)
 or_zero-is (pos n) h = refl
 or_zero-is (negsuc n) h = absurd (omega (arith, ints, h))
 
--- a multiple that is at most another integer, by positive parts
+-- if den times an integer is at most another, den times its positive part is at most the other's
 pub or_zero-times : (den : ℕ) (a z : ℤ) → (pos den *ℤ a) ≤ℤ z → den * or_zero a ≤ or_zero z
 or_zero-times den (pos n) z h = let above = le-or_zero z in omega (arith, ints, h, above)
 or_zero-times den (negsuc n) z h = omega arith
 
--- what is at most a sum has a positive part of at most the parts of both
+-- the positive part of an integer that is at most a sum is at most the sum of the positive parts
 pub or_zero-sum : (y a b : ℤ) → y ≤ℤ (a +ℤ b) → or_zero y ≤ or_zero a + or_zero b
 or_zero-sum y a b h =
     let one = le-or_zero a in
     let two = le-or_zero b in
     or_zero-le y (or_zero a + or_zero b) (omega (arith, ints))
 
--- what is left behind a payment that the first part of a sum bears
+-- the positive part after a payment that the first part of a sum bears is at most the positive parts less the payment
 pub or_zero-paid : (den : ℕ) (y amount a b : ℤ) → (y +ℤ pos den *ℤ amount) ≤ℤ (a +ℤ b) → (pos den *ℤ amount) ≤ℤ a
     → pos 0 ≤ℤ amount → den * or_zero amount + or_zero y ≤ or_zero a + or_zero b
 or_zero-paid den y (pos n) a b falls floor positive =

@@ -16,7 +16,7 @@ use Rattle.potentials.proofs.SumLaws.{weighed-same, count-is}
 use Rattle.potentials.proofs.LevelLaws.{run-pays}
 
 module _ (p : Program) (start : List ℤ) (r : Ranking) (e : Entries) (ranks : Ranks p start r e) where
-  -- a step by one of its rules takes 1 where that is the rule that it falls by, else nothing
+  -- a step by one of the function's rules keeps it, and takes 1 if it is by the rule that it ranks
   kept-falls : (c : Config) (s : Step) (d : Config) → IsTaken p start c s d → r.is_member s.rule ≡ true
       → r.has d.at ≡ true → (v : Bool) → (s.rule == r.rule) ≡ v
       → (r.function d.at d.values +ℤ pos r.den *ℤ (if v then pos 1 else pos 0)) ≤ℤ (r.function c.at c.values +ℤ pos 0)
@@ -30,7 +30,7 @@ module _ (p : Program) (start : List ℤ) (r : Ranking) (e : Entries) (ranks : R
       never : (x y : ℤ) → x ≤ℤ y → (x +ℤ pos r.den *ℤ pos 0) ≤ℤ (y +ℤ pos 0)
       never x y h = omega (arith, ints, h)
 
-  -- what each step does
+  -- each step has the effect that the potential says
   rank-move : (c : Config) (s : Step) (d : Config) → IsTaken p start c s d → r.has d.at ≡ true
       → MovesBy (if r.is_member s.rule then Keeps else Resets) (ranking_potential r e) r.den (ranking_goal r) c s d
   rank-move c s d step has = go (r.is_member s.rule) refl
@@ -43,7 +43,7 @@ module _ (p : Program) (start : List ℤ) (r : Ranking) (e : Entries) (ranks : R
       }
       go false other = rw other (ranks.enters c s d step other has)
 
-  -- each step by the rule is a payment
+  -- each step by the ranked rule is a payment
   rank-payment : (c : Config) (s : Step) (d : Config) → IsTaken p start c s d → (s.rule == r.rule) ≡ true
       → IsPayment (ranking_potential r e) r.den (ranking_goal r) c s d
   rank-payment c s d step paid =
@@ -57,11 +57,11 @@ module _ (p : Program) (start : List ℤ) (r : Ranking) (e : Entries) (ranks : R
       once : (y : ℤ) → pos r.den ≤ℤ y → (pos r.den *ℤ pos 1) ≤ℤ y
       once y h = omega (arith, ints, h)
 
-  -- so it pays
+  -- the potential pays for the goal
   pub rank-pays : Pays p start (ranking_potential r e) r.den (ranking_goal r)
   rank-pays = record { moves = record { each = rank-move }; each = rank-payment }
 
-  -- what is gained comes in by the entries
+  -- the sum of the gains is at most den times the sum of the entries' weights
   gains-low : (steps : List Step)
       → weighed p (gains (ranking_potential r e)) start steps + r.den * brings e 0 ≤ r.den * income e.weight e.listed steps
   gains-low [] = omega arith
@@ -78,7 +78,7 @@ module _ (p : Program) (start : List ℤ) (r : Ranking) (e : Entries) (ranks : R
       go true member ih = let all = more in rw member (omega (arith, ih, all))
       go false other ih = let all = more in rw other (omega (arith, ih, all))
 
-  -- what is paid for is counted
+  -- the payments are the count of the ranked rule
   paid-once : (t : ℕ) (env : List ℤ) → payments (ranking_goal r) t env ≡ once_for r.rule t env
   paid-once t env = go (t == r.rule) refl
     where

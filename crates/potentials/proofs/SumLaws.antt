@@ -39,7 +39,7 @@ pub weighed-add : (p : Program) (v w : Weight) (start : List ℤ) (steps : List 
 weighed-add p v w start [] = refl
 weighed-add p v w start (s ∷ earlier) = let others = weighed-add p v w start earlier in omega (arith, others)
 
--- the weight 1 of a rule counts it
+-- the sum of the weight 1 of a rule is its count
 pub count-is : (p : Program) (rule : ℕ) → rule ≢ 0 → (start : List ℤ) (steps : List Step)
     → weighed p (once_for rule) start steps ≡ count rule steps
 count-is p rule h start [] = sym (one_if_same-other 0 rule (λ e. h (sym e)))
@@ -47,26 +47,26 @@ count-is p rule h start (s ∷ earlier) =
     let others = count-is p rule h start earlier in
     ap (λ (n : ℕ). one_if_same s.rule rule + n) others
 
--- the weight 1 of every rule counts the steps
+-- the sum of the weight 1 of every rule is the number of steps
 pub length-is : (p : Program) (start : List ℤ) (steps : List Step) → weighed p once start steps ≡ length steps
 length-is p start [] = refl
 length-is p start (s ∷ earlier) = let others = length-is p start earlier in omega (arith, others)
 
--- the cost of a rule's steps is what they spend
+-- the sum of the cost of a rule's steps is the rule's spending
 pub spent-is : (p : Program) (rule : ℕ) (start : List ℤ) (steps : List Step)
     → weighed p (cost_for p rule) start steps ≡ spent p rule start steps
 spent-is p rule start [] = refl
 spent-is p rule start (s ∷ earlier) =
     ap (λ (n : ℕ). cost_for p rule s.rule (variables_at p start s earlier) + n) (spent-is p rule start earlier)
 
--- the cost of each step is what all steps spend
+-- the sum of the cost of each step is the spending of all steps
 pub spent-all-is : (p : Program) (start : List ℤ) (steps : List Step)
     → weighed p (cost_of_each p) start steps ≡ spent_all p start steps
 spent-all-is p start [] = refl
 spent-all-is p start (s ∷ earlier) =
     ap (λ (n : ℕ). cost_of_each p s.rule (variables_at p start s earlier) + n) (spent-all-is p start earlier)
 
--- a weight that is 0 everywhere
+-- the sum of a weight that is 0 everywhere is 0
 pub zero-sum : (p : Program) (w : Weight) → ((t : ℕ) (env : List ℤ) → w t env ≡ 0) → HoldsSum p w (λ start. 0)
 zero-sum p w h = record { each = λ start steps c run. let none = nothing start steps in omega (arith, none) }
   where

@@ -1,4 +1,4 @@
--- The worked sums, levels, potentials, phases and ranks.
+-- The worked sums, levels, potentials, phases and ranks hold.
 use Rattle.std.proofs.Common.{◌≡◌, ◌⊎◌, inl, inr, ℕ, zero, suc, ◌*◌, ◌<◌, ◌≤◌, ◌==◌, Bool, true, false, List, [], ◌∷◌, ◌++◌}
 use Rattle.std.proofs.Common.{refl, sym, ◌∙◌, ap, subst, arith, length, Some, mul-le-mul}
 use Rattle.std.proofs.Math.Nat.{max-le}
@@ -36,7 +36,7 @@ sums_worked = record {
 pub levels_worked : LevelsAreWorkedOut
 levels_worked = record { there = refl; negative = refl; none = refl }
 
--- from l0(1, 7) the first round leads from l1(1, 7) to l1(0, -1), and rule 1 leads there before
+-- from l0(1, 7) rule 1 leads to l1(1, 7), and the first round from there to l1(0, -1)
 entry_run : IsRun countdown (both (pos 1) (pos 7)) (by_rule 1 ∷ []) (two_values 1 (pos 1) (pos 7))
 entry_run = (two_values 0 (pos 1) (pos 7), record { places = refl; at = refl; values = refl }, step_in (pos 1) (pos 7))
 
@@ -66,7 +66,7 @@ two-left c s d step = go s.rule step.rule step.numbered step.leads.left
     go (suc (suc zero)) r e l = l ∙ ap (λ (q : Rule). q.left) (sym (some_same looping r e))
     go (suc (suc (suc t))) r e l = absurd (none_some r e)
 
--- so A is its first value, whatever the free values
+-- A is the first value of a configuration, whatever the free values
 free_a : (c : Config) (s : Step) (d : Config) → IsStep countdown c s d → value_a (c.values ++ s.free) ≡ value_a c.values
 free_a c s d step = go c.values (two-left c s d step)
   where
@@ -74,7 +74,7 @@ free_a c s d step = go c.values (two-left c s d step)
     go [] e = absurd (omega (arith, e))
     go (x ∷ xs) e = refl
 
--- what a step does: rule 1 keeps A, and rule 2, before which A is at least 1, lowers it by 1
+-- the effect of a step on A: rule 1 keeps A, and rule 2, before which A is at least 1, lowers it by 1
 abbrev Does : Config → Step → Config → Type 0
 Does c s d = (s.rule ≡ 1) × (value_a d.values ≡ value_a c.values)
     ⊎ (s.rule ≡ 2) × (pos 1 ≤ℤ value_a c.values) × (value_a d.values ≡ value_a c.values -ℤ pos 1)
@@ -123,7 +123,7 @@ low-before : (c : Config) (s : Step) (d : Config) → Does c s d → s.rule ≡ 
 low-before c s d (inl (e, same_a)) two = absurd (omega (arith, e, two))
 low-before c s d (inr (e, low_a, less_a)) two = low_a
 
--- one times a value
+-- one times a value is the value
 one_time : (x y : ℤ) → x ≤ℤ y → (pos 1 *ℤ x) ≤ℤ y
 one_time x y h = omega (arith, ints, h)
 
@@ -140,7 +140,7 @@ a-pays start = record {
   };
 }
 
--- and covers A at each of them
+-- A covers A at each round
 a-covers : (start : List ℤ) → Covers countdown start (kept_a (λ s. true)) 1 2 value_a
 a-covers start = record {
   moves = record {
@@ -177,11 +177,11 @@ potentials_worked = record {
       let floor = covered.floor in omega (arith, ints, floor);
 }
 
--- with no gains
+-- the gains are 0
 no-gains : (has : ℕ → Bool) → HoldsSum countdown (gains (kept_a has)) (λ start. 0)
 no-gains has = zero-sum countdown (gains (kept_a has)) (λ t env. refl)
 
--- the number of rounds
+-- the number of rounds is at most the positive part of A at the start
 rounds-bounded : HoldsSum countdown (once_for 2) (λ start. or_zero (value_a start))
 rounds-bounded =
     let paid = falls countdown (kept_a (λ s. true)) 1 (each_round (pos 1)) (λ start. 0) (λ start. or_zero (value_a start)) a-pays
@@ -195,7 +195,7 @@ rounds-bounded =
         go true e = rw e (omega arith)
         go false e = rw e (omega arith)
 
--- A at each round
+-- A is at most its positive part at the start, at each round
 a-bounded : HoldsPeak countdown 2 value_a (λ start. or_zero (value_a start))
 a-bounded =
     peaks countdown (kept_a (λ s. true)) 1 2 value_a (λ start. 0) (λ start. 0) (λ start. or_zero (value_a start)) (omega arith)
@@ -233,7 +233,7 @@ quotients_worked = record {
             let square : 4 * 4 ≤ e * e = mul-le-mul four four in absurd (omega (arith, low, square))
         go (inr below) = below
 
--- what the phases say of a step
+-- each step goes in the worked phases
 goes-by : (c : Config) (s : Step) (d : Config) → Does c s d → FallsInPhases phases_a 1 c s d
 goes-by c s d (inl (e, same_a)) = record {
   source = refl;

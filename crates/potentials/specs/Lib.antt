@@ -1,12 +1,12 @@
--- facts about sums over a run and about peaks at its steps
+-- Facts about sums over a run and about peaks at its steps.
 pub mod Sums
--- potentials, what they pay for, and the laws of both
+-- potentials, their payments, and the laws of both
 pub mod Potentials
 pub mod Nodes
 pub mod Laws
 pub mod Phases
 pub mod Ranks
--- values that were worked out by hand
+-- worked values
 pub mod Worked
 -- the crates below, which callers name through this one
 pub use Rattle.run_counting.specs.model

@@ -1,4 +1,4 @@
--- Ranking functions with entries, which are potentials whose only gains are at entries.
+-- Ranking functions with entries: they are potentials whose only gains are at entries.
 use Rattle.std.specs.Prelude.{◌≡◌, ◌≢◌, ℕ, ◌*◌, ◌≤◌, Bool, true, false, if◌then◌else◌, ◌==◌, List, ℤ, pos, ◌+ℤ◌, ◌≤ℤ◌}
 use Rattle.run_counting.specs.model.Programs.{Program}
 use Rattle.run_counting.specs.model.Runs.{Config, Step, IsRun, count}
@@ -14,7 +14,7 @@ pub record Ranking : Type 0 where
   pub den : ℕ
   pub rule : ℕ
 
--- what entries bring in, each with its weight, once for each time that it is listed
+-- entries, each with the weight that it brings in, once for each time that it is listed
 pub record Entries : Type 0 where
   pub weight : ℕ → ℕ
   pub listed : List ℕ
@@ -22,8 +22,8 @@ pub record Entries : Type 0 where
 abbrev pub brings : Entries → ℕ → ℕ
 brings e t = allowance e.weight e.listed t
 
--- the potential of a ranking function: its rules keep it without a gain, and all others set it anew to at most den
--- times what they bring in; and the goal, 1 for each step by its rule
+-- the potential of a ranking function: its rules keep it without a gain, and all other rules reset it to at most den
+-- times the weight that they bring in; and the goal, 1 for each step by its rule
 abbrev pub ranking_potential : Ranking → Entries → Potential
 ranking_potential r e = record {
   has = r.has;
@@ -35,9 +35,9 @@ ranking_potential r e = record {
 abbrev pub ranking_goal : Ranking → Goal
 ranking_goal r = record { is_paid = λ t. t == r.rule; amount = λ t env. pos 1 }
 
--- what ranks a rule: it begins within what the virtual entry brings in; each of its rules leaves a symbol with a
--- function and doesn't raise it; by the rule it falls by den, and is at least den before; and any other rule that leads
--- to a symbol with a function brings in at least what the function is there
+-- a ranking function with entries ranks its rule: it begins within the weight of the virtual entry; each of its rules
+-- leaves a symbol with a function and doesn't raise it; by its rule it falls by den, and is at least den before; and
+-- any other rule that leads to a symbol with a function brings in at least the function's value there
 pub record Ranks (p : Program) (start : List ℤ) (r : Ranking) (e : Entries) : Type 0 where
   pub rule : r.rule ≢ 0
   pub member : r.is_member r.rule ≡ true
@@ -53,8 +53,8 @@ pub record Ranks (p : Program) (start : List ℤ) (r : Ranking) (e : Entries) : 
   pub enters : (c : Config) (s : Step) (d : Config) → IsTaken p start c s d → r.is_member s.rule ≡ false
       → r.has d.at ≡ true → r.function d.at d.values ≤ℤ pos (r.den * brings e s.rule)
 
--- a ranking function pays for its rule as a potential, so the rule occurs at most as often as the entries, each time
--- that one occurs counted with its weight
+-- a ranking function pays for its rule as a potential, so the rule occurs at most as often as the sum of the entries'
+-- weights over their steps
 pub record RanksAreFalls : Type 0 where
   pub pays : (p : Program) (start : List ℤ) (r : Ranking) (e : Entries) → Ranks p start r e
       → Pays p start (ranking_potential r e) r.den (ranking_goal r)

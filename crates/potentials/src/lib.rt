@@ -1,5 +1,5 @@
 //! Potentials over runs: functions at symbols that some steps raise and others pay from, and the facts about all runs
-//! that they show. The functions here have no code: the contract of each is the law, or values that were worked out by
+//! that they show. The functions here have no code: the contract of each is a law, or values that were worked out by
 //! hand.
 #![tactic(auto)]
 
@@ -12,38 +12,38 @@ ghost use Rattle.potentials.specs.Worked.{SumsAreWorkedOut, LevelsAreWorkedOut, 
 ghost use Rattle.potentials.specs.Worked.{FactsAreWorkedOut};
 ghost use Rattle.potentials.specs.Worked.{QuotientsAndRoots, PhasesAreWorkedOut, WorkedRanksHold};
 
-/// Sums of weights are counts, lengths and costs.
+/// Sums of certain weights over a run are the count of a rule's steps, the run's length, and costs.
 pub fn all_sums_say()
     ensures { AllSumsSay }
 {}
 
-/// Where a potential pays for a goal, what a run has paid for comes from its first level and its gains.
+/// If a potential pays for a goal, the sum of a run's payments is bounded by the first level and the gains of the run.
 pub fn potentials_pay_for_goals()
     ensures { PotentialsPayForGoals }
 {}
 
-/// Where a potential covers a form of a rule, the form is at most the first level or the highest reset, and the gains
+/// If a potential covers a form of a rule, the form is at most the first level or the highest reset, plus the gains
 /// since then.
 pub fn potentials_cover_peaks()
     ensures { PotentialsCoverPeaks }
 {}
 
-/// Each node's fact holds with the bound that it composes.
+/// The fact of each kind of node holds with the bound that the node composes.
 pub fn nodes_hold()
     ensures { NodesHold }
 {}
 
-/// The counted steps of runs that go in two phases are at most as many as the first values of both functions allow.
+/// The number of counted steps of runs that go in two phases is bounded by the first values of both functions.
 pub fn phases_hold()
     ensures { PhasesHold }
 {}
 
-/// A ranking function whose entries bring in enough is a potential that pays for its rule.
+/// A ranking function whose entries bring in enough is a potential that pays 1 for each step by its rule.
 pub fn ranks_are_falls()
     ensures { RanksAreFalls }
 {}
 
-/// Sums, levels, potentials, facts, quotients, roots, phases and ranks are what was worked out by hand, on both sides.
+/// Worked values, on both sides, of sums, levels, potentials, facts, quotients, roots, phases and ranks.
 pub fn potentials_are_as_worked_out()
     ensures sums { SumsAreWorkedOut }
     ensures levels { LevelsAreWorkedOut }

@@ -1,4 +1,4 @@
--- What an accepted claim states holds on all runs of the program.
+-- The statement of an accepted claim holds on all runs of the program.
 use Rattle.std.proofs.Common.{◌≡◌, ℕ, suc, Bool, true, false, List, [], ◌∷◌, Option, Some, None, refl, sym, ap, ◌∙◌, subst}
 use Rattle.std.specs.Prelude.{if◌then◌else◌, ⊤}
 use Rattle.std.proofs.lemmas.Bool.{true≢false}
@@ -32,7 +32,7 @@ use Rattle.program_claims.proofs.VerdictLaws.{refused_accepted, accepted_same, m
 use Rattle.program_claims.proofs.SumBounds.{charges_bound-holds}
 use Rattle.program_claims.proofs.SymbolLaws.{symbol-holds}
 
--- each kind of claim, over copies of symbols such that what their facts say holds at the symbols
+-- laws for each kind of claim, by a simulating program and copies of symbols whose facts hold at the symbols
 module _ (p q : Program) (o : Projection) (HasFacts : Config → Type 0) (simulates : Simulates q p o HasFacts)
     (facts : List SignedFact) (hold : AllSignedHold q facts) (within_holds : WithinHolds)
     (safe : IsSafe expands_to_squares) (copies : List Copy)
@@ -70,7 +70,7 @@ module _ (p q : Program) (o : Projection) (HasFacts : Config → Type 0) (simula
       subst (λ (x : Stated). HoldsOf p x) (sym is)
       (total-holds p q o HasFacts simulates facts hold b (charges_bound-holds q facts hold within_holds safe (cost_charges 1 q.rules) support b stated))
 
-  -- lemmas on all copies of a rule have the bound, where a claim on them is accepted
+  -- if a claim on a value is accepted, lemmas bound the form at all copies of the rule by at most the bound
   within-claim : (n place : ℕ) (ns : List ℕ) (bound : Signed) (form : Polynomial) (stated s : Stated)
       → copies_stated evidence n place ns bound form stated ≡ Accepted s
       → (are_heads_within facts form place bound (copies_of q o n) ns ≡ true) × (stated ≡ s)

@@ -1,4 +1,4 @@
--- What lemmas say of a program that simulates another holds of the other.
+-- Facts about a program that simulates another give facts about the other.
 use Rattle.std.proofs.Common.{◌≡◌, ◌≢◌, ◌⊎◌, inl, inr, ◌≤◌, ℕ, zero, suc, ◌==◌, true, false, List, [], ◌∷◌}
 use Rattle.std.proofs.Common.{map, Option, Some, None, refl, sym, ap, ◌∙◌, subst, arith}
 use Rattle.std.specs.Prelude.{ℤ, pos, negsuc, neg_ℤ, ◌≤ℤ◌, nat_abs, slice_get}
@@ -32,12 +32,12 @@ use Rattle.program_claims.proofs.Weights.{weighed-at_most, weighed-below}
 use Rattle.program_claims.proofs.CopyLaws.{copy-charged, cost-charged}
 use Rattle.program_claims.proofs.PeakBounds.{HasHead, copy-bounded}
 
--- a rule that is there has a number other than 0
+-- the number of an existing rule isn't 0
 numbered-above : (p : Program) (t : ℕ) (r : Rule) → rule_at p t ≡ Some r → t ≢ 0
 numbered-above p zero r h e = none_some r h
 numbered-above p (suc t) r h e = omega (arith, e)
 
--- the rule that an update, or a cost, is of
+-- an update that is found, or a cost, is that of an existing rule
 pub of-rule : (p : Program) (t place : ℕ) (u : Term) → update_at (rule_at p t) place ≡ Some u
     → (r : Rule) × (i : ℕ) × (rule_at p t ≡ Some r) × (place ≡ suc i) × (slice_get r.updates i ≡ Some u)
 of-rule p t place u h = go (rule_at p t) refl place refl h
@@ -48,7 +48,7 @@ of-rule p t place u h = go (rule_at p t) refl place refl h
     go (Some r) e zero at h' = absurd (none_some u h')
     go (Some r) e (suc i) at h' = (r, i, e, at, h')
 
--- an integer, and its opposite, are at most its absolute value
+-- an integer, and its negation, are at most its absolute value
 pub up-to : (z : ℤ) (n : ℕ) → nat_abs z ≤ n → z ≤ℤ pos n
 up-to (pos m) n h = omega (arith, ints, h)
 up-to (negsuc m) n h = omega (arith, ints, h)
@@ -57,14 +57,15 @@ pub down-to : (z : ℤ) (n : ℕ) → nat_abs z ≤ n → neg_ℤ z ≤ℤ pos n
 down-to (pos m) n h = omega (arith, ints, h)
 down-to (negsuc m) n h = omega (arith, ints, h)
 
--- the same value at the end of the run below
+-- the configuration at the end of the run below has the same values
 ends-same : (o : Projection) (c end : Config) (i : ℕ) → config_below o end ≡ c
     → place_value end (suc i) ≡ place_value c (suc i)
 ends-same o c end i e = ap (λ (x : Config). place_value x (suc i)) e
 
 module _ (p q : Program) (o : Projection) (HasFacts : Config → Type 0) (simulates : Simulates q p o HasFacts)
     (facts : List SignedFact) (hold : AllSignedHold q facts) where
-  -- where a sum that holds of q charges each rule at least what p's rule below weighs, p's steps weigh at most its bound
+  -- if a sum over the runs of q is bounded, and charges each rule at least the weight of p's rule below, the sum of the
+  -- weights of p's steps is at most the bound
   below-sum : (w v : Weight) (bound : List ℤ → ℕ)
       → ((t : ℕ) (r : Rule) (env : List ℤ) → rule_at q t ≡ Some r → w (o.rule t) env ≤ v t env) → HoldsSum q v bound
       → (start : List ℤ) (steps : List Step) (c : Config) → IsRun p start steps c → weighed p w start steps ≤ bound start
@@ -76,7 +77,7 @@ module _ (p q : Program) (o : Projection) (HasFacts : Config → Type 0) (simula
       let above : weighed p w start (map (step_below o) l.above) ≤ bound start = omega (arith, below, most, all) in
       subst (λ (xs : List Step). weighed p w start xs ≤ bound start) l.steps_below above
 
-  -- a copy of rule n is charged what is charged at all copies
+  -- the charges at all copies of rule n charge each copy the form
   charged : (n : ℕ) (form : Polynomial) (t : ℕ) (r : Rule) (env : List ℤ) → rule_at q t ≡ Some r → o.rule t ≡ n
       → or_zero (polynomial_value form env) ≤ charges (charge_each form (copies_of q o n)) t env
   charged n form zero r env h below = absurd (none_some r h)
@@ -157,7 +158,7 @@ module _ (p q : Program) (o : Projection) (HasFacts : Config → Type 0) (simula
         update = ap (λ (us : List Term). slice_get us i) (b.copies.updates ∙ ap (λ (x : Rule). x.updates) same) ∙ at;
       }
 
-  -- the value at a place at the end of a run of q, or its opposite, is at most the bound of a claim
+  -- laws for the value at a place after a run of q, or its negation: it is at most the bound of the claim
   module _ (within_holds : WithinHolds) (safe : IsSafe expands_to_squares) (n i : ℕ) (u : Term) (r : Rule)
       (ns : List ℕ) (bound : Signed) (there : rule_at p n ≡ Some r) (at : slice_get r.updates i ≡ Some u) where
     headed : (form : Polynomial)

@@ -1,4 +1,4 @@
--- The copies of a rule are charged what is charged at each of them, and each rule is charged its cost.
+-- The charges at the copies of a rule charge each copy, and the charges of costs charge each rule its cost.
 use Rattle.std.proofs.Common.{◌≡◌, ◌≢◌, ◌⊎◌, inl, inr, ◌≤◌, ◌+◌, ℕ, zero, suc, ◌==◌, true, false, List, [], ◌∷◌}
 use Rattle.std.proofs.Common.{Option, Some, sym, ap, ◌∙◌, arith}
 use Rattle.std.specs.Prelude.{ℤ, slice_get}
@@ -14,7 +14,7 @@ use Rattle.potential_nodes.specs.Costs.{cost_form}
 use Rattle.potential_nodes.proofs.CostLaws.{cost_form-value}
 use Rattle.program_claims.specs.Copies.{copies_from, charge_by, charge_each, cost_charges}
 
--- what a rule is charged by its own charge in front of others
+-- the charge of a rule by a list whose first charge is of that rule is at least that first charge
 pub charged-first : (form : Polynomial) (t u : ℕ) (cs : List Charge) (env : List ℤ) → u ≡ t
     → or_zero (polynomial_value form env) ≤ charges (charge_by form t ∷ cs) u env
 charged-first form t u cs env same = go (eqb_tells t u)
@@ -24,13 +24,13 @@ charged-first form t u cs env same = go (eqb_tells t u)
     go (inl (test, e)) = rw test (omega arith)
     go (inr (test, other)) = absurd (other (sym same))
 
--- a charge in front takes nothing away
+-- a charge put before others doesn't make the sum less
 pub charged-later : (n : ℕ) (c : Charge) (cs : List Charge) (u : ℕ) (env : List ℤ) → n ≤ charges cs u env
     → n ≤ charges (c ∷ cs) u env
 charged-later n c cs u env h = omega (arith, h)
 
 module _ (o : Projection) (n : ℕ) (form : Polynomial) (env : List ℤ) where
-  -- each copy of a rule is charged what is charged at all copies
+  -- the charges at the copies of a rule charge each copy the form
   pub copy-charged : (t : ℕ) (rules : List Rule) (k u : ℕ) (r : Rule) → slice_get rules k ≡ Some r → u ≡ t + k
       → o.rule u ≡ n → or_zero (polynomial_value form env) ≤ charges (charge_each form (copies_from o n t rules)) u env
   copy-charged t [] k u r h at below = absurd (none_some r h)
@@ -55,7 +55,7 @@ module _ (o : Projection) (n : ℕ) (form : Polynomial) (env : List ℤ) where
           (charge_each form (copies_from o n (suc t) rules)) u env ih)
       go (inr (test, other)) ih = rw test ih
 
--- each rule is charged its cost
+-- the charges of costs charge each rule its cost
 pub cost-charged : (t : ℕ) (rules : List Rule) (k u : ℕ) (r : Rule) (env : List ℤ) → slice_get rules k ≡ Some r
     → u ≡ t + k → cost_at r.cost env ≤ charges (cost_charges t rules) u env
 cost-charged t [] k u r env h at = absurd (none_some r h)

@@ -8,7 +8,7 @@ use Rattle.program_claims.specs.Verdicts.{Verdict, Accepted, Refused}
 use Rattle.program_claims.specs.Acceptance.{ClaimRefusal, stated_by, refused_or, first_refused, with_stated, all_stated}
 use Rattle.program_claims.specs.Laws.{IsFirstRefused, RefusedClaimsAreFirst}
 
--- the verdict on a claim that is refused
+-- the verdict that a refusal has
 abbrev refusal_of : ClaimRefusal → Verdict Stated
 refusal_of r = Refused r.reason
 

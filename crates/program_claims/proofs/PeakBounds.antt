@@ -1,4 +1,4 @@
--- What lemmas bound a form by at the copies of a rule.
+-- The bounds that lemmas give for a form at the copies of a rule hold.
 use Rattle.std.proofs.Common.{◌≡◌, ◌≢◌, ◌⊎◌, inl, inr, ◌+◌, ℕ, zero, suc, ◌==◌, Bool, true, false, List, [], ◌∷◌}
 use Rattle.std.proofs.Common.{Option, Some, None, refl, sym, ap, ◌∙◌, subst, arith}
 use Rattle.std.specs.Prelude.{slice_get, ◌&&◌, if◌then◌else◌}
@@ -21,8 +21,8 @@ use Rattle.potential_nodes.proofs.FactLaws.{peak_bound-holds}
 use Rattle.program_claims.specs.Copies.{copies_from}
 use Rattle.program_claims.specs.Heads.{head_bound, is_head_within, are_heads_within}
 
--- a bound that is within another one, and why it holds of a copy: it never occurs, or the form has this peak there, or
--- the place this size after it
+-- a bound within the claim's, and why it holds of a copy: the copy never occurs, or the bound is the peak of the form
+-- there, or the size of the place after it
 pub record HasHead (q : Program) (facts : List SignedFact) (form : Polynomial) (place : ℕ) (bound : Signed) (u : ℕ)
     : Type 0 where
   pub own : Signed
@@ -32,7 +32,7 @@ pub record HasHead (q : Program) (facts : List SignedFact) (form : Polynomial) (
 
 module _ (q : Program) (facts : List SignedFact) (hold : AllSignedHold q facts) (form : Polynomial) (place : ℕ)
     (bound : Signed) where
-  -- a lemma on the size of the place
+  -- a lemma on the size of the place after a copy holds
   size-holds : (u n : ℕ) (b : Signed) → size_in u place (numbered facts n) ≡ Some b → HoldsSigned q (SizeFact u place b)
   size-holds u n b h = go (numbered facts n) refl h
     where
@@ -55,7 +55,7 @@ module _ (q : Program) (facts : List SignedFact) (hold : AllSignedHold q facts) 
           stated u' place' b' ((u == u') && (place == place')) refl
           (all-numbered (λ fact. HoldsSigned q fact) facts n (SizeFact u' place' b') e hold) k
 
-  -- what a lemma says of a copy
+  -- the bound that a lemma gives for a copy holds of it
   head-why : (u n : ℕ) (b : Signed) → head_bound facts form place u n ≡ Some b
       → (is_never facts u ≡ true) ⊎ (HoldsSigned q (PeakFact u form b) ⊎ HoldsSigned q (SizeFact u place b))
   head-why u zero b h = go (is_never facts u) refl h
@@ -73,7 +73,7 @@ module _ (q : Program) (facts : List SignedFact) (hold : AllSignedHold q facts) 
       go (Some b') e k =
           inr (inl (peak_bound-holds q facts hold u form (suc n) b (e ∙ k)))
 
-  -- so a copy has a bound within the claim's
+  -- a copy whose bound is within the claim's has such a bound
   head-there : (u n : ℕ) → is_head_within bound (head_bound facts form place u n) ≡ true
       → HasHead q facts form place bound u
   head-there u n h = go (head_bound facts form place u n) refl h
@@ -84,7 +84,7 @@ module _ (q : Program) (facts : List SignedFact) (hold : AllSignedHold q facts) 
       go (Some b) e k = record { own = b; low = k; why = head-why u n b e }
 
   module _ (o : Projection) (n : ℕ) where
-    -- and so has each copy of a rule
+    -- each copy of a rule has a bound within the claim's
     pub copy-bounded : (t : ℕ) (rules : List Rule) (ns : List ℕ)
         → are_heads_within facts form place bound (copies_from o n t rules) ns ≡ true → (k u : ℕ) (r : Rule)
         → slice_get rules k ≡ Some r → u ≡ t + k → o.rule u ≡ n → HasHead q facts form place bound u
@@ -92,7 +92,7 @@ module _ (q : Program) (facts : List SignedFact) (hold : AllSignedHold q facts) 
     copy-bounded t (r' ∷ rules) ns h k u r there at below =
         go (λ ms e j there' at'. copy-bounded (suc t) rules ms e j u r there' at' below) (eqb_tells (o.rule t) n)
       where
-        -- where the first rule is a copy
+        -- each copy has such a bound, if the first rule is a copy
         first : ((ms : List ℕ) → are_heads_within facts form place bound (copies_from o n (suc t) rules) ms ≡ true
             → (j : ℕ) → slice_get rules j ≡ Some r → u ≡ suc t + j → HasHead q facts form place bound u) → (ms : List ℕ)
             → are_heads_within facts form place bound (t ∷ copies_from o n (suc t) rules) ms ≡ true → (j : ℕ)
@@ -110,7 +110,7 @@ module _ (q : Program) (facts : List SignedFact) (hold : AllSignedHold q facts) 
             (are_heads_within facts form place bound (copies_from o n (suc t) rules) ms) e in
             ih ms both.1 j there' (omega (arith, at'))
 
-        -- where it isn't
+        -- each copy has such a bound, if the first rule is no copy
         later : ((ms : List ℕ) → are_heads_within facts form place bound (copies_from o n (suc t) rules) ms ≡ true
             → (j : ℕ) → slice_get rules j ≡ Some r → u ≡ suc t + j → HasHead q facts form place bound u) → (j : ℕ)
             → slice_get (r' ∷ rules) j ≡ Some r → u ≡ t + j → o.rule t ≢ n

@@ -1,4 +1,4 @@
--- What lemmas bound a sum of charges by holds of it.
+-- The bounds that lemmas give for a sum of charges hold.
 use Rattle.std.proofs.Common.{◌≡◌, ◌≢◌, ◌⊎◌, inl, inr, ◌≤◌, ◌+◌, ℕ, zero, suc, ◌==◌, Bool, true, false, List, [], ◌∷◌}
 use Rattle.std.proofs.Common.{Option, Some, None, refl, sym, ap, ◌∙◌, subst, arith}
 use Rattle.std.specs.Prelude.{ℤ, if◌then◌else◌}
@@ -20,7 +20,7 @@ use Rattle.program_claims.specs.Verdicts.{Accepted, Refused, BadLemma, LowBound,
 use Rattle.program_claims.specs.Sums.{charge_bound, charge_bounds, parts_bound, charges_bound}
 use Rattle.program_claims.proofs.VerdictLaws.{refused_accepted, accepted_same}
 
--- a charge and others add up
+-- the sum of a charge and others is the sum of that charge and the sum of the others
 weighed-cons : (q : Program) (c : Charge) (cs : List Charge) (start : List ℤ) (steps : List Step)
     → weighed q (charges (c ∷ cs)) start steps
     ≡ weighed q (charges (c ∷ [])) start steps + weighed q (charges cs) start steps
@@ -28,7 +28,7 @@ weighed-cons q c cs start [] = refl
 weighed-cons q c cs start (s ∷ earlier) = let others = weighed-cons q c cs start earlier in omega (arith, others)
 
 module _ (q : Program) (facts : List SignedFact) (hold : AllSignedHold q facts) where
-  -- a rule that never occurs is charged nothing
+  -- the charge of a rule that never occurs sums up to 0
   never-charged : (c : Charge) → is_never facts c.rule ≡ true → (start : List ℤ) (steps : List Step) (d : Config)
       → IsRun q start steps d → weighed q (charges (c ∷ [])) start steps ≡ 0
   never-charged c never start [] d run = refl
@@ -41,7 +41,7 @@ module _ (q : Program) (facts : List SignedFact) (hold : AllSignedHold q facts) 
           absurd (never-steps q c.rule facts hold never start b s d (record { earlier = earlier; run = run; step = step }) (sym same))
       go (inr (test, other)) ih = rw test (omega (arith, ih))
 
-  -- what a lemma bounds a charge by
+  -- the bound that a lemma gives for the sum of a charge holds
   charge_bound-holds : (c : Charge) (n : ℕ) (b : Signed) → charge_bound facts c n ≡ Some b
       → HoldsSum q (charges (c ∷ [])) (signed_val b)
   charge_bound-holds c zero b h = go (is_never facts c.rule) refl h
@@ -54,7 +54,7 @@ module _ (q : Program) (facts : List SignedFact) (hold : AllSignedHold q facts) 
       go false e k = absurd (none_some b k)
   charge_bound-holds c (suc n) b h = sum_bound-holds q facts hold (c ∷ []) (suc n) b h
 
-  -- what lemmas bound each charge by
+  -- the bounds that lemmas give for the sums of charges hold
   charge_bounds-hold : (cs : List Charge) (ns : List ℕ) (parts : SignedParts) → charge_bounds facts cs ns ≡ Some parts
       → (start : List ℤ) (steps : List Step) (d : Config) → IsRun q start steps d
       → weighed q (charges cs) start steps ≤ signed_val (SumOf parts) start
@@ -80,7 +80,7 @@ module _ (q : Program) (facts : List SignedFact) (hold : AllSignedHold q facts) 
           subst (λ (x : SignedParts). weighed q (charges (c ∷ cs)) start steps ≤ signed_val (SumOf x) start)
           (some_same (Part b ps) parts k) (omega (arith, here, others, both))
 
-  -- what is accepted as a bound on charges is one
+  -- an accepted bound on the sum of charges holds
   pub charges_bound-holds : WithinHolds → IsSafe expands_to_squares → (cs : List Charge) (support : Support) (b : Signed)
       → charges_bound facts cs support ≡ Accepted b → HoldsSum q (charges cs) (signed_val b)
   charges_bound-holds within_holds safe cs (ByOne n) b h = go (sum_bound facts cs n) refl h

@@ -1,4 +1,4 @@
--- What each copy of a symbol has among its facts holds at the symbol.
+-- An expression that each copy of a symbol has among its facts is at least 0 at the symbol.
 use Rattle.std.proofs.Common.{◌≡◌, ℕ, zero, suc, ◌==◌, Bool, true, false, List, [], ◌∷◌, Some, refl, sym}
 use Rattle.std.proofs.Common.{ap, ◌∙◌, subst, arith}
 use Rattle.std.specs.Prelude.{ℤ, pos, ◌≤ℤ◌, ◌-ℤ◌, slice_get, ◌&&◌, ◌||◌, not}
@@ -15,7 +15,7 @@ use Rattle.potential_nodes.proofs.LookupLaws.{both-hold}
 use Rattle.program_claims.specs.SymbolFacts.{is_fact_below, has_fact_below, is_copy_of, have_facts_below}
 
 module _ (safe : IsSafe expands_to_squares) (f : Term) where
-  -- an expression is at least 0 where a fact that is at most it is
+  -- an expression is at least 0 where a fact that is at most the expression is
   fact-below : (fact : Term) (values : List ℤ) → is_fact_below f fact ≡ true → pos 0 ≤ℤ value fact values
       → pos 0 ≤ℤ value f values
   fact-below fact values test holds =
@@ -24,7 +24,7 @@ module _ (safe : IsSafe expands_to_squares) (f : Term) where
       through : (a b : ℤ) → pos 0 ≤ℤ (a -ℤ b) → pos 0 ≤ℤ b → pos 0 ≤ℤ a
       through a b h k = omega (arith, ints, h, k)
 
-  -- and where some fact of a list is
+  -- an expression is at least 0 where the facts of a list are of which some is at most the expression
   some-below : (facts : List Term) (values : List ℤ) → has_fact_below f facts ≡ true → AreAtLeastZero facts values
       → pos 0 ≤ℤ value f values
   some-below [] values h all = absurd (true≢false (sym h))
@@ -38,7 +38,7 @@ module _ (safe : IsSafe expands_to_squares) (f : Term) where
           fact-below fact values e (All-head (λ (x : Term). pos 0 ≤ℤ value x values) fact facts all)
       go false e k ih = ih k
 
-  -- each copy of the symbol has such a fact
+  -- each copy of the symbol has a fact that is at most the expression
   copy-has : (symbol : ℕ) (copies : List Copy) (k : ℕ) (copy : Copy) → have_facts_below symbol f copies ≡ true
       → slice_get copies k ≡ Some copy → copy.over ≡ symbol → has_fact_below f copy.facts ≡ true
   copy-has symbol [] k copy h there over = absurd (none_some copy there)

@@ -1,4 +1,4 @@
--- What the steps of a run weigh, and what the steps below them do.
+-- Weights of the steps of a run, and of the steps below them.
 use Rattle.std.proofs.Common.{◌≡◌, ◌≤◌, ◌+◌, ℕ, List, [], ◌∷◌, ◌++◌, map, Some, refl, ap, ◌∙◌, arith}
 use Rattle.std.specs.Prelude.{ℤ}
 use Rattle.model.specs.Programs.{Program, Rule, rule_at}
@@ -8,7 +8,7 @@ use Rattle.refinement.specs.Simulation.{Projection, step_below, HasRuleBelow}
 use Rattle.refinement.proofs.Bounds.{values-below}
 use Rattle.potentials.specs.Sums.{Weight, weighed, variables_at}
 
--- where a weight is at most another at each rule of a program, the steps of a run weigh at most as much by it
+-- if a weight is at most another at each rule of a program, so are the sums over a run
 pub weighed-at_most : (q : Program) (v w : Weight)
     → ((t : ℕ) (r : Rule) (env : List ℤ) → rule_at q t ≡ Some r → v t env ≤ w t env) → (start : List ℤ)
     (steps : List Step) (c : Config) → IsRun q start steps c → weighed q v start steps ≤ weighed q w start steps
@@ -20,7 +20,7 @@ weighed-at_most q v w h start (s ∷ earlier) c (b, run, step) =
 
 module _ (p q : Program) (o : Projection)
     (copies : (t : ℕ) (copy : Rule) → rule_at q t ≡ Some copy → HasRuleBelow p o t copy) where
-  -- the steps below those of a run weigh what these do by the weights of the rules below
+  -- the sum of a weight over the steps below those of a run is the sum of the weights of the rules below
   pub weighed-below : (w : Weight) (start : List ℤ) (steps : List Step) (c : Config) → IsRun q start steps c
       → weighed p w start (map (step_below o) steps) ≡ weighed q (λ t env. w (o.rule t) env) start steps
   weighed-below w start [] c run = refl

@@ -1,4 +1,4 @@
--- What claims come to holds of the program that enters a loop and counts A down, or doesn't.
+-- The worked statements hold of the program that enters a loop and counts A down, or don't.
 use Rattle.std.proofs.Common.{◌≤◌, [], ◌∷◌, refl, arith}
 use Rattle.std.specs.Prelude.{pos, negsuc, ◌≤ℤ◌}
 use Rattle.std.proofs.lemmas.Int.{ints}

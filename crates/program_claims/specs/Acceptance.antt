@@ -17,18 +17,19 @@ use Rattle.program_claims.specs.Sums.{charges_bound}
 use Rattle.program_claims.specs.Heads.{are_heads_within, are_heads_there}
 use Rattle.program_claims.specs.SymbolFacts.{has_copy, have_facts_below}
 
--- the bound of a form's sum over the steps of all copies of a rule
+-- a bound on the sum of a form over the steps of all copies of a rule
 abbrev pub copies_bound : Evidence → ℕ → Support → Polynomial → Verdict Signed
 copies_bound e rule support form =
     charges_bound e.facts (charge_each form (copies_of e.above e.projection rule)) support
 
--- what a claim on the time of a rule states, where there is the rule: a bound on the sum of 1 over the steps of all copies
+-- the statement of a claim on the time of a rule, if there is the rule: a bound on the sum of 1 over the steps of all
+-- copies
 abbrev pub time_stated : Evidence → ℕ → Support → Option Rule → Verdict Stated
 time_stated e rule support None = Refused NoRule
 time_stated e rule support (Some r) = verdict_map (Time rule) (copies_bound e rule support one_form)
 
--- what a claim on the cost of a rule states, where one is written: a bound on the sum of the cost over the steps of all
--- copies
+-- the statement of a claim on the cost of a rule, if a cost is written: a bound on the sum of the cost over the steps
+-- of all copies
 abbrev pub written_stated : Evidence → ℕ → Support → Option Term → Verdict Stated
 written_stated e rule support None = Refused NoCost
 written_stated e rule support (Some c) = verdict_map (Cost rule) (copies_bound e rule support (expanded c))
@@ -37,12 +38,12 @@ abbrev pub cost_stated : Evidence → ℕ → Support → Option Rule → Verdic
 cost_stated e rule support None = Refused NoRule
 cost_stated e rule support (Some r) = written_stated e rule support r.cost
 
--- why there is no update of a place
+-- the reason why a rule has no update of a place
 abbrev pub no_update : Option Rule → ClaimReason
 no_update None = NoRule
 no_update (Some r) = NoPlace
 
--- whether lemmas bound a form at the steps of each copy of a rule by at most the bound; what is stated where they do, and
+-- whether lemmas bound a form by at most the bound at the steps of each copy of a rule; and the statement if they do,
 -- else the reason
 abbrev pub are_copies_within : Evidence → ℕ → ℕ → List ℕ → Signed → Polynomial → Bool
 are_copies_within e rule place ns bound form =
@@ -57,8 +58,8 @@ copies_stated e rule place ns bound form stated =
     if are_copies_within e rule place ns bound form then Accepted stated
     else Refused (head_reason (are_heads_there e.facts form place (copies_of e.above e.projection rule) ns))
 
--- What a claim on the value at a place states, from above and from below: its lemmas bound the new value, or its opposite,
--- by at most the bound of the claim at the steps of each copy.
+-- The statement of a claim on the value at a place, from above and from below: its lemmas bound the new value, or its
+-- negation, by at most the bound of the claim at the steps of each copy.
 abbrev pub above_stated : Evidence → ℕ → ℕ → List ℕ → Signed → Option Term → Verdict Stated
 above_stated e rule place ns bound None = Refused (no_update (rule_at e.program rule))
 above_stated e rule place ns bound (Some u) =
@@ -69,14 +70,15 @@ below_stated e rule place ns bound None = Refused (no_update (rule_at e.program 
 below_stated e rule place ns bound (Some u) =
     copies_stated e rule place ns bound (expanded (Negation u)) (Below rule place bound)
 
--- what a claim on a symbol states: it has a copy, and each of its copies a fact that is at most the expression
+-- the statement of a claim on a symbol: the symbol has a copy, and each of its copies has a fact that is at most the
+-- expression
 abbrev pub symbol_stated : ℕ → Term → List Copy → Verdict Stated
 symbol_stated symbol f copies =
     if has_copy symbol copies
     then (if have_facts_below symbol f copies then Accepted (AtSymbol symbol f) else Refused NoFact)
     else Refused NoCopy
 
--- what a claim states by its evidence, or why it isn't accepted
+-- the statement of a claim, given its evidence, or why the claim isn't accepted
 abbrev pub stated_by : Evidence → Claim → Verdict Stated
 stated_by e (OnTime rule support) = time_stated e rule support (rule_at e.program rule)
 stated_by e (OnCost rule support) = cost_stated e rule support (rule_at e.program rule)
@@ -87,12 +89,12 @@ stated_by e (OnBelow rule place ns bound) =
     below_stated e rule place ns bound (update_at (rule_at e.program rule) place)
 stated_by e (OnSymbol symbol f) = symbol_stated symbol f e.copies
 
--- a claim that isn't accepted, by its number, and why
+-- the number of a claim that isn't accepted, and why
 pub record ClaimRefusal : Type 0 where
   pub number : ℕ
   pub reason : ClaimReason
 
--- the first claim of a list that isn't accepted, where the first has number k; none where all are
+-- the first claim of a list that isn't accepted, where the first has number k; none if all are accepted
 abbrev pub refused_or : ℕ → Verdict Stated → Option ClaimRefusal → Option ClaimRefusal
 refused_or k (Refused reason) later = Some (record { number = k; reason = reason })
 refused_or k (Accepted s) later = later
@@ -101,7 +103,7 @@ abbrev pub first_refused : Evidence → ℕ → List Claim → Option ClaimRefus
 first_refused e k [] = None
 first_refused e k (claim ∷ claims) = refused_or k (stated_by e claim) (first_refused e (suc k) claims)
 
--- what claims state, those that aren't accepted left out
+-- the statements of the accepted claims of a list
 abbrev pub with_stated : Verdict Stated → List Stated → List Stated
 with_stated (Refused reason) stated = stated
 with_stated (Accepted s) stated = s ∷ stated

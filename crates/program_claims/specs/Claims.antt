@@ -1,4 +1,5 @@
--- What is claimed of a program by lemmas over a program that simulates it, and what a claim says of runs.
+-- Claims about a program, supported by lemmas about a program that simulates it; and what their statements mean for
+-- runs.
 use Rattle.std.specs.Prelude.{◌≡◌, ◌≤◌, ℕ, List, ℤ, pos, neg_ℤ, ◌≤ℤ◌}
 use Rattle.std.specs.List.{AllByRecursion}
 use Rattle.model.specs.Terms.{Term}
@@ -8,16 +9,16 @@ use Rattle.model.specs.Spending.{spent, spent_all}
 use Rattle.refinement.specs.Laws.{HoldsAt}
 use Rattle.signed_bounds.specs.Bounds.{Signed, signed_val}
 
--- The lemmas that bound a sum of charges, by their numbers: one on all charges together, with its bound; or one for each
--- charge, with a bound on what these come to together.
+-- The lemmas that bound a sum of charges, by their numbers: one on all charges together, with its bound; or one for
+-- each charge, with a bound on the sum of their bounds.
 pub data Support : Type 0 where
   ByOne : ℕ → Support
   ByEach : List ℕ → Signed → Support
 
--- A claim, with the numbers of the lemmas that it cites: on how often a rule occurs; on what the steps of a rule cost
--- together; on what all steps cost together; on the value at a place after a rule, from above and from below, with a
--- lemma for each copy of the rule, and the bound; and that an expression over the places of a symbol is at least 0 there.
--- Places are numbered from 1.
+-- A claim, with the numbers of the lemmas that it cites: on how often a rule occurs; on the sum of the costs of a
+-- rule's steps; on the sum of the costs of all steps; on the value at a place after a rule, from above and from below,
+-- with a lemma for each copy of the rule, and the bound; and that an expression over the places of a symbol is at least
+-- 0 there. Places are numbered from 1.
 pub data Claim : Type 0 where
   OnTime : ℕ → Support → Claim
   OnCost : ℕ → Support → Claim
@@ -26,9 +27,9 @@ pub data Claim : Type 0 where
   OnBelow : ℕ → ℕ → List ℕ → Signed → Claim
   OnSymbol : ℕ → Term → Claim
 
--- what a claim states: a bound over the start values on how often a rule occurs, on what its steps cost, on what all
--- steps cost, on the value at a place after a rule, and on the opposite of that value; or that an expression is at least
--- 0 at a symbol
+-- the statement of a claim: a bound over the start values on how often a rule occurs, on what its steps cost, on what
+-- all steps cost, on the value at a place after a rule, or on the negation of that value; or that an expression is at
+-- least 0 at a symbol
 pub data Stated : Type 0 where
   Time : ℕ → Signed → Stated
   Cost : ℕ → Signed → Stated
@@ -37,26 +38,27 @@ pub data Stated : Type 0 where
   Below : ℕ → ℕ → Signed → Stated
   AtSymbol : ℕ → Term → Stated
 
--- in every run the rule occurs at most as often as the bound says at the start values
+-- in every run the rule occurs at most as often as the bound at the start values
 pub record OccursAtMost (p : Program) (rule : ℕ) (bound : List ℤ → ℕ) : Type 0 where
   pub each : (start : List ℤ) (steps : List Step) (c : Config) → IsRun p start steps c → count rule steps ≤ bound start
 
--- in every run the steps by the rule cost together at most what the bound says
+-- in every run the steps by the rule cost together at most the bound at the start values
 pub record SpendsAtMost (p : Program) (rule : ℕ) (bound : List ℤ → ℕ) : Type 0 where
   pub each : (start : List ℤ) (steps : List Step) (c : Config) → IsRun p start steps c
       → spent p rule start steps ≤ bound start
 
--- in every run all steps cost together at most what the bound says
+-- in every run all steps cost together at most the bound at the start values
 pub record SpendsInAllAtMost (p : Program) (bound : List ℤ → ℕ) : Type 0 where
   pub each : (start : List ℤ) (steps : List Step) (c : Config) → IsRun p start steps c
       → spent_all p start steps ≤ bound start
 
--- after every run whose last step is by the rule, the value at the place is at most what the bound says
+-- after every run whose last step is by the rule, the value at the place is at most the bound at the start values
 pub record EndsAtMost (p : Program) (rule place : ℕ) (bound : List ℤ → ℕ) : Type 0 where
   pub each : (start : List ℤ) (steps : List Step) (c : Config) → IsRun p start steps c → last_rule steps ≡ rule
       → place_value c place ≤ℤ pos (bound start)
 
--- after every run whose last step is by the rule, the opposite of the value at the place is at most what the bound says
+-- after every run whose last step is by the rule, the negation of the value at the place is at most the bound at the
+-- start values
 pub record EndsAtLeast (p : Program) (rule place : ℕ) (bound : List ℤ → ℕ) : Type 0 where
   pub each : (start : List ℤ) (steps : List Step) (c : Config) → IsRun p start steps c → last_rule steps ≡ rule
       → neg_ℤ (place_value c place) ≤ℤ pos (bound start)

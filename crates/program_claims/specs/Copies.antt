@@ -1,4 +1,4 @@
--- The copies of a rule in a program that simulates another, and what their steps are charged.
+-- The copies of a rule in a program that simulates another, and their charges.
 use Rattle.std.specs.Prelude.{ℕ, zero, suc, ◌==◌, if◌then◌else◌, List, [], ◌∷◌, map, Option, Some, None, slice_get}
 use Rattle.model.specs.Terms.{Term}
 use Rattle.model.specs.Programs.{Program, Rule}
@@ -7,7 +7,7 @@ use Rattle.refinement.specs.Simulation.{Projection}
 use Rattle.potentials.specs.Sums.{Charge}
 use Rattle.potential_nodes.specs.Costs.{cost_form}
 
--- the numbers of the rules that have rule n below them, in order, where the first of the rules has number t
+-- the numbers of the rules that are copies of rule n, in order, where the first rule of the list has number t
 abbrev pub copies_from : Projection → ℕ → ℕ → List Rule → List ℕ
 copies_from o n t [] = []
 copies_from o n t (r ∷ rules) =
@@ -17,19 +17,19 @@ copies_from o n t (r ∷ rules) =
 abbrev pub copies_of : Program → Projection → ℕ → List ℕ
 copies_of q o n = copies_from o n 1 q.rules
 
--- a form charged at each of these rules
+-- the charges of a form at each of these rules
 abbrev pub charge_by : Polynomial → ℕ → Charge
 charge_by form t = record { rule = t; form = form }
 
 abbrev pub charge_each : Polynomial → List ℕ → List Charge
 charge_each form ts = map (charge_by form) ts
 
--- the charge of each rule's cost, where the first of the rules has number t
+-- the charge of each rule's cost, where the first rule of the list has number t
 abbrev pub cost_charges : ℕ → List Rule → List Charge
 cost_charges t [] = []
 cost_charges t (r ∷ rules) = charge_by (cost_form r.cost) t ∷ cost_charges (suc t) rules
 
--- the update of a place, numbered from 1, where there is one
+-- the update of a place, numbered from 1, if there is one
 abbrev pub update_at : Option Rule → ℕ → Option Term
 update_at None place = None
 update_at (Some r) zero = None

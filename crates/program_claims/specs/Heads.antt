@@ -1,4 +1,4 @@
--- What lemmas bound a form by at the copies of a rule.
+-- The bounds that lemmas give for a form at the copies of a rule.
 use Rattle.std.specs.Prelude.{ℕ, zero, suc, Bool, true, false, ◌&&◌, if◌then◌else◌, List, [], ◌∷◌, Option, Some, None}
 use Rattle.model.specs.Polynomials.{Polynomial}
 use Rattle.signed_bounds.specs.Bounds.{Signed, Constant}
@@ -8,20 +8,20 @@ use Rattle.potential_nodes.specs.Lookup.{is_there, numbered}
 use Rattle.potential_nodes.specs.Facts.{SignedFact, peak_bound, is_never}
 use Rattle.potential_nodes.specs.PlainPeaks.{size_in, first_of_two}
 
--- What a form is at most at the steps of copy t, by the lemma with a number: by the peak of the form, or by the size of
--- the place after the copy, whose absolute value is at least the form's. A copy that never occurs needs no lemma, which
--- the number 0 says.
+-- The bound on a form at the steps of copy t that the cited lemma gives: the peak of the form, or the size of the place
+-- after the copy, whose absolute value is at least the form's. A copy that never occurs needs no lemma; its number is
+-- then 0.
 abbrev pub head_bound : List SignedFact → Polynomial → ℕ → ℕ → ℕ → Option Signed
 head_bound facts form place t zero = if is_never facts t then Some (Constant 0) else None
 head_bound facts form place t (suc n) =
     first_of_two (peak_bound facts t form (suc n)) (size_in t place (numbered facts (suc n)))
 
--- whether a bound that is there is at most another one
+-- whether there is a bound, and it is at most another one
 abbrev pub is_head_within : Signed → Option Signed → Bool
 is_head_within bound None = false
 is_head_within bound (Some b) = within expands_to_squares 1 b bound
 
--- whether the lemmas with these numbers bound a form by at most this bound at each of these rules, one lemma for each
+-- whether the lemmas with these numbers, one for each of these rules, bound a form there by at most this bound
 abbrev pub are_heads_within : List SignedFact → Polynomial → ℕ → Signed → List ℕ → List ℕ → Bool
 are_heads_within facts form place bound [] [] = true
 are_heads_within facts form place bound [] (n ∷ ns) = false
@@ -29,7 +29,7 @@ are_heads_within facts form place bound (t ∷ ts) [] = false
 are_heads_within facts form place bound (t ∷ ts) (n ∷ ns) =
     is_head_within bound (head_bound facts form place t n) && are_heads_within facts form place bound ts ns
 
--- whether each of these lemmas bounds the form at its rule, by whatever bound, one lemma for each
+-- whether the lemmas with these numbers, one for each of these rules, bound the form there by any bound
 abbrev pub are_heads_there : List SignedFact → Polynomial → ℕ → List ℕ → List ℕ → Bool
 are_heads_there facts form place [] [] = true
 are_heads_there facts form place [] (n ∷ ns) = false

@@ -1,4 +1,4 @@
--- what is claimed of a program, and when a claim is accepted
+-- Claims about a program, and when a claim is accepted.
 pub mod Claims
 pub mod Copies
 pub mod Evidence
@@ -8,7 +8,7 @@ pub mod Heads
 pub mod SymbolFacts
 pub mod Acceptance
 pub mod Laws
--- values that were worked out by hand
+-- worked values
 pub mod Worked
 pub mod WorkedClaims
 -- the crates below, which callers name through this one

@@ -1,4 +1,4 @@
--- What lemmas bound a sum of charges by.
+-- The bounds that lemmas give for a sum of charges.
 use Rattle.std.specs.Prelude.{ℕ, zero, suc, if◌then◌else◌, List, [], ◌∷◌, Option, Some, None}
 use Rattle.potentials.specs.Sums.{Charge}
 use Rattle.signed_bounds.specs.Bounds.{Signed, Constant, SumOf, SignedParts, NoParts}
@@ -9,26 +9,26 @@ use Rattle.potential_nodes.specs.PlainPeaks.{joined_part}
 use Rattle.program_claims.specs.Claims.{Support, ByOne, ByEach}
 use Rattle.program_claims.specs.Verdicts.{Verdict, Accepted, Refused, BadLemma, LowBound, verdict_or}
 
--- What a charge adds up to at most, by the lemma with a number. A charge of a rule that never occurs needs no lemma, which
--- the number 0 says.
+-- The bound on the sum of a charge that the cited lemma gives. The charge of a rule that never occurs needs no lemma;
+-- its number is then 0.
 abbrev pub charge_bound : List SignedFact → Charge → ℕ → Option Signed
 charge_bound facts c zero = if is_never facts c.rule then Some (Constant 0) else None
 charge_bound facts c (suc n) = sum_bound facts (c ∷ []) (suc n)
 
--- what each charge adds up to at most, one lemma for each
+-- the bounds on the sums of these charges, one lemma for each
 abbrev pub charge_bounds : List SignedFact → List Charge → List ℕ → Option SignedParts
 charge_bounds facts [] [] = Some NoParts
 charge_bounds facts [] (n ∷ ns) = None
 charge_bounds facts (c ∷ cs) [] = None
 charge_bounds facts (c ∷ cs) (n ∷ ns) = joined_part (charge_bound facts c n) (charge_bounds facts cs ns)
 
--- a bound, where these parts are there and come to at most so much
+-- the bound, if there are bounds on the parts and their sum is at most it
 abbrev pub parts_bound : Signed → Option SignedParts → Verdict Signed
 parts_bound bound None = Refused BadLemma
 parts_bound bound (Some parts) =
     if within expands_to_squares 1 (SumOf parts) bound then Accepted bound else Refused LowBound
 
--- what charges add up to at most, by one lemma on all of them, or by one for each
+-- the bound on the sum of these charges, by one lemma on all of them, or by one for each
 abbrev pub charges_bound : List SignedFact → List Charge → Support → Verdict Signed
 charges_bound facts charges (ByOne n) = verdict_or BadLemma (sum_bound facts charges n)
 charges_bound facts charges (ByEach ns bound) = parts_bound bound (charge_bounds facts charges ns)

@@ -1,4 +1,4 @@
--- What the copies of a symbol have among their facts.
+-- The facts of the copies of a symbol.
 use Rattle.std.specs.Prelude.{ℕ, Bool, true, ◌&&◌, ◌||◌, ◌==◌, not, List, [], ◌∷◌}
 use Rattle.std.specs.List.{list_any}
 use Rattle.model.specs.Terms.{Term, Subtraction}

@@ -1,4 +1,4 @@
--- The copies of rules in a small program that a section spells, and what claims say of runs, as it was worked out by hand.
+-- Worked values of the copies of rules in a small program that a section spells, and of what statements mean for runs.
 use Rattle.std.specs.Prelude.{◌≡◌, [], ◌∷◌, pos, Some, None}
 use Rattle.model.specs.Terms.{Variable, Negation}
 use Rattle.model.specs.Programs.{rule_at}
@@ -31,9 +31,9 @@ pub record CopiesAreWorkedOut : Type 0 where
   pub no_place : update_at (rule_at countdown 2) 0 ≡ None
   pub third_place : update_at (rule_at countdown 2) 3 ≡ None
 
--- what claims state holds of the small program, and doesn't with bounds that are lower, or over another start value:
--- entering takes one step from any start; from A = 9 on there are 9 rounds, behind the first of which A is 8; entering
--- with A = 3 ends with A = 3, and entering with A = -3 with A = -3; and with costs entering from A = 100 costs 100
+-- worked statements hold of the small program, and don't with lower bounds or over another start value: entering takes
+-- one step from any start; from A = 9 on there are 9 rounds, after the first of which A is 8; entering with A = 3 ends
+-- with A = 3, and entering with A = -3 with A = -3; and with costs entering from A = 100 costs 100
 pub record MeaningsAreWorkedOut : Type 0 where
   pub once : HoldsOf countdown (Time 1 (Constant 1))
   pub never : ¬ (HoldsOf countdown (Time 1 (Constant 0)))

@@ -1,5 +1,5 @@
--- Claims on a small program by lemmas over the program that a section spells, and which are accepted, as it was worked
--- out by hand.
+-- Worked values of claims on a small program by lemmas about the program that a section spells, and of which are
+-- accepted.
 use Rattle.std.specs.Prelude.{◌≡◌, ℕ, List, [], ◌∷◌, pos, Some, None}
 use Rattle.model.specs.Terms.{Variable, Literal, Negation}
 use Rattle.model.specs.Programs.{Program}
@@ -23,10 +23,10 @@ use Rattle.program_claims.specs.Verdicts.{Verdict, Accepted, Refused}
 use Rattle.program_claims.specs.Acceptance.{stated_by, first_refused, all_stated}
 use Rattle.program_claims.specs.Worked.{a_form, b_form}
 
--- Lemmas of the program that the section spells: entering, by two copies of rule 1, takes one step; looping, by one copy
--- of rule 2, at most 9; and all steps together are at most 10. After entering A is at most its start value, and at most
--- 0 by the second copy, and its absolute value after the second copy is at most 5, which isn't true; before each round
--- A is at most 9. Entering by the first copy alone takes one step; and no steps at all are counted 0 times.
+-- Lemmas about the spelled program: entering, by two copies of rule 1, takes one step; looping, by one copy of rule 2,
+-- at most 9; and all steps together are at most 10. After entering A is at most its start value, and at most 0 by the
+-- second copy, and its absolute value after the second copy is at most 5, which isn't true; before each round A is at
+-- most 9. Entering by the first copy alone takes one step; and the sum of no charges is at most 0.
 abbrev pub lemmas : List SignedFact
 lemmas =
     SumFact (charge_by one_form 1 ∷ charge_by one_form 2 ∷ []) (Constant 1)
@@ -39,13 +39,13 @@ lemmas =
     ∷ SumFact [] (Constant 0)
     ∷ SizeFact 2 1 (Constant 5) ∷ []
 
--- the same, where the second copy of rule 1 never occurs
+-- the same lemmas, and one that the second copy of rule 1 never occurs
 abbrev pub with_never : List SignedFact
 with_never =
     PeakFact 1 a_form (PositivePart a_form) ∷ SumFact (charge_by one_form 2 ∷ []) (Constant 0) ∷ []
 
--- Lemmas of the same with costs: all copies of rule 1 cost together at most the start value, as entering costs A; all
--- steps together cost at most 7, which isn't true; and entering takes one step.
+-- Lemmas about the spelled program with costs: all copies of rule 1 cost together at most the start value, as entering
+-- costs A; all steps together cost at most 7, which isn't true; and entering takes one step.
 abbrev pub cost_lemmas : List SignedFact
 cost_lemmas =
     SumFact (charge_by a_form 1 ∷ charge_by a_form 2 ∷ []) (PositivePart a_form)
@@ -56,9 +56,8 @@ cost_lemmas =
 abbrev pub spelled_paying : Program
 spelled_paying = spelled paying split_by_sign
 
--- Lemmas on each copy alone, as the facts of its own on times and costs are: entering by the first copy and by the second
--- takes one step each, and costs A and nothing; looping takes at most 9 steps, and costs B, at most 7 in all, which isn't
--- true.
+-- Lemmas on each copy alone, as facts on its own time and cost: entering by the first copy and by the second takes one
+-- step each, and costs A and 0; looping takes at most 9 steps, and costs B, at most 7 in all, which isn't true.
 abbrev pub apart_lemmas : List SignedFact
 apart_lemmas =
     signed_fact spelled_paying (plain_facts.Time 1 (plain_bounds.Constant 1))
@@ -68,8 +67,8 @@ apart_lemmas =
     ∷ signed_fact spelled_paying (plain_facts.Cost 3 (plain_bounds.Constant 7))
     ∷ signed_fact spelled_paying (plain_facts.Time 3 (plain_bounds.Constant 0)) ∷ []
 
--- a claim on the program that enters a loop and counts A down, and on the same with costs, over the section by the sign
--- of A
+-- the verdict on a claim about the program that enters a loop and counts A down, and about the same with costs, by the
+-- section that splits by the sign of A
 abbrev pub by_lemmas : Evidence
 by_lemmas = by_section countdown split_by_sign lemmas
 
@@ -85,7 +84,7 @@ of_paying claim = stated_by (by_section paying split_by_sign cost_lemmas) claim
 abbrev pub of_apart : Claim → Verdict Stated
 of_apart claim = stated_by (by_section paying split_by_sign apart_lemmas) claim
 
--- a claim on the same program over the program without the loop, and over no section
+-- the verdict on a claim about the same program by the program without the loop, and by no section
 abbrev pub of_entry : Claim → Verdict Stated
 of_entry claim = stated_by (record {
   program = countdown;
@@ -98,8 +97,8 @@ of_entry claim = stated_by (record {
 abbrev pub of_itself : Claim → Verdict Stated
 of_itself claim = stated_by (by_itself countdown []) claim
 
--- a claim over copies of l0, without facts, and of l1: at the first A is at least 3, and at the second A is at least 5
--- and B at least 0
+-- the verdict on a claim by copies of l0, without facts, and of l1: A is at least 3 at the first copy of l1, and A is
+-- at least 5 and B at least 0 at the second
 abbrev pub loop_copies : List Copy
 loop_copies =
     entry_copy
@@ -115,7 +114,7 @@ of_copies claim = stated_by (record {
   facts = [];
 }) claim
 
--- the greater of the start value of A and 0, the greater of that and 5, and the absolute start value of A and 2
+-- the maximum of the start value of A and 0; that of A, 0 and 5; and the sum of the absolute start value of A and 2
 abbrev pub a_or_0 : Signed
 a_or_0 = PositivePart a_form
 
@@ -125,21 +124,21 @@ a_or_5 = MaximumOf (Part (PositivePart a_form) (Part (Constant 5) NoParts))
 abbrev pub size_and : ℕ → Signed
 size_and n = SumOf (Part (absolute_value 0) (Part (Constant n) NoParts))
 
--- claims that are accepted, and what they state
+-- claims that are accepted, and their statements
 pub record ClaimsAreAccepted : Type 0 where
   pub entering : of_countdown (OnTime 1 (ByOne 1)) ≡ Accepted (Time 1 (Constant 1))
   pub looping : of_countdown (OnTime 2 (ByOne 2)) ≡ Accepted (Time 2 (Constant 9))
   pub all_steps : of_countdown (OnTotal (ByOne 3)) ≡ Accepted (Total (Constant 10))
   pub above : of_countdown (OnAbove 1 1 (4 ∷ 5 ∷ []) a_or_0) ≡ Accepted (Above 1 1 a_or_0)
-  -- by the size of the place after the second copy, too
+  -- a claim on the value from above may also cite the size of the place after the second copy
   pub above_by_size : of_countdown (OnAbove 1 1 (4 ∷ 9 ∷ []) a_or_5) ≡ Accepted (Above 1 1 a_or_5)
-  -- without a lemma for a copy that never occurs
+  -- a copy that never occurs needs no lemma
   pub above_without : of_never (OnAbove 1 1 (1 ∷ 0 ∷ []) a_or_0) ≡ Accepted (Above 1 1 a_or_0)
   -- the new value of B in the loop is -A, so its opposite is A
   pub below : of_countdown (OnBelow 2 2 (6 ∷ []) (Constant 9)) ≡ Accepted (Below 2 2 (Constant 9))
   pub cost : of_paying (OnCost 1 (ByOne 1)) ≡ Accepted (Cost 1 (PositivePart a_form))
   pub total_cost : of_paying (OnTotal (ByOne 2)) ≡ Accepted (Total (Constant 7))
-  -- by lemmas on each copy, and on each rule: with the sum of their bounds, or with more
+  -- a claim on a sum may cite lemmas on each copy, and on each rule: with the sum of their bounds, or with more
   pub times_apart : of_apart (OnTime 1 (ByEach (1 ∷ 2 ∷ []) (Constant 2))) ≡ Accepted (Time 1 (Constant 2))
   pub times_more : of_apart (OnTime 1 (ByEach (1 ∷ 2 ∷ []) (Constant 3))) ≡ Accepted (Time 1 (Constant 3))
   pub costs_apart : of_apart (OnCost 1 (ByEach (3 ∷ 4 ∷ []) (absolute_value 0))) ≡ Accepted (Cost 1 (absolute_value 0))
@@ -159,10 +158,10 @@ pub record ClaimsAreAccepted : Type 0 where
       ≡ Time 2 (Constant 9) ∷ Time 1 (Constant 1) ∷ []
   pub none_refused : first_refused by_lemmas 1 (OnTime 2 (ByOne 2) ∷ OnTime 1 (ByOne 1) ∷ []) ≡ None
 
--- claims that aren't: by a lemma on another rule, on one copy of two, or that isn't there; on no rule, with a lemma on no
--- steps; on a cost that isn't written, or by how often the rule occurs; on the total by a lemma that leaves a rule out; by
--- lemmas in another order, one too few, one too many, none for a copy that may occur, or on a size at another rule; with
--- a bound that is too low; on no place; and on the value from below by lemmas from above
+-- claims that are refused: by a lemma on another rule, on one copy of two, or that doesn't exist; on no rule, with a
+-- lemma on no steps; on a cost that isn't written, or by how often the rule occurs; on the total by a lemma that leaves
+-- a rule out; by lemmas in another order, one too few, one too many, none for a copy that may occur, or on a size at
+-- another rule; with a bound that is too low; on no place; and on the value from below by lemmas from above
 pub record ClaimsAreRefused : Type 0 where
   pub other_rule : of_countdown (OnTime 1 (ByOne 2)) ≡ Refused BadLemma
   pub one_copy : of_countdown (OnTime 1 (ByOne 7)) ≡ Refused BadLemma
@@ -190,8 +189,8 @@ pub record ClaimsAreRefused : Type 0 where
   pub third_below : of_countdown (OnBelow 1 3 (4 ∷ 5 ∷ []) a_or_5) ≡ Refused NoPlace
   pub other_place : of_countdown (OnAbove 1 2 (4 ∷ 5 ∷ []) a_or_5) ≡ Refused BadLemma
   pub from_above : of_countdown (OnBelow 1 1 (4 ∷ 5 ∷ []) a_or_5) ≡ Refused BadLemma
-  -- by lemmas on each copy: with a bound that is too low for their sum, in another order, one too few, one too many, none
-  -- for a copy that may occur, or by times in place of costs
+  -- claims by lemmas on each copy that are refused: with a bound that is too low for their sum, in another order, one
+  -- too few, one too many, none for a copy that may occur, or by times in place of costs
   pub sum_too_low : of_apart (OnTime 1 (ByEach (1 ∷ 2 ∷ []) (Constant 1))) ≡ Refused LowBound
   pub cost_too_low : of_apart (OnCost 1 (ByEach (3 ∷ 4 ∷ []) (PositivePart a_form))) ≡ Refused LowBound
   pub total_too_low : of_apart (OnTotal (ByEach (3 ∷ 4 ∷ 5 ∷ []) (size_and 6))) ≡ Refused LowBound
@@ -201,8 +200,9 @@ pub record ClaimsAreRefused : Type 0 where
   pub apart_occurs : of_apart (OnCost 1 (ByEach (3 ∷ 0 ∷ []) (absolute_value 0))) ≡ Refused BadLemma
   pub apart_times : of_apart (OnCost 1 (ByEach (1 ∷ 2 ∷ []) (Constant 2))) ≡ Refused BadLemma
   pub left_out_apart : of_apart (OnTotal (ByEach (3 ∷ 4 ∷ []) (absolute_value 0))) ≡ Refused BadLemma
-  -- that A is at least 4 at l1, or B at least 0, which each is at one copy alone; that A is at least 3 at l0, whose copy has
-  -- no facts; and anything at a symbol without a copy, or without a section
+  -- claims on symbols that are refused: that A is at least 4 at l1, or B at least 0, which each is true at one copy
+  -- alone; that A is at least 3 at l0, whose copy has no facts; and any claim at a symbol without a copy, or without a
+  -- section
   pub at_least_4 : of_copies (OnSymbol 1 (less (Variable 0) 4)) ≡ Refused NoFact
   pub one_has : of_copies (OnSymbol 1 (Variable 1)) ≡ Refused NoFact
   pub opposite : of_copies (OnSymbol 1 (less (Negation (Variable 0)) 3)) ≡ Refused NoFact

@@ -49,7 +49,7 @@ pub fn copied_exprs(alloc: Global, exprs: &[Expr]) -> Result<Vec<Expr>, Memory>
     Ok(copies)
 }
 
-/// A copy of a rule's cost, where it has one.
+/// A copy of a rule's cost, if it has one.
 ///
 /// # Errors
 ///

@@ -1,5 +1,5 @@
-//! Copies of parts of programs, in memory of their own: names, symbols, expressions, atoms and rules. The plain data of
-//! a copy is that of what it was made of, and the only error is that an allocation failed.
+//! Copies of parts of programs, in memory of their own: names, symbols, expressions, atoms and rules. A copy has the
+//! same plain data as the original, and the only error is that an allocation failed.
 #![tactic(auto)]
 
 mod exprs;

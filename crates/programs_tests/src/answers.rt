@@ -1,4 +1,4 @@
-//! The answer to a line: a call, and behind a blank what it is made on.
+//! The answer to a line: a call, and after a blank its argument.
 
 use crate::certificates::{certified, point_text};
 use crate::closures::{of_random, of_three};
@@ -13,8 +13,8 @@ use std::alloc::Global;
 ///
 /// `value`, `expand`, `fault`, `row` and `plain` are followed by an expression; `rows`, `cost-program`, `step` and
 /// `cost` by a rule; `implies`, `empty` and `on-rows` by rows; and `cycle`, `before`, `set`, `parts`, `reached` and
-/// `components` by edges. What else a call needs comes first. `plain`, `random-trees`, `all-graphs-of-three` and
-/// `random-graphs` compare answers with those of plain slow bodies, and `path` with what is known of a long path.
+/// `components` by edges. Other arguments of a call come first. `plain`, `random-trees`, `all-graphs-of-three` and
+/// `random-graphs` compare answers with those of plain slow bodies, and `path` with the known answer on a long path.
 pub(crate) fn answer(alloc: Global, line: &str) -> Result<String, Memory> {
     let Some((call, rest)) = line.split_once(' ') else {
         return String::from_str(alloc, line);

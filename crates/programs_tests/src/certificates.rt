@@ -41,14 +41,14 @@ fn are_row_numbers(numbers: &[i128]) -> bool
     true
 }
 
-// Whether those of a row are.
+// Whether the numbers of a row are below 2^63.
 fn has_row_numbers(row: &Row) -> bool
     ensures { IsTrue result → HasRowNumbers (form_of row.now) }
 {
     are_row_numbers(&row.coefs) && row.constant.unsigned_abs() < 1 << 63
 }
 
-// Whether those of all rows are.
+// Whether the numbers of all rows are below 2^63.
 fn have_row_numbers(rows: &[Row]) -> bool
     ensures { IsTrue result → All HasRowNumbers (map form_of rows.now) }
 {

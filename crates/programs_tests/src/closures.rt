@@ -77,7 +77,7 @@ fn cut(alloc: Global, flags: &[bool]) -> Result<Vec<u32>, Memory> {
     Ok(cut)
 }
 
-// What can come just before a rule that comes from a symbol, by the definition.
+// The entries that can come just before a rule that comes from a symbol, by the definition.
 fn slow_before(alloc: Global, edges: &[(u32, u32)], source: u32) -> Result<Vec<u32>, Memory> {
     let mut found = Vec::new(alloc);
     if source == 0 {
@@ -113,7 +113,8 @@ fn slow_set(
     Ok(found)
 }
 
-// Whether what can come just before each rule is that by the definition, and its set that by the closure.
+// Whether the entries that can come just before each rule are those by the definition, and its set is that by the
+// closure.
 fn are_rules_right(alloc: Global, edges: &[(u32, u32)], remainder: u32) -> Result<bool, Memory> {
     let mut own = 0u32;
     for (source, _) in edges {
@@ -212,8 +213,8 @@ fn least_ready(
     None
 }
 
-// Whether what is reached, the cycle, the components and the answers for each rule are those by the closure, where the
-// rules whose numbers leave this remainder by 3 are cut and timed.
+// Whether the reached symbols, the cycle, the components and the answers for each rule are those by the closure, where
+// the rules whose numbers leave this remainder by 3 are cut and timed.
 fn is_right(alloc: Global, graph: u64, nodes: u32, remainder: u32) -> Result<bool, Memory>
     requires { nodes ≤ 6 }
 {

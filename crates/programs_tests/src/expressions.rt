@@ -25,7 +25,7 @@ fn reads_below(n: usize, e: &Expr) -> bool
     }
 }
 
-/// The value of an expression, behind a semicolon, at the values before it, or `None` where it exceeds 128 bits.
+/// The value of an expression, after a semicolon, at the values before it, or `None` if it exceeds 128 bits.
 pub(crate) fn valued(alloc: Global, text: &str) -> Result<String, Memory> {
     let (values, e) = text.split_once(';').unwrap_or(("", text));
     let values = numbers(alloc, values)?;
@@ -47,8 +47,8 @@ pub(crate) fn expanded(alloc: Global, call: &str, text: &str) -> Result<String, 
     }
 }
 
-/// The row of an expression, behind a semicolon, over the number of variables before it, or `None` where its degree is
-/// at least 2.
+/// The row of an expression, after a semicolon, over the number of variables before it, or `None` if its degree is at
+/// least 2.
 pub(crate) fn row(alloc: Global, text: &str) -> Result<String, Memory> {
     let (width, e) = text.split_once(';').unwrap_or(("", text));
     let width = number(width);

@@ -59,7 +59,7 @@ pub(crate) fn program(alloc: Global, nodes: u32, edges: &[(u32, u32)]) -> Result
     })
 }
 
-/// What can come just before a rule, or none where there is no rule of that number.
+/// The rules that can come just before a rule, or none if there is no rule of that number.
 pub(crate) fn before(
     alloc: Global,
     edges: &[(u32, u32)],
@@ -196,9 +196,9 @@ fn cut_of(alloc: Global, numbers: &[i128]) -> Result<Vec<u32>, Memory> {
     Ok(cut)
 }
 
-/// The answer of a call on edges, behind a semicolon and what else the call needs: for `before` a rule, for
-/// `set` a rule and a sign for each flag, for `parts` the signs, for `reached` the number of symbols and the rules that
-/// are cut, and for `components` the number of nodes.
+/// The answer of a call on edges, after a semicolon and the other arguments of the call: for `before` a rule, for `set`
+/// a rule and a sign for each flag, for `parts` the signs, for `reached` the number of symbols and the rules that are
+/// cut, and for `components` the number of nodes.
 pub(crate) fn of_graph(alloc: Global, call: &str, text: &str) -> Result<String, Memory> {
     let (asked, edges) = text.split_once(';').unwrap_or(("", text));
     let edges = edges_of(alloc, edges)?;

@@ -81,7 +81,7 @@ fn product(
     limited(alloc, terms, exponent)
 }
 
-// Adds a monomial to the one with the same variables, or behind the last.
+// Adds a monomial to the one with the same variables, or after the last.
 fn add(terms: &mut Vec<Monomial>, m: Monomial) -> Result<(), Memory> {
     for i in 0..terms.len() {
         if terms[i].vars == m.vars {
@@ -131,7 +131,7 @@ fn is_same(p: &Poly, terms: &[Monomial]) -> bool {
     p.terms.len() == terms.len()
 }
 
-/// Whether an answer is what the plain expansion of an expression gives.
+/// Whether an answer is that of the plain expansion of an expression.
 pub(crate) fn is_plain(alloc: Global, e: &Expr, answer: &Result<Poly, PolyError>) -> bool {
     match (answer, plain(alloc, e)) {
         (Ok(p), Ok(terms)) => is_same(p, &terms),

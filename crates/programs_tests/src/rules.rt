@@ -1,4 +1,4 @@
-//! Calls on the program of a rule: what is prepared of it, the program of its cost, its steps, and what they cost.
+//! Calls on the program of a rule: its prepared rows, the program of its cost, its steps, and what they cost.
 
 ghost use Rattle.std.specs.Prelude.{◌≡◌, length, IfOk, IfSome, IsTrue};
 ghost use Rattle.its_model.specs.model.Costs.{HasCost};
@@ -13,8 +13,8 @@ use its_reader::{ReadError, read};
 use model::Memory;
 use std::alloc::{AllocError, Global};
 
-/// The answer of a call on a rule. Before the rule of a step or a cost come a configuration and a step, with a
-/// semicolon behind each: a symbol and the values of its places, and a rule and its free values.
+/// The answer of a call on a rule. Before the rule of a step or a cost come a configuration and a step, each followed
+/// by a semicolon: a symbol and the values of its places, and a rule and its free values.
 pub(crate) fn of_rule(alloc: Global, call: &str, text: &str) -> Result<String, Memory> {
     let (used, rule) = text.rsplit_once(';').unwrap_or(("", text));
     match program(alloc, rule.trim())? {
@@ -50,7 +50,7 @@ fn arity_at(p: &Program, symbol: u32) -> u32
     }
 }
 
-// What a step of a program leads to, or what it costs.
+// The configuration that a step of a program leads to, or its cost.
 fn used_text(alloc: Global, call: &str, p: &Program, used: &str) -> Result<String, Memory>
     requires { IsValid (program_of p.now) }
 {
@@ -107,7 +107,7 @@ fn cost_text(alloc: Global, p: &Program) -> Result<String, Memory>
     format!(in alloc; "{made:?}")
 }
 
-// What is prepared of the first rule.
+// The prepared rows of the first rule.
 fn rows_text(alloc: Global, p: &Program) -> Result<String, Memory>
     requires { IsValid (program_of p.now) }
 {

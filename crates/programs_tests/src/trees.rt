@@ -36,7 +36,7 @@ fn operand(stack: &mut Vec<Expr>, seed: &mut u32) -> Expr {
     }
 }
 
-// What a choice makes of the operands.
+// The operands after a choice.
 fn chosen(
     alloc: Global,
     stack: &mut Vec<Expr>,

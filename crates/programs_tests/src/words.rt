@@ -19,7 +19,7 @@ pub(crate) fn number(word: &str) -> u32 {
     word.trim().parse::<u32>().unwrap_or(0)
 }
 
-/// The first number, and those behind it.
+/// The first number, and those after it.
 pub(crate) fn first_and_rest(alloc: Global, words: &str) -> Result<(u32, Vec<i128>), Memory> {
     let all = numbers(alloc, words)?;
     match all.split_first() {

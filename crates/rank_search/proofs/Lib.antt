@@ -19,5 +19,5 @@ pub mod Uniqueness
 pub mod ShutSets
 pub mod BlockGoals
 pub mod Unconcerned
--- the lemmas of the crates below, which callers name through this one
+-- The lemmas of the crates below, which callers name through this one.
 pub use Rattle.rule_questions.proofs as rule_questions

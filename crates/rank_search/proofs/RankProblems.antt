@@ -250,7 +250,7 @@ module _ (p : plain.Program) (set : List ℕ) (strict : ℕ) (shut : List Symbol
       (λ c h. ap (λ (v : Bool). if v then (if nat_eq c.place 0 then on else other) else 0) h)
       (coefficients b (symbols_of_set b)) (marked marks e))))
 
-  -- the builder's problem is the question's
+  -- The linear program that the builder makes is that of the question.
   pub problem-built : (coefs : List Sought) (costs : List Cost) (builder : Builder) (problem : Problem)
       → map coefficient_of coefs ≡ coefficients b (symbols_of_set b) → map (λ c. c.size) costs ≡ map (size_at b)
       (coefficients b (symbols_of_set b))

@@ -2,13 +2,13 @@
 pub mod RankAnswers
 pub mod Goals
 pub mod OneAnswer
--- laws, and values that were worked out by hand
+-- Laws and worked values.
 pub mod RankLaws
--- the machinery of the functions inside and of the proofs
+-- The definitions for the inner functions and the proofs.
 pub mod Coefficients
 pub mod Blocks
 pub mod ShutPlaces
 pub mod Marks
 pub mod Reading
--- the crates below, which callers name through this one
+-- The crates below, which callers name through this one.
 pub use Rattle.rule_questions.specs as rule_questions

@@ -30,7 +30,7 @@ use std::alloc::Global;
 ///
 /// # Errors
 ///
-/// `Memory` where an allocation fails.
+/// `Memory` if an allocation fails.
 pub fn find_rank(
     alloc: Global,
     p: &Program,

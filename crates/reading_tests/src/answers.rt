@@ -1,11 +1,11 @@
-//! The answer to a line: a call, and behind a blank the text that is read, in a short notation.
+//! The answer to a line: a call, and after a blank the text that is read, in a short notation.
 
 use crate::beginnings::{beginnings, beginnings_read};
 use crate::changed::{bytes_changed, tokens_changed};
 use crate::guards::guard;
 use crate::outcomes::{Outcome, outcome_of};
 use crate::printed::{generated, printed};
-use crate::proofs::{Told, proved};
+use crate::proofs::{WrittenFacts, proved};
 use crate::replays::replayed;
 use crate::runs::{placeless_run, run, run_beginnings, steps};
 use crate::writing::{Frame, Writing, text_of};
@@ -37,8 +37,8 @@ pub(crate) fn answer(alloc: Global, line: &str) -> Result<String, Memory> {
         "steps" => steps(alloc, rest),
         "run-beginnings" => run_beginnings(alloc, rest),
         "replay" => replayed(alloc, rest),
-        "proof" => proved(alloc, rest, Told::Print),
-        "count-proof" => proved(alloc, rest, Told::Counts),
+        "proof" => proved(alloc, rest, WrittenFacts::Print),
+        "count-proof" => proved(alloc, rest, WrittenFacts::Counts),
         "print" => printed(alloc, &text_of(alloc, Frame::Rules, rest)?.text),
         "whole-print" => printed(alloc, &text_of(alloc, Frame::Whole, rest)?.text),
         "generate" => generated(alloc, rest),
@@ -47,7 +47,7 @@ pub(crate) fn answer(alloc: Global, line: &str) -> Result<String, Memory> {
     }
 }
 
-// What reading comes to: the program, or the refusal.
+// The result of reading: the program, or the refusal.
 fn read_whole(alloc: Global, made: &Writing) -> Result<String, Memory> {
     match outcome_of(alloc, &made.text)? {
         Outcome::Program(text) => Ok(text),
@@ -55,7 +55,7 @@ fn read_whole(alloc: Global, made: &Writing) -> Result<String, Memory> {
     }
 }
 
-// The same, where a program isn't written.
+// The same result, without the text of a program.
 fn read_shortly(alloc: Global, made: &Writing) -> Result<String, Memory> {
     match outcome_of(alloc, &made.text)? {
         Outcome::Program(_) => String::from_str(alloc, "read"),
@@ -63,7 +63,7 @@ fn read_shortly(alloc: Global, made: &Writing) -> Result<String, Memory> {
     }
 }
 
-// A refusal; its byte is `@` where it is the one that was marked.
+// A refusal; its byte is `@` if it is the marked one.
 fn refusal(alloc: Global, kind: &str, at: u64, mark: Option<usize>) -> Result<String, Memory> {
     if mark.is_some_and(|marked| marked as u64 == at) {
         format!(in alloc; "{kind} at @")

@@ -1,10 +1,10 @@
-//! Every beginning of a text.
+//! Every proper prefix of a text.
 
 use crate::outcomes::{Outcome, outcome_of};
 use model::Memory;
 use std::alloc::Global;
 
-// The result of a beginning: a refusal, with its byte where it isn't the end.
+// The result for a prefix: a refusal, with its byte if this isn't the end.
 fn outcome_text(alloc: Global, text: &[u8]) -> Result<String, Memory> {
     match outcome_of(alloc, text)? {
         Outcome::Program(_) => String::from_str(alloc, "read"),
@@ -15,14 +15,13 @@ fn outcome_text(alloc: Global, text: &[u8]) -> Result<String, Memory> {
     }
 }
 
-// Adds what beginnings up to this many bytes come to.
+// Adds the result for prefixes up to this many bytes.
 fn add(alloc: Global, all: &mut String, length: usize, words: &str) -> Result<(), Memory> {
     let separator = if all.is_empty() { "" } else { ", " };
     all.push_str(format!(in alloc; "{separator}{length}: {words}")?.as_str())
 }
 
-/// What the beginnings of a text that aren't the whole of it come to: each refusal, and up to beginnings of how many
-/// bytes it comes.
+/// The results for the proper prefixes of a text: each refusal, and up to prefixes of how many bytes it comes.
 pub(crate) fn beginnings(alloc: Global, text: &[u8]) -> Result<String, Memory> {
     let mut all = String::new(alloc);
     let mut now = outcome_text(alloc, b"")?;
@@ -37,7 +36,7 @@ pub(crate) fn beginnings(alloc: Global, text: &[u8]) -> Result<String, Memory> {
     Ok(all)
 }
 
-/// How many beginnings of a text that aren't the whole of it are read.
+/// How many proper prefixes of a text are read.
 pub(crate) fn beginnings_read(alloc: Global, text: &[u8]) -> Result<String, Memory> {
     let mut count = 0usize;
     for length in 0..text.len() {

@@ -10,7 +10,7 @@ fn is_read(alloc: Global, text: &[u8]) -> Result<bool, Memory> {
     Ok(matches!(outcome_of(alloc, text)?, Outcome::Program(_)))
 }
 
-// The tokens with a blank behind each, the one at a position being another, or that one behind all.
+// The tokens, each followed by a blank; the one at a position is replaced by another, or that one comes after all.
 fn with_another(
     alloc: Global,
     tokens: &str,
@@ -30,8 +30,8 @@ fn with_another(
     Ok(text)
 }
 
-/// For a token and the tokens of a program: for each position of the program, and behind it, `+` where the program is
-/// read with that token there, and else `-`.
+/// For a token and the tokens of a program: for each position of the program, and after it, `+` if the program is read
+/// with that token there, and else `-`.
 pub(crate) fn tokens_changed(alloc: Global, line: &str) -> Result<String, Memory> {
     let Some((other, tokens)) = line.split_once(' ') else {
         return String::from_str(alloc, "no tokens");

@@ -4,7 +4,7 @@ use crate::writing::{Writing, number_of};
 use model::Memory;
 use std::alloc::Global;
 
-// This many minuses, and a number behind them.
+// This many minuses, followed by a number.
 fn push_side(text: &mut Vec<u8>, minuses: usize) -> Result<(), Memory> {
     for _ in 0..minuses {
         text.push(b'-')?;

@@ -25,7 +25,7 @@ fn reads_below(n: usize, bound: &Bound) -> bool
     }
 }
 
-// Whether each variable of each of these is.
+// Whether each variable of each of these parts is below n.
 #[cycle(read_bounds)]
 fn all_read_below(n: usize, parts: &[Bound]) -> bool
     ensures { result ≡ true → AllReadBelow n (parts_of (bounds_of parts.now)) }
@@ -55,7 +55,7 @@ fn is_over_first(n: usize, proof: &Proof) -> bool
     }
 }
 
-// Whether those of each use are.
+// Whether the bounds of each use are over the first n start arguments.
 #[cycle(over_first)]
 fn uses_are_over_first(n: usize, uses: &[Proof]) -> bool
     ensures { result ≡ true → AreOverFirst n (uses_of (map proof_of uses.now)) }
@@ -68,7 +68,7 @@ fn uses_are_over_first(n: usize, uses: &[Proof]) -> bool
     true
 }
 
-/// Whether those of each lemma are.
+/// Whether the bounds of each lemma are over the first n start arguments.
 pub(crate) fn are_over_first(n: usize, lemmas: &[Proof]) -> bool
     ensures { result ≡ true → All (λ lemma. IsOverFirst n (proof_of lemma)) lemmas.now }
 {

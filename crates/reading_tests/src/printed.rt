@@ -33,7 +33,7 @@ fn in_one_line(alloc: Global, text: &[u8]) -> Result<String, Memory> {
     String::from_str(alloc, str::from_utf8(&line).unwrap_or("no text"))
 }
 
-// A text in one line, where it is read and printed so again.
+// A text in one line, if it is read and printed again as the same.
 fn said(alloc: Global, text: &Vec<u8>) -> Result<String, Memory> {
     match printed_again(alloc, text)? {
         Some(again) if again == *text => in_one_line(alloc, text),
@@ -41,8 +41,8 @@ fn said(alloc: Global, text: &Vec<u8>) -> Result<String, Memory> {
     }
 }
 
-/// The canonical text of the program that a text spells, in one line; `differs` where that is read as another program,
-/// or printed otherwise again.
+/// The canonical text of the program that a text spells, in one line; `differs` if that is read as another program, or
+/// is printed otherwise the second time.
 pub(crate) fn printed(alloc: Global, text: &[u8]) -> Result<String, Memory> {
     match printed_again(alloc, text)? {
         Some(canonical) if are_read_alike(alloc, text, &canonical)? => said(alloc, &canonical),
@@ -51,7 +51,8 @@ pub(crate) fn printed(alloc: Global, text: &[u8]) -> Result<String, Memory> {
     }
 }
 
-/// The text of the generated program of a number up to 100, in one line; `differs` where it is printed otherwise again.
+/// The text of the generated program of a number up to 100, in one line; `differs` if it is printed otherwise the
+/// second time.
 pub(crate) fn generated(alloc: Global, number: &str) -> Result<String, Memory> {
     let n = u32::try_from(number_of(number.as_bytes())).unwrap_or(0);
     let program = generate(alloc, n.min(100))?;

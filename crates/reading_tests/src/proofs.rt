@@ -1,4 +1,4 @@
-//! Proof files: a line is rules, and behind a `;` a proof file in which `|` stands for a line feed.
+//! Proof files: a line is rules, and after a `;` a proof file in which `|` stands for a line feed.
 
 ghost use Rattle.its_model.specs.Valid.{IsValid};
 ghost use Rattle.its_model.specs.Views.{program_of};
@@ -15,21 +15,25 @@ use std::alloc::{AllocError, Global};
 
 /// Which facts of a file are written.
 #[derive(Clone, Copy)]
-pub(crate) enum Told {
+pub(crate) enum WrittenFacts {
     /// How many lemmas and gaps it has.
     Counts,
-    /// And whether it is printed as the same bytes.
+    /// The same, and whether it is printed as the same bytes.
     Print,
 }
 
 /// The result of reading a proof file of a program: facts of the file, or the refusal. Where the program's text is
 /// refused there is no program.
-pub(crate) fn proved(alloc: Global, line: &str, told: Told) -> Result<String, Memory> {
+pub(crate) fn proved(
+    alloc: Global,
+    line: &str,
+    written_facts: WrittenFacts,
+) -> Result<String, Memory> {
     match line.split_once(';') {
         Some((rules, proof)) => {
             let program = text_of(alloc, Frame::Rules, rules)?.text;
             match read(alloc, &program) {
-                Ok(program) => answer(alloc, &program, &bytes_of(alloc, "", proof)?, told),
+                Ok(program) => answer(alloc, &program, &bytes_of(alloc, "", proof)?, written_facts),
                 Err(_) => String::from_str(alloc, "no program"),
             }
         }
@@ -37,11 +41,16 @@ pub(crate) fn proved(alloc: Global, line: &str, told: Told) -> Result<String, Me
     }
 }
 
-fn answer(alloc: Global, program: &Program, proof: &[u8], told: Told) -> Result<String, Memory>
+fn answer(
+    alloc: Global,
+    program: &Program,
+    proof: &[u8],
+    written_facts: WrittenFacts,
+) -> Result<String, Memory>
     requires { IsValid (program_of program.now) }
 {
     match read_proof(alloc, program, proof) {
-        Ok(file) => taken(alloc, program, &file, proof, told),
+        Ok(file) => taken(alloc, program, &file, proof, written_facts),
         Err(ProofTextError::Syntax { at }) => format!(in alloc; "Syntax at {at}"),
         Err(ProofTextError::NumberTooLarge { at }) => format!(in alloc; "NumberTooLarge at {at}"),
         Err(ProofTextError::TooDeep { at }) => format!(in alloc; "TooDeep at {at}"),
@@ -57,12 +66,12 @@ fn taken(
     program: &Program,
     file: &ProofFile,
     bytes: &[u8],
-    told: Told,
+    written_facts: WrittenFacts,
 ) -> Result<String, Memory> {
     let (lemmas, gaps) = (file.lemmas.len(), file.gaps.len());
-    match told {
-        Told::Counts => format!(in alloc; "lemmas {lemmas}, gaps {gaps}"),
-        Told::Print => {
+    match written_facts {
+        WrittenFacts::Counts => format!(in alloc; "lemmas {lemmas}, gaps {gaps}"),
+        WrittenFacts::Print => {
             let text = text_again(alloc, program, file, bytes)?;
             format!(in alloc; "lemmas {lemmas}, gaps {gaps}, {text}")
         }

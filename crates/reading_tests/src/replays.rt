@@ -1,4 +1,4 @@
-//! Replays: a line is rules, and behind a `;` a run file in which `|` stands for a line feed.
+//! Replays: a line is rules, and after a `;` a run file in which `|` stands for a line feed.
 
 use crate::runs::{bytes_of, push_value};
 use crate::writing::{Frame, text_of};
@@ -24,14 +24,14 @@ pub(crate) fn replayed(alloc: Global, line: &str) -> Result<String, Memory> {
 fn answer(alloc: Global, program: &[u8], run: &[u8]) -> Result<String, Memory> {
     match read(alloc, program) {
         Ok(program) => match read_run(alloc, &program, run) {
-            Ok(file) => told(alloc, &replay(alloc, &program, &file)),
+            Ok(file) => replay_line(alloc, &replay(alloc, &program, &file)),
             Err(_) => String::from_str(alloc, "no run"),
         },
         Err(_) => String::from_str(alloc, "no program"),
     }
 }
 
-fn told(alloc: Global, replayed: &Result<Tally, ReplayError>) -> Result<String, Memory> {
+fn replay_line(alloc: Global, replayed: &Result<Tally, ReplayError>) -> Result<String, Memory> {
     match replayed {
         Ok(tally) => tallied(alloc, tally),
         Err(ReplayError::WrongRule { step }) => format!(in alloc; "WrongRule at {step}"),

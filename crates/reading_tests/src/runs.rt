@@ -19,12 +19,12 @@ pub(crate) fn run(alloc: Global, text: &str) -> Result<String, Memory> {
     answer(alloc, PROGRAM, &bytes_of(alloc, "", text)?)
 }
 
-/// The same, of a program whose start symbol has no places.
+/// The same result, for a program whose start symbol has no places.
 pub(crate) fn placeless_run(alloc: Global, text: &str) -> Result<String, Memory> {
     answer(alloc, PLACELESS, &bytes_of(alloc, "", text)?)
 }
 
-/// The same, behind the first line and that of two start values.
+/// The same result, for a text after the first line and that of two start values.
 pub(crate) fn steps(alloc: Global, text: &str) -> Result<String, Memory> {
     answer(
         alloc,
@@ -33,7 +33,7 @@ pub(crate) fn steps(alloc: Global, text: &str) -> Result<String, Memory> {
     )
 }
 
-/// How many beginnings of a text are refused at their end as ending too early, of how many.
+/// How many prefixes of a text are refused at their end as ending too early, of how many.
 pub(crate) fn run_beginnings(alloc: Global, text: &str) -> Result<String, Memory> {
     let bytes = bytes_of(alloc, "", text)?;
     let program = program_of(alloc, PROGRAM)?;
@@ -58,7 +58,7 @@ fn meant(byte: u8) -> u8 {
     }
 }
 
-/// A text in bytes behind another one, in which `|` stands for a line feed and `~` for a carriage return.
+/// A text in bytes after another one, in which `|` stands for a line feed and `~` for a carriage return.
 pub(crate) fn bytes_of(alloc: Global, before: &str, text: &str) -> Result<Vec<u8>, Memory> {
     let mut bytes = Vec::new(alloc);
     for byte in before.as_bytes() {

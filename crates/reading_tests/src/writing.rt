@@ -1,6 +1,6 @@
 //! Texts in a short notation.
 //!
-//! `%3:A#,%` represents `A0,A1,A2,`, an `@` precedes the byte that a refusal is to name, and behind a backquote a byte
+//! `%3:A#,%` represents `A0,A1,A2,`, an `@` precedes the byte that a refusal is to name, and after a backquote a byte
 //! is written as two hexadecimal digits.
 
 use itoa::Buffer;
@@ -24,7 +24,7 @@ fn digit(byte: u8) -> u8 {
     }
 }
 
-// Bytes as they are, but for the mark and for those that are written as digits.
+// Bytes unchanged, except for the mark and for those that are written as digits.
 fn push_plain(made: &mut Writing, written: &[u8]) -> Result<(), Memory> {
     let mut rest = written;
     for _ in 0..written.len() {
@@ -61,7 +61,7 @@ fn push_part(text: &mut Vec<u8>, part: &[u8], number: usize) -> Result<(), Memor
     Ok(())
 }
 
-/// The number that digits are.
+/// The number that the digits write.
 pub(crate) fn number_of(digits: &[u8]) -> usize {
     let mut count = 0usize;
     for digit in digits {
@@ -92,7 +92,7 @@ pub(crate) enum Frame {
     Rules,
 }
 
-// The text before a text, and the one behind it.
+// The text before a text, and the one after it.
 fn frame_of(frame: Frame) -> (&'static [u8], &'static [u8]) {
     match frame {
         Frame::Whole => (b"", b""),

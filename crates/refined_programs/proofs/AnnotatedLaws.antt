@@ -1,4 +1,4 @@
--- A section as plain data with its multipliers is, without them, the section as plain data.
+-- The plain data of a section with its multipliers, without them, is the plain data of the section.
 use Rattle.std.proofs.Common.{◌≡◌, List, [], ◌∷◌, map, refl, ◌∙◌, ap}
 use Rattle.refinement.specs.model.Terms.{Term}
 use Rattle.refinement.specs.Sections as plain
@@ -15,16 +15,16 @@ use Rattle.refined_programs.specs.Annotated.{form_term}
 use Rattle.refined_programs.specs.Views.{copy_of, cases_of, branch_of, section_of, affine_form, annotated_copy}
 use Rattle.refined_programs.specs.Views.{annotated_cases, annotated_branch, annotated_of}
 
--- the facts of a copy
+-- the facts of a copy agree in both views
 pub facts-agree : (facts : List Affine) → map form_term (map affine_form facts) ≡ map affine_of facts
 facts-agree [] = refl
 facts-agree (f ∷ facts) = ap (λ (ts : List Term). affine_of f ∷ ts) (facts-agree facts)
 
--- a copy
+-- a copy agrees in both views
 pub copy-agrees : (c : SymbolCopy) → annotated.copy_of (annotated_copy c) ≡ copy_of c
 copy-agrees c = ap (λ (ts : List Term). record { name = name_of c.name; over = c.over; facts = ts }) (facts-agree c.facts.items)
 
--- cases
+-- cases agree in both views
 pub cases-agree : (c : Cases) → annotated.cases_of (annotated_cases c) ≡ cases_of c
 cases-agree (To copy by) = refl
 cases-agree (Never by) = refl
@@ -33,7 +33,7 @@ cases-agree (If' test p yes_cases q no_cases) =
     (cases-agree yes_cases)
     ∙ ap (λ (c : plain.Cases). plain.If (affine_of test) (cases_of yes_cases) c) (cases-agree no_cases)
 
--- copies and branches, one by one
+-- copies and branches agree in both views, one by one
 pub copies-agree : (cs : List SymbolCopy) → map annotated.copy_of (map annotated_copy cs) ≡ map copy_of cs
 copies-agree [] = refl
 copies-agree (c ∷ cs) =
@@ -50,7 +50,7 @@ branches-agree (b ∷ bs) =
     ap (λ (x : plain.Branch). x ∷ map annotated.branch_of (map annotated_branch bs)) (branch-agrees b)
     ∙ ap (λ (xs : List plain.Branch). branch_of b ∷ xs) (branches-agree bs)
 
--- so a section
+-- a section agrees in both views
 pub section-agrees : (s : Section) → annotated.section_of (annotated_of s) ≡ section_of s
 section-agrees s =
     ap (λ (cs : List plain.Copy). record { copies = cs; branches = map annotated.branch_of (map annotated_branch s.branches.items) })

@@ -1,4 +1,4 @@
--- The ends at copies are the paths, and their rules those of the branch.
+-- The ends at copies are the paths to copies, and their rules those of the branch.
 use Rattle.std.proofs.Common.{◌≡◌, List, [], ◌∷◌, ◌++◌, map, Option, Some, refl, sym, ◌∙◌, ap, append_assoc}
 use Rattle.std.specs.Prelude.{Result, Ok, Err, OnOk}
 use Rattle.refinement.specs.model.Programs.{Atom, Rule, Program, rule_at}
@@ -12,7 +12,7 @@ use Rattle.refined_programs.specs.declared.section.Branch as declared
 use Rattle.refined_programs.specs.Views.{cases_of, branch_of, annotated_cases}
 use Rattle.refined_programs.proofs.AnnotatedLaws.{cases-agree}
 
--- the paths of two lists of ends are those of the first and then those of the second
+-- the paths of two lists of ends joined are those of the first and then those of the second
 pub paths-append : (xs ys : List End) → paths_of (xs ++ ys) ≡ paths_of xs ++ paths_of ys
 paths-append [] ys = refl
 paths-append (e ∷ xs) ys =
@@ -50,7 +50,7 @@ branch-rules p section b r es e numbered =
     ∙ (sym (rules-along (branch_of b) r ways)
     ∙ ap (λ (o : Option Rule). map (λ c. c.rule) (copies_along (branch_of b) o ways)) numbered)
 
--- what follows of an answer that is Ok
+-- a property that another one implies holds of an `Ok` result of which the other holds
 pub ok-then : {A E : Type 0} (r : Result A E) (P Q : Type 0) → (P → Q) → OnOk r P → OnOk r Q
 ok-then (Ok x) P Q f h = f h
 ok-then (Err e) P Q f h = tt

@@ -9,13 +9,13 @@ use Rattle.its_model.specs.declared.program.Program.{Program}
 use Rattle.its_model.specs.Views.{rule_of, program_of}
 use Rattle.its_model.proofs.ListLaws.{mapped-get}
 
--- nothing stands past the end
+-- past the end of a list there is no rule
 get-past : (rs : List Rule) (i : ℕ) → length rs ≤ i → slice_get (map rule_of rs) i ≡ None
 get-past [] i l = refl
 get-past (q ∷ rs) zero l = absurd (omega (arith, l))
 get-past (q ∷ rs) (suc i) l = get-past rs i (omega (arith, l))
 
--- what is found one before a number, from 1, is the rule with the number
+-- the rule at the position one less than a number, from 1 on, is the rule with that number
 pub rule-numbered : (p : Program) (n : ℕ) (o : Option (Bor Rule)) → 0 < n → IsItemAt p.rules.items (n - 1) o
     → option_map (λ r. rule_of r.now) o ≡ plain.rule_at (program_of p) n
 rule-numbered p zero o low h = absurd (omega (arith, low))

@@ -9,11 +9,12 @@ abbrev pub number_term : ℤ → Term
 number_term (pos n) = Literal (pos n)
 number_term (negsuc n) = Negation (Literal (pos (suc n)))
 
--- an expression, and behind it the product of a coefficient with its variable, unless the coefficient is 0
+-- the sum of an expression and the product of a coefficient with its variable; the expression alone if the coefficient
+-- is 0
 abbrev pub with_product : Term → ℕ → ℤ → Term
 with_product t i a = if int_eq a (pos 0) then t else Addition t (Multiplication (number_term a) (Variable i))
 
--- an expression, and behind it the products of coefficients with the variables from a number on
+-- the sum of an expression and the products of coefficients with the variables from i on
 abbrev pub with_products : Term → ℕ → List ℤ → Term
 with_products t i [] = t
 with_products t i (a ∷ coefs) = with_products (with_product t i a) (suc i) coefs

@@ -13,7 +13,7 @@ pub record Copy : Type 0 where
   pub over : ℕ
   pub facts : List Form
 
--- where a rule leads from a copy: to a copy, with multipliers for each of its facts; nowhere, with multipliers; or by
+-- how a rule leads from a copy: to a copy, with multipliers for each of its facts; nowhere, with multipliers; or by
 -- whether a form over the rule's variables is at least 0
 pub data Cases : Type 0 where
   To : ℕ → List (List ℕ) → Cases
@@ -45,10 +45,10 @@ cases_of (To copy by) = plain.To copy
 cases_of (Never by) = plain.Never
 cases_of (If test yes_cases no_cases) = plain.If (form_term test) (cases_of yes_cases) (cases_of no_cases)
 
--- a branch without them
+-- a branch without its multipliers
 abbrev pub branch_of : Branch → plain.Branch
 branch_of b = record { source = b.source; rule = b.rule; cases = cases_of b.cases }
 
--- a section without them
+-- a section without its multipliers
 abbrev pub section_of : Section → plain.Section
 section_of s = record { copies = map copy_of s.copies; branches = map branch_of s.branches }

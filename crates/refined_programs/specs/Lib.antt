@@ -1,9 +1,9 @@
--- what the contracts of this crate, and of those above it, cite
+-- The definitions that the contracts of this crate, and of crates above it, cite.
 pub mod Affine
 pub mod Annotated
 pub mod Views
 pub mod Ends
--- values that were worked out by hand
+-- worked values
 pub mod Worked
 -- the crates below, which callers name through this one
 pub use Rattle.refinement.specs.model

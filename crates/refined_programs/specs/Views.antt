@@ -1,4 +1,4 @@
--- What contracts see of sections: plain data, without the multipliers and with them.
+-- The code's sections as plain data, without the multipliers and with them.
 use Rattle.std.specs.Prelude.{List, map}
 use Rattle.refinement.specs.Sections as plain
 use Rattle.its_model.specs.Views.{name_of}
@@ -46,11 +46,11 @@ annotated_cases (Never by) = annotated.Never by.numbers.items
 annotated_cases (If' test p yes_cases q no_cases) =
     annotated.If (affine_form test) (annotated_cases yes_cases) (annotated_cases no_cases)
 
--- a branch as plain data, with them
+-- a branch as plain data, with its multipliers
 abbrev pub annotated_branch : Branch → annotated.Branch
 annotated_branch b = record { source = b.source; rule = b.rule; cases = annotated_cases b.cases }
 
--- a section as plain data, with them
+-- a section as plain data, with its multipliers
 abbrev pub annotated_of : Section → annotated.Section
 annotated_of s = record {
   copies = map annotated_copy s.copies.items;

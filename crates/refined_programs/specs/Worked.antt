@@ -1,5 +1,5 @@
--- Expressions of affine forms, the ends and paths of cases, and sections without their multipliers, as they were worked
--- out by hand.
+-- Worked values of expressions of affine forms, of the ends and paths of cases, and of sections without their
+-- multipliers.
 use Rattle.std.specs.Prelude.{◌≡◌, [], ◌∷◌, pos, negsuc}
 use Rattle.refinement.specs.model.Terms.{Term, Literal, Variable, Negation, Addition, Multiplication}
 use Rattle.refinement.specs.Sections.{passes, fails}
@@ -17,7 +17,7 @@ pub record FormsAreWritten : Type 0 where
   pub constant : affine_term (pos 0 ∷ pos 0 ∷ []) (pos 5) ≡ Literal (pos 5)
   pub nothing : affine_term [] (pos 0) ≡ Literal (pos 0)
 
--- of three ends the two at copies are paths, in order, with what holds along them
+-- of three ends the two at copies are paths, in order, with the atoms along them
 pub record EndsArePaths : Type 0 where
   pub at_copies : paths_of
       (record { atoms = passes (Variable 0) ∷ []; goal = AtCopy 2 ((1 ∷ []) ∷ []) }
@@ -40,12 +40,12 @@ a_below = record { coefs = negsuc 0 ∷ []; constant = negsuc 0 }
 abbrev pub below_term : Term
 below_term = Addition (Negation (Literal (pos 1))) (Multiplication (Negation (Literal (pos 1))) (Variable 0))
 
--- by whether A is at least 0: to copy 1, or else by whether it is below, nowhere, or to copy 2
+-- cases by whether A is at least 0: to copy 1; or else by whether it is below 0: nowhere, or to copy 2
 abbrev pub by_sign : Cases
 by_sign = If just_a (To 1 ((1 ∷ 0 ∷ []) ∷ [])) (If a_below (Never (2 ∷ 3 ∷ [])) (To 2 []))
 
--- they have three ends, of which the second is nowhere, behind the atom that stands before and the tests passed and
--- failed along the way, in order
+-- these cases have three ends, of which the second is nowhere; each has the atom that was there before and the tests
+-- passed and failed along the way, in order
 pub record EndsOfCases : Type 0 where
   pub by_tests : ends (passes (Variable 1) ∷ []) by_sign
       ≡ record { atoms = passes (Variable 1) ∷ passes a_term ∷ []; goal = AtCopy 1 ((1 ∷ 0 ∷ []) ∷ []) }
@@ -61,7 +61,7 @@ two_copies = record {
   branches = record { source = 0; rule = 3; cases = by_sign } ∷ [];
 }
 
--- without its multipliers it has the expressions of its forms
+-- without its multipliers the section has the expressions of its forms
 pub record SectionsLoseMultipliers : Type 0 where
   pub both : section_of two_copies ≡ record {
     copies = record { name = 97 ∷ []; over = 0; facts = [] } ∷ record { name = 98 ∷ []; over = 1; facts = a_term ∷ [] }

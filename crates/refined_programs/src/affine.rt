@@ -7,7 +7,7 @@ ghost use Rattle.refined_programs.specs.Affine.{affine_term, number_term, with_p
 use poly_terms::{Expr, Memory};
 use std::alloc::{AllocError, Global};
 
-/// A coefficient for each variable, and a constant.
+/// An affine form: a coefficient for each variable, and a constant.
 #[derive(Debug, PartialEq, Eq, Drop)]
 pub struct Affine {
     /// The coefficients, in order of variables.
@@ -45,7 +45,8 @@ fn number(alloc: Global, n: i64) -> Result<Expr, Memory>
     }
 }
 
-// An expression, and behind it the product of a coefficient with its variable, unless the coefficient is 0.
+// The sum of an expression and the product of a coefficient with its variable; the expression alone if the coefficient
+// is 0.
 fn added(alloc: Global, sum: Expr, variable: usize, coef: i64) -> Result<Expr, Memory>
     ensures { IfOk result (λ e. term_of e ≡ with_product (term_of sum) variable coef) }
 {
@@ -57,7 +58,7 @@ fn added(alloc: Global, sum: Expr, variable: usize, coef: i64) -> Result<Expr, M
     Expr::sum(alloc, sum, product)
 }
 
-// The number of a variable; `Memory` where it has more than 32 bits.
+// The number of a variable; `Memory` if it has more than 32 bits.
 fn variable_number(position: usize) -> Result<u32, Memory>
     ensures { IfOk result (λ number. number ≡ position) }
 {

@@ -15,7 +15,7 @@ use poly_terms::{Expr, Memory};
 use program_copies::copied_atoms;
 use std::alloc::Global;
 
-/// Where a path ends.
+/// The end of a path.
 #[derive(Debug, PartialEq, Eq, Drop)]
 pub enum Goal {
     /// At a copy, with multipliers for each of its facts.
@@ -24,7 +24,7 @@ pub enum Goal {
     Nowhere { by: Multipliers },
 }
 
-/// The end of a path, with what holds along it.
+/// The end of a path, with the atoms that hold along it.
 #[derive(Debug, PartialEq, Eq, Drop)]
 pub struct End {
     pub atoms: Vec<Atom>,
@@ -68,7 +68,7 @@ pub fn below_zero(e: Expr) -> Atom
     }
 }
 
-// A copy of atoms, and one more.
+// A copy of atoms, with one more.
 fn with_atom(alloc: Global, atoms: &[Atom], atom: Atom) -> Result<Vec<Atom>, Memory>
     ensures { IfOk result (λ more. map atom_of more.items ≡ map atom_of atoms.now ++ atom_of atom ∷ []) }
 {
@@ -77,7 +77,7 @@ fn with_atom(alloc: Global, atoms: &[Atom], atom: Atom) -> Result<Vec<Atom>, Mem
     Ok(more)
 }
 
-// Multipliers, in memory of their own.
+// A copy of multipliers.
 fn copied(alloc: Global, by: &Multipliers) -> Result<Multipliers, Memory>
     ensures { IfOk result (λ m. m.numbers.items ≡ by.now.numbers.items) }
 {
@@ -86,7 +86,7 @@ fn copied(alloc: Global, by: &Multipliers) -> Result<Multipliers, Memory>
     })
 }
 
-// Lists of multipliers, in order.
+// Copies of lists of multipliers, in order.
 fn copied_lists(alloc: Global, by: &[Multipliers]) -> Result<Vec<Multipliers>, Memory>
     ensures { IfOk result (λ copies. lists_of copies.items ≡ lists_of by.now) }
 {
@@ -97,7 +97,7 @@ fn copied_lists(alloc: Global, by: &[Multipliers]) -> Result<Vec<Multipliers>, M
     Ok(copies)
 }
 
-/// Appends the ends of the paths behind these atoms, in order.
+/// Appends the ends of the paths after these atoms, in order.
 ///
 /// # Errors
 ///

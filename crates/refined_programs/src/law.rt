@@ -1,10 +1,10 @@
-//! Values that were worked out by hand.
+//! Worked values of sections.
 
 ghost use Rattle.refined_programs.specs.Worked.{FormsAreWritten, EndsArePaths, EndsOfCases};
 ghost use Rattle.refined_programs.specs.Worked.{SectionsLoseMultipliers};
 
-/// Expressions of affine forms, the ends of cases and their paths, and sections without multipliers, are what was
-/// worked out by hand. It has no code: its contract is the law.
+/// Worked values of the expressions of affine forms, of the ends of cases and their paths, and of sections without
+/// multipliers. It has no code: its contract is these values.
 pub fn worked_values_hold()
     ensures forms { FormsAreWritten }
     ensures paths { EndsArePaths }

@@ -1,5 +1,5 @@
-//! Sections of a program as types, and the program that a section spells. Contract to the layer above: the plain data
-//! of what `spell` returns is `spelled` of the plain data of the program and the section.
+//! Sections of a program as types, and the program that a section spells. Main guarantee: the plain data of the result
+//! of `spell` is `spelled` of the plain data of the program and the section.
 #![tactic(auto)]
 
 mod affine;

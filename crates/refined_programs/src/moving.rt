@@ -9,8 +9,8 @@ use poly_terms::{Expr, Memory};
 use program_copies::copied_expr;
 use std::alloc::Global;
 
-/// The expression with the updates in place of its variables: so it is the new value of what it stands for. A variable
-/// without an update becomes 0.
+/// The expression with the updates in place of its variables, so its value is that of the expression at the new values.
+/// A variable without an update becomes 0.
 ///
 /// # Errors
 ///
@@ -30,7 +30,7 @@ pub fn moved(alloc: Global, e: &Expr, updates: &[Expr]) -> Result<Expr, Memory>
     }
 }
 
-// The same in a box.
+// The expression with the updates in place of its variables, in a box.
 #[cycle(moved)]
 fn boxed(alloc: Global, e: &Expr, updates: &[Expr]) -> Result<Box<Expr>, Memory>
     ensures { IfOk result (λ b. term_of b.value ≡ moved_by (term_of e.now) (map term_of updates.now)) }
@@ -38,7 +38,7 @@ fn boxed(alloc: Global, e: &Expr, updates: &[Expr]) -> Result<Box<Expr>, Memory>
     Ok(Box::new(alloc, moved(alloc, e, updates)?)?)
 }
 
-// The update of a place, 0 where there is none.
+// The update of a place, or 0 if there is none.
 fn update_at(alloc: Global, updates: &[Expr], place: u32) -> Result<Expr, Memory>
     ensures { IfOk result (λ t. term_of t ≡ moved_by (Variable place) (map term_of updates.now)) }
 {

@@ -10,21 +10,21 @@ pub struct SymbolCopy {
     pub name: Name,
     /// The number of the symbol.
     pub over: u32,
-    /// A coefficient for each place, and the constant, each.
+    /// The forms, each with a coefficient for each place, and a constant.
     pub facts: Vec<Affine>,
 }
 
-/// A number for each row of a rule.
+/// Multipliers: a number for each row of a rule.
 #[derive(Debug, PartialEq, Eq, Drop)]
 pub struct Multipliers {
     pub numbers: Vec<u64>,
 }
 
-/// Where a rule leads from a copy of its source.
+/// How a rule leads from a copy of its source.
 #[derive(Debug, PartialEq, Eq, Drop)]
 pub enum Cases {
-    /// To a copy, with multipliers for each of its facts: they show that no values meet the guard along the path where
-    /// the fact fails behind the rule.
+    /// To a copy, with multipliers for each of its facts: they show that no values meet the guard along the path such
+    /// that the fact fails after the rule.
     To {
         copy: u32,
         by: Vec<Multipliers>,

@@ -17,7 +17,7 @@ use std::alloc::Global;
 
 /// The program that a section spells over a program: a symbol for each copy, with the places of the symbol below, the
 /// first copy as the start, and for each branch in order, and each of its paths to a copy in order, a rule: that of the
-/// branch, whose guard says, too, that the facts of its source hold, and what holds along the path.
+/// branch, with the facts of its source and the atoms along the path added to its guard.
 ///
 /// # Errors
 ///
@@ -50,7 +50,7 @@ fn symbols_of(alloc: Global, p: &Program, copies: &[SymbolCopy]) -> Result<Vec<S
     Ok(symbols)
 }
 
-/// The number of places of a symbol, 0 where there is none.
+/// The number of places of a symbol, 0 if there is none.
 pub fn arity_of(p: &Program, symbol: u32) -> u32
     ensures { result ≡ arity_in_program (program_of p.now) symbol }
 {
@@ -92,7 +92,7 @@ fn push_branch(
     }
 }
 
-/// The rule with a number, from 1; none where there is none.
+/// The rule with a number, from 1 on, if there is one.
 pub fn rule_at(p: &Program, number: u32) -> Option<&Rule>
     ensures { option_map (λ r. rule_of r.now) result ≡ rule_numbered (program_of p.now) number }
 {
@@ -103,7 +103,7 @@ pub fn rule_at(p: &Program, number: u32) -> Option<&Rule>
     }
 }
 
-/// The ends of a branch, in order, behind the facts of its source.
+/// The ends of a branch, in order, after the facts of its source.
 ///
 /// # Errors
 ///
@@ -119,7 +119,7 @@ pub fn branch_ends(alloc: Global, section: &Section, branch: &Branch) -> Result<
     Ok(ends)
 }
 
-// The facts of a copy as atoms, none where there is no copy.
+// The facts of a copy as atoms, none if there is no copy.
 fn fact_atoms(alloc: Global, section: &Section, copy: u32) -> Result<Vec<Atom>, Memory>
     ensures { IfOk result
         (λ atoms. map atom_of atoms.items ≡ map atom_passes (facts_of (section_of section.now) copy)) }
@@ -141,7 +141,7 @@ fn atoms_of(alloc: Global, copy: &SymbolCopy) -> Result<Vec<Atom>, Memory>
     Ok(atoms)
 }
 
-// Appends the rules of the ends at copies.
+// Appends the rules of the ends that are at copies.
 fn push_rules(
     alloc: Global,
     rules: &mut Vec<Rule>,
@@ -158,7 +158,7 @@ fn push_rules(
     Ok(())
 }
 
-// Appends the rule of an end, where it is at a copy.
+// Appends the rule of an end, if it is at a copy.
 fn push_rule(
     alloc: Global,
     rules: &mut Vec<Rule>,

@@ -8,7 +8,7 @@ use Rattle.its_model.specs.Views.{rule_of, program_of}
 use Rattle.guard_prep.specs.Laws.{IsPreparable}
 use Rattle.guard_prep.proofs.StepLaws.{preparable}
 
--- a rule that is read of a valid program can be
+-- a rule that was read of a valid program can be prepared
 pub rule-preparable : (p : Program) (i : ℕ) (r : Rule) → IsValid (program_of p) → i < length p.rules.items
     → r ≡ get_or p.rules.items i r → IsPreparable (rule_of r)
 rule-preparable p i r valid l e =

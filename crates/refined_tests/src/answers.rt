@@ -1,4 +1,4 @@
-//! The answer to a line: a call, and behind a blank copies, branches and rules, divided by semicolons, or rules alone.
+//! The answer to a line: a call, and after a blank copies, branches and rules, divided by semicolons, or rules alone.
 
 ghost use Rattle.its_model.specs.Valid.{IsValid};
 ghost use Rattle.its_model.specs.Views.{program_of};
@@ -12,11 +12,11 @@ use refinement_check::{AcceptError, SectionFault, accept};
 use section_makers::{by_guards, by_last_rule, peeled, unrolled, without_large_atoms};
 use std::alloc::{AllocError, Global};
 
-/// Answers a line. `accept` is answered by `accepted`, or by what is wrong first: the number of a copy, of a branch or of
-/// an end, and then of a fact. `rules` is answered by how many symbols the program has that the section spells, and by the
-/// source and the target of each of its rules. `last`, `peeled`, `unrolled` and `cells` have rules alone: they are
-/// answered by both of a section that is made of their program; and `small` by how many atoms each rule keeps where those
-/// with numbers over 100 are left out.
+/// Answers a line. `accept` is answered by `accepted`, or by the first fault: the number of a copy, of a branch or of
+/// an end, and then of a fact. `rules` is answered by the number of symbols of the program that the section spells, and
+/// by the source and the target of each of its rules. `last`, `peeled`, `unrolled` and `cells` have rules alone: they
+/// are answered by both of a section that is made of their program; and `small` by how many atoms each rule keeps if
+/// those with numbers over 100 are left out.
 pub(crate) fn answer(alloc: Global, line: &str) -> Result<String, Memory> {
     let Some((call, rest)) = line.split_once(' ') else {
         return String::from_str(alloc, line);
@@ -50,7 +50,7 @@ fn written_text(alloc: Global, call: &str, rest: &str) -> Result<String, Memory>
     }
 }
 
-// The answer about what is made of a program.
+// The answer about the section made of a program.
 fn made_text(alloc: Global, call: &str, p: &Program) -> Result<String, Memory>
     requires { IsValid (program_of p.now) }
 {
@@ -85,7 +85,7 @@ fn atoms_text(alloc: Global, p: &Program) -> Result<String, Memory> {
     Ok(text)
 }
 
-// Whether a section is accepted, or what is wrong first.
+// Whether a section is accepted, or its first fault.
 fn accepted_text(alloc: Global, p: &Program, section: &Section) -> Result<String, Memory>
     requires { IsValid (program_of p.now) }
 {
@@ -111,7 +111,7 @@ fn fault_text(alloc: Global, fault: SectionFault) -> Result<String, Memory> {
     }
 }
 
-// How many symbols the program has that a section spells, and the source and the target of each rule.
+// The number of symbols of the program that a section spells, and the source and the target of each rule.
 fn rules_text(alloc: Global, p: &Program, section: &Section) -> Result<String, Memory> {
     let spelled = spell(alloc, p, section)?;
     let mut text = format!(in alloc; "{} symbols:", spelled.symbols.len())?;

@@ -1,5 +1,5 @@
 //! Answers each line of the standard input by one line: whether the section of a program in it is accepted, or the
-//! program that it spells. A line without a call, as a remark that begins with `#`, is written as it is.
+//! program that it spells. A line without a call, such as a remark that begins with `#`, is written unchanged.
 #![tactic(auto)]
 
 mod answers;

@@ -1,6 +1,6 @@
 //! Sections as a line writes them: copies and branches, each divided by `|`. A copy is a name and the number of a
-//! symbol, and then, behind commas, forms. A branch is the numbers of a copy and of a rule, and then an end, or a form,
-//! `?` and two ends with `:` between them. An end is `to` and the number of a copy, or `never`, and then, behind commas,
+//! symbol, and then, after commas, forms. A branch is the numbers of a copy and of a rule, and then an end, or a form,
+//! `?` and two ends with `:` between them. An end is `to` and the number of a copy, or `never`, and then, after commas,
 //! multipliers.
 
 use its_model::Name;

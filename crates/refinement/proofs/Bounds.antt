@@ -18,12 +18,12 @@ use Rattle.refinement.specs.Simulation.{Projection, config_below, step_below, Ha
 use Rattle.refinement.specs.Lifted.{AllRunsLift, AreCopies, sum_of, maximum_of, BoundsAreKept}
 use Rattle.refinement.proofs.Sums.{sum_over, sum-at_least, sum-with, sum-within, maximum-over}
 
--- a value at a place is that below
+-- the value at a place is the same in the configuration below
 place-below : (o : Projection) (c : Config) (i : ℕ) → place_value (config_below o c) i ≡ place_value c i
 place-below o c zero = refl
 place-below o c (suc i) = refl
 
--- a step by a rule of the program q costs what the step below costs, and leads to the same values
+-- laws for a step by a rule of q: it costs what the step below costs, and leads to the same values
 module _ (p q : Program) (o : Projection)
     (copies : (t : ℕ) (copy : Rule) → rule_at q t ≡ Some copy → HasRuleBelow p o t copy) where
   updated-below : (t : ℕ) (copy : Rule) (env : List ℤ) → rule_at q t ≡ Some copy
@@ -56,7 +56,7 @@ module _ (p q : Program) (o : Projection)
       ap (λ (v : List ℤ). cost_by (rule_at p (o.rule s.rule)) (v ++ s.free)) (values-below start earlier b run)
       ∙ cost-below s.rule step.rule (values_after q start earlier ++ s.free) step.numbered
 
-  -- all steps of a run cost what those below cost
+  -- all steps of a run cost what the steps below them cost
   spent_all-below : (start : List ℤ) (steps : List Step) (c : Config) → IsRun q start steps c
       → spent_all p start (map (step_below o) steps) ≡ spent_all q start steps
   spent_all-below start [] c run = refl
@@ -64,7 +64,7 @@ module _ (p q : Program) (o : Projection)
       omega (arith, step_cost-below start s earlier b c run step, spent_all-below start earlier b run)
 
   module _ (n : ℕ) (ts : List ℕ) (rule : n ≢ 0) (all : AreCopies q o n ts) where
-    -- a rule occurs as often as its copies above do
+    -- a rule occurs in the run below at most as often as all its copies in the run
     count-below : (start : List ℤ) (steps : List Step) (c : Config) → IsRun q start steps c
         → count n (map (step_below o) steps) ≤ sum_over (λ t. count t steps) ts
     count-below start [] c run = omega (arith, one_if_same-other 0 n (λ e. rule (sym e)))
@@ -83,7 +83,7 @@ module _ (p q : Program) (o : Projection)
             sum-at_least 1 s.rule (λ t. count t earlier) ts in
             omega (arith, ih, risen, one_if_same-other (o.rule s.rule) n other)
 
-    -- and spends what its copies above spend
+    -- a rule spends in the run below at most what all its copies spend in the run
     spent-below : (start : List ℤ) (steps : List Step) (c : Config) → IsRun q start steps c
         → spent p n start (map (step_below o) steps) ≤ sum_over (λ t. spent q t start steps) ts
     spent-below start [] c run = omega arith
@@ -144,7 +144,7 @@ module _ (p q : Program) (o : Projection)
           subst (λ (xs : List Step). spent p n start xs ≤ val (sum_of bound ts) m) l.steps_below below;
     }
 
-    -- the last step of a run that ends with rule n is by a copy, which bounds the sizes there
+    -- the last step of a run that ends with rule n below is by a copy of it, whose bound bounds the sizes there
     size : (n i : ℕ) (ts : List ℕ) (bound : ℕ → Bound) → n ≢ 0 → AreCopies q o n ts
         → All (λ t. HoldsSize q t i (bound t)) ts → (start : List ℤ) (steps : List Step) (end : Config)
         → IsRun q start steps end → last_rule (map (step_below o) steps) ≡ n

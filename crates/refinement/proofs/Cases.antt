@@ -1,4 +1,4 @@
--- Some path through cases is always taken.
+-- Through cases, some path is always taken.
 use Rattle.std.proofs.Common.{◌≡◌, ◌⊎◌, inl, inr, zero, suc, ◌+◌, List, [], ◌∷◌, ◌++◌, length, ℤ, pos, negsuc}
 use Rattle.std.proofs.Common.{refl, subst, arith, append_assoc}
 use Rattle.std.specs.Prelude.{◌≤ℤ◌, ◌<ℤ◌}
@@ -15,7 +15,7 @@ pub at_least_or_below : (z : ℤ) → (pos 0 ≤ℤ z) ⊎ (z <ℤ pos 0)
 at_least_or_below (pos n) = inl (omega (arith, ints))
 at_least_or_below (negsuc n) = inr (omega (arith, ints))
 
--- the guard along a path holds with one more atom
+-- if the guard along a path and one more atom hold, the guard along the path with that atom holds
 pub one_more_atom : (r : Rule) (atoms : List Atom) (a : Atom) (env : List ℤ) → GuardHolds env (guard_along r atoms)
     → AtomHolds env a → GuardHolds env (guard_along r (atoms ++ a ∷ []))
 one_more_atom r atoms a env h one =
@@ -28,7 +28,7 @@ pub record IsTaken (r : Rule) (atoms : List Atom) (cases : Cases) (env : List �
   pub member : Contains (paths atoms cases) path
   pub holds : GuardHolds env (guard_along r path.atoms)
 
--- where the guard holds some path is taken, if none that ends nowhere can be
+-- if the guard holds, some path to a copy is taken, provided that no path to nowhere can be
 pub taken : (section : Section) (r : Rule) (env : List ℤ) → length env ≡ r.left + r.free → (atoms : List Atom)
     (cases : Cases) → AreCasesRight section r atoms cases → GuardHolds env (guard_along r atoms)
     → IsTaken r atoms cases env

@@ -11,11 +11,11 @@ use Rattle.refinement.specs.Lifted.{HasLift, AllRunsLift, AllRunsProject}
 pub enabled : (r : Rule) (c : Config) (free : List ℤ) (d : Config) → Leads r c free d → IsEnabled r c free
 enabled r c free d h = record { source = h.source; left = h.left; free_ones = h.free_ones; guard = h.guard }
 
--- where an enabled rule leads
+-- the configuration that an enabled rule leads to
 pub next : Rule → Config → List ℤ → Config
 next r c free = record { at = r.target; values = map (λ u. value u (c.values ++ free)) r.updates }
 
--- an enabled rule leads there
+-- an enabled rule leads to that configuration
 pub leads_next : (r : Rule) (c : Config) (free : List ℤ) → IsEnabled r c free → Leads r c free (next r c free)
 unfolding next
 leads_next r c free h = record {
@@ -27,7 +27,7 @@ leads_next r c free h = record {
   values = refl;
 }
 
--- where a copy leads projects to where the rule below leads
+-- the configuration that a copy leads to projects to the one that the rule below leads to
 pub next_below : (o : Projection) (r copy : Rule) (b c d : Config) (free : List ℤ) → (p : Program) (t : ℕ)
     → (h : HasRuleBelow p o t copy) → h.rule ≡ r → config_below o b ≡ c → Leads r c free d
     → config_below o (next copy b free) ≡ d
@@ -41,7 +41,7 @@ next_below o r copy b c d free p t h same below leads =
     ∙ (ap (λ (v : List ℤ). map (λ u. value u (v ++ free)) r.updates) values ∙ sym leads.values))
 
 module _ (p q : Program) (o : Projection) (HasFacts : Config → Type 0) (h : Simulates q p o HasFacts) where
-  -- a lifted run lifts on by one step
+  -- a run that lifts, with one more step, lifts
   lift_step : (start : List ℤ) (earlier : List Step) (b : Config) (s : Step) (c : Config)
       → HasLift q o HasFacts start earlier b → IsStep p b s c → HasLift q o HasFacts start (s ∷ earlier) c
   lift_step start earlier b s c l step =
@@ -66,7 +66,7 @@ module _ (p q : Program) (o : Projection) (HasFacts : Config → Type 0) (h : Si
             cover.numbered numbered guard leads;
       }
 
-  -- a run lifts, step by step
+  -- each run lifts
   lift : (start : List ℤ) (steps : List Step) (c : Config) → IsRun p start steps c
       → HasLift q o HasFacts start steps c
   lift start [] c run = record {
@@ -83,7 +83,7 @@ module _ (p q : Program) (o : Projection) (HasFacts : Config → Type 0) (h : Si
   pub all_lift : AllRunsLift p q o HasFacts
   all_lift = record { each = lift }
 
--- a step of q projects to a step of p where the guards of copies say what those below do
+-- laws for steps of q that project to steps of p, if the guards of copies imply those of the rules below
 module _ (p q : Program) (o : Projection) (start : o.symbol q.start ≡ p.start)
     (places : arity_of q q.start ≡ arity_of p p.start)
     (copies : (t : ℕ) (copy : Rule) → rule_at q t ≡ Some copy → HasRuleBelow p o t copy)

@@ -1,4 +1,4 @@
--- What a right section spells simulates the program.
+-- The program that a right section spells simulates the program.
 use Rattle.std.proofs.Common.{◌≡◌, ℕ, ◌+◌, List, ◌++◌, length, map, ℤ, pos, Option, Some}
 use Rattle.std.proofs.Common.{refl, sym, ◌∙◌, ap, subst, length-append}
 use Rattle.std.specs.Prelude.{◌≤ℤ◌, slice_get, option_map}
@@ -28,7 +28,7 @@ facts-hold n facts values free len over met = All-map (AtomHolds (values ++ free
     (λ k d low. subst (λ (z : ℤ). pos 0 ≤ℤ z) (sym ((over k d low).each values free len)) (met k d low))
 
 module _ (p : Program) (section : Section) (right : IsRight p section) where
-  -- the branch of a rule's origin is right, behind the facts as the paths have them
+  -- the branch from which a rule of the spelled program comes is right, after the facts as its paths have them
   at_origin : (t : ℕ) (copy : Rule) → Origin p section t copy → Type 0
   at_origin t copy from =
       (c : Copy) × IsBranchOf p section from.branch c from.below
@@ -70,7 +70,7 @@ module _ (p : Program) (section : Section) (right : IsRight p section) where
         });
       }
 
-  -- its guard says what the guard below says
+  -- the guard of a rule of the spelled program implies that of the rule below
   guards : (t : ℕ) (r copy : Rule) (env : List ℤ) → rule_at (spelled p section) t ≡ Some copy
       → rule_at p ((projection_of p section).rule t) ≡ Some r → GuardHolds env copy.guard → GuardHolds env r.guard
   guards t r copy env numbered below holds =
@@ -81,7 +81,7 @@ module _ (p : Program) (section : Section) (right : IsRight p section) where
       (All-first (AtomHolds env) from.below.guard from.path.atoms
       (subst (λ (x : Rule). GuardHolds env x.guard) (sym from.same) holds))
 
-  -- it starts where the program starts
+  -- the spelled program starts where the program starts
   starts : (projection_of p section).symbol 0 ≡ p.start
   starts = ap symbol_below right.first.there ∙ right.first.start
 
@@ -135,7 +135,7 @@ module _ (p : Program) (section : Section) (right : IsRight p section) where
         };
       }
 
-  -- a copy leads to where the facts of its target hold
+  -- a copy leads to a configuration with the facts of its target
   kept : (t : ℕ) (r copy : Rule) (c d : Config) (free : List ℤ) → HasFactsOf section c
       → rule_at (spelled p section) t ≡ Some copy → rule_at p ((projection_of p section).rule t) ≡ Some r
       → GuardHolds (c.values ++ free) r.guard → Leads copy c free d → HasFactsOf section d
@@ -155,7 +155,7 @@ module _ (p : Program) (section : Section) (right : IsRight p section) where
             (at.facts (c.values ++ free) all l.guard);
       }
 
-  -- so it simulates the program
+  -- the spelled program simulates the program
   pub simulates : Simulates (spelled p section) p (projection_of p section) (HasFactsOf section)
   simulates = record {
     start = starts;
@@ -182,7 +182,7 @@ module _ (p : Program) (section : Section) (right : IsRight p section) where
         bounds = bounds_are_kept p (spelled p section) (projection_of p section) copies (HasFactsOf section) lifts;
       }
 
-  -- a run stands at a copy of its symbol, where the copy's facts hold
+  -- at the end of each run some copy of its symbol has its facts
   fact-holds : (symbol : ℕ) (f : Term) → ((k : ℕ) (copy : Copy) → slice_get section.copies k ≡ Some copy
       → copy.over ≡ symbol → FollowsFrom copy.facts f) → HoldsAt p symbol f
   fact-holds symbol f follows = record {

@@ -1,4 +1,4 @@
--- A section that is shown is right: a fact that can't fail behind a rule holds there.
+-- A section that is shown is right: a fact that can't fail after a rule holds there.
 use Rattle.std.proofs.Common.{◌≡◌, ◌⊎◌, inl, inr, ◌+◌, List, [], ◌∷◌, ◌++◌, length, map, ℤ, pos}
 use Rattle.std.proofs.Common.{refl, sym, ◌∙◌, ap, subst}
 use Rattle.std.specs.Prelude.{◌≤ℤ◌, ◌<ℤ◌, ◌+ℤ◌, ◌-ℤ◌, ◌*ℤ◌, neg_ℤ}
@@ -9,11 +9,11 @@ use Rattle.model.specs.Terms.{Term, Literal, Variable, Negation, Addition, Subtr
 use Rattle.model.specs.Terms.{value}
 use Rattle.model.specs.Programs.{Atom, Rule, Program, AtomHolds, GuardHolds}
 use Rattle.refinement.specs.Sections.{Cases, To, Never, If, Branch, Section, passes, fails}
-use Rattle.refinement.specs.Obligations.{moved, NoneMeet, guard_along, guard_against, AreCasesShown}
+use Rattle.refinement.specs.Obligations.{moved, NoneMeet, guard_along, guard_with_failure, AreCasesShown}
 use Rattle.refinement.specs.Obligations.{IsBranchShown, IsShownBy, IsShown, AreCasesRight, IsBranchRight, IsRight}
 use Rattle.refinement.proofs.Cases.{at_least_or_below}
 
--- an expression at new values is the expression moved by their expressions
+-- the value of an expression at new values is that of the expression with the updates in place of its variables
 pub value-moved : (f : Term) (us : List Term) (env : List ℤ) → value (moved f us) env ≡ value f (map (λ u. value u env) us)
 value-moved (Literal z) us env = refl
 value-moved (Variable i) us env = sym (get_or-map (λ (u : Term). value u env) us i (Literal (pos 0)))
@@ -29,8 +29,8 @@ value-moved (Multiplication d e) us env =
     ∙ ap (λ (z : ℤ). value d (map (λ u. value u env) us) *ℤ z) (value-moved e us env)
 value-moved (Exponentiation e n) us env = ap (λ (z : ℤ). int_pow z n) (value-moved e us env)
 
--- a fact that can't fail behind a rule holds there
-pub fact-after : (r : Rule) (atoms : List Atom) (f : Term) (env : List ℤ) → NoneMeet r (guard_against r atoms f)
+-- a fact that can't fail after a rule holds there
+pub fact-after : (r : Rule) (atoms : List Atom) (f : Term) (env : List ℤ) → NoneMeet r (guard_with_failure r atoms f)
     → length env ≡ r.left + r.free → GuardHolds env (guard_along r atoms)
     → pos 0 ≤ℤ value f (map (λ u. value u env) r.updates)
 fact-after r atoms f env none len holds = go (at_least_or_below (value f (map (λ u. value u env) r.updates)))
@@ -51,7 +51,7 @@ right-cases section r atoms (To k) shown = record {
   copy = shown.copy;
   there = shown.there;
   target = shown.target;
-  facts = λ env len holds. All-weaker (λ f. NoneMeet r (guard_against r atoms f))
+  facts = λ env len holds. All-weaker (λ f. NoneMeet r (guard_with_failure r atoms f))
       (λ f. pos 0 ≤ℤ value f (map (λ u. value u env) r.updates))
       (λ f none. fact-after r atoms f env none len holds) shown.copy.facts shown.facts;
 }
@@ -61,7 +61,7 @@ right-cases section r atoms (If f yes_cases no_cases) (first, second) = (
   right-cases section r (atoms ++ fails f ∷ []) no_cases second,
 )
 
--- so are branches
+-- branches that are shown are right
 right-branch : (p : Program) (section : Section) (b : Branch) → IsBranchShown NoneMeet p section b → IsBranchRight p section b
 right-branch p section b shown = record {
   copy = shown.copy;
@@ -70,7 +70,7 @@ right-branch p section b shown = record {
   cases = right-cases section shown.rule (map passes shown.copy.facts) b.cases shown.cases;
 }
 
--- and sections
+-- sections that are shown are right
 pub right-section : (p : Program) (section : Section) → IsShown p section → IsRight p section
 right-section p section shown = record {
   first = shown.first;
@@ -79,7 +79,7 @@ right-section p section shown = record {
   complete = shown.complete;
 }
 
--- what is shown by one notion of guards that are unmet is shown by any that is weaker
+-- a section that is shown by one notion of unsatisfiable guards is shown by each weaker one
 module _ (IsUnmet IsWeakly : Rule → List Atom → Type 0)
     (weaker : (r : Rule) (atoms : List Atom) → IsUnmet r atoms → IsWeakly r atoms) where
   weaker-cases : (section : Section) (r : Rule) (atoms : List Atom) (cases : Cases)
@@ -88,8 +88,8 @@ module _ (IsUnmet IsWeakly : Rule → List Atom → Type 0)
     copy = shown.copy;
     there = shown.there;
     target = shown.target;
-    facts = All-weaker (λ f. IsUnmet r (guard_against r atoms f)) (λ f. IsWeakly r (guard_against r atoms f))
-        (λ f unmet. weaker r (guard_against r atoms f) unmet) shown.copy.facts shown.facts;
+    facts = All-weaker (λ f. IsUnmet r (guard_with_failure r atoms f)) (λ f. IsWeakly r (guard_with_failure r atoms f))
+        (λ f unmet. weaker r (guard_with_failure r atoms f) unmet) shown.copy.facts shown.facts;
   }
   weaker-cases section r atoms Never shown = weaker r (guard_along r atoms) shown
   weaker-cases section r atoms (If f yes_cases no_cases) (first, second) = (

@@ -19,7 +19,7 @@ paths_of section b = paths (map passes (facts_of section b.source)) b.cases
 abbrev pub copy_along : Branch → Rule → Path → RuleCopy
 copy_along b r path = record { of_rule = b.rule; rule = rule_along b.source r path }
 
--- where a rule of the spelled program comes from: a path of a branch whose rule is below it
+-- the origin of a rule of the spelled program: a path of a branch whose rule is below it
 pub record Origin (p : Program) (section : Section) (t : ℕ) (copy : Rule) : Type 0 where
   pub branch : Branch
   pub member : Contains section.branches branch
@@ -31,7 +31,7 @@ pub record Origin (p : Program) (section : Section) (t : ℕ) (copy : Rule) : Ty
   pub same : rule_along branch.source below path ≡ copy
 
 module _ (p : Program) (section : Section) where
-  -- a branch's copies are among all copies
+  -- the copies of a branch are among all copies
   branch-in : (branches : List Branch) (b : Branch) (x : RuleCopy) → Contains branches b
       → Contains (copies_by p section b) x → Contains (rule_copies p section branches) x
   branch-in [] b x (k, low, at) h = absurd (omega (arith, low))
@@ -42,7 +42,7 @@ module _ (p : Program) (section : Section) where
       Contains-append_right (copies_by p section a) (rule_copies p section branches) x
       (branch-in branches b x (k, omega (arith, low), at) h)
 
-  -- and each of these is one of a branch
+  -- each copy of a rule is one of a branch
   branch-of : (branches : List Branch) (x : RuleCopy) → Contains (rule_copies p section branches) x
       → (b : Branch) × Contains branches b × Contains (copies_by p section b) x
   branch-of [] x (k, low, at) = absurd (omega (arith, low))
@@ -66,7 +66,7 @@ module _ (p : Program) (section : Section) where
   path-of b None ends x (k, low, at) = absurd (omega (arith, low))
   path-of b (Some r) ends x h = (r, refl, contains-map (copy_along b r) ends x h)
 
-  -- a rule that is there stands in a copy
+  -- an existing rule of the spelled program is one of the copies
   rule-copy : (copies : List RuleCopy) (t : ℕ) (copy : Rule) → slice_get (map (λ c. c.rule) copies) t ≡ Some copy
       → (x : RuleCopy) × (slice_get copies t ≡ Some x) × (x.rule ≡ copy)
   rule-copy copies t copy h =
@@ -96,7 +96,7 @@ module _ (p : Program) (section : Section) where
         same = ap (λ (x : RuleCopy). x.rule) (along.2).2 ∙ found.2;
       }
 
-  -- and each path of a branch whose rule is there gives a rule
+  -- each path of a branch whose rule exists gives a rule of the spelled program
   pub number_along : (b : Branch) (r : Rule) (path : Path) → Contains section.branches b → rule_at p b.rule ≡ Some r
       → Contains (paths_of section b) path
       → (t : ℕ) × (rule_at (spelled p section) t ≡ Some (rule_along b.source r path))

@@ -7,16 +7,16 @@ use Rattle.std.proofs.lemmas.List.Elements.{All-head, All-tail}
 use Rattle.model.specs.Bounds.{Bound, val, val_sum, val_maximum}
 use Rattle.refinement.specs.Lifted.{parts_of}
 
--- the sum of what a function gives the elements of a list
+-- the sum of a function's values at the elements of a list
 abbrev pub sum_over : (ℕ → ℕ) → List ℕ → ℕ
 sum_over f [] = 0
 sum_over f (t ∷ ts) = f t + sum_over f ts
 
--- one more step by a rule adds its weight where the rule is counted
+-- the function f, with a weight added at rule s
 abbrev pub one_more : ℕ → ℕ → (ℕ → ℕ) → ℕ → ℕ
 one_more weight s f t = (if s == t then weight else 0) + f t
 
--- at the rule itself it does
+-- at rule s itself the weight is added
 one_more-same : (weight s t : ℕ) (f : ℕ → ℕ) → s ≡ t → one_more weight s f t ≡ weight + f t
 one_more-same weight s t f e = go (eqb_tells s t)
   where
@@ -24,16 +24,16 @@ one_more-same weight s t f e = go (eqb_tells s t)
     go (inl (test, same)) = rw test refl
     go (inr (test, other)) = absurd (other e)
 
--- nowhere does it take anything away
+-- the function with the weight added is nowhere less
 one_more-at_least : (weight s t : ℕ) (f : ℕ → ℕ) → f t ≤ one_more weight s f t
 one_more-at_least weight s t f = omega arith
 
--- so no sum falls
+-- a sum is not less with the weight added
 pub sum-at_least : (weight s : ℕ) (f : ℕ → ℕ) (ts : List ℕ) → sum_over f ts ≤ sum_over (one_more weight s f) ts
 sum-at_least weight s f [] = omega arith
 sum-at_least weight s f (t ∷ ts) = omega (arith, one_more-at_least weight s t f, sum-at_least weight s f ts)
 
--- and a sum over a list with the rule rises by the weight
+-- a sum over a list that contains rule s rises by at least the weight
 pub sum-with : (weight s : ℕ) (f : ℕ → ℕ) (ts : List ℕ) → Contains ts s
     → weight + sum_over f ts ≤ sum_over (one_more weight s f) ts
 sum-with weight s f [] (k, low, at) = absurd (omega (arith, low))
@@ -42,7 +42,7 @@ sum-with weight s f (t ∷ ts) (zero, low, at) =
 sum-with weight s f (t ∷ ts) (suc k, low, at) =
     omega (arith, one_more-at_least weight s t f, sum-with weight s f ts (k, omega (arith, low), at))
 
--- a sum of what bounds hold for is at most the bounds' sum
+-- if each value is at most its bound, the sum of the values is at most that of the bounds
 pub sum-within : (f : ℕ → ℕ) (bound : ℕ → Bound) (m : List ℕ) (ts : List ℕ) → All (λ t. f t ≤ val (bound t) m) ts
     → sum_over f ts ≤ val_sum (parts_of bound ts) m
 sum-within f bound m [] h = omega arith
@@ -51,7 +51,7 @@ sum-within f bound m (t ∷ ts) h =
     let first : f t ≤ val (bound t) m = All-head P t ts h in
     omega (arith, first, sum-within f bound m ts (All-tail P t ts h))
 
--- a bound of the list is at most the bounds' maximum
+-- a bound of the list is at most the maximum of the bounds
 pub maximum-over : (bound : ℕ → Bound) (m : List ℕ) (ts : List ℕ) (s : ℕ) → Contains ts s
     → val (bound s) m ≤ val_maximum (parts_of bound ts) m
 maximum-over bound m [] s (k, low, at) = absurd (omega (arith, low))

@@ -23,7 +23,7 @@ below p q t weaker (Some r) e h = record {
   };
 }
 
--- it is enabled wherever the rule is
+-- a weaker rule is enabled wherever the rule is
 enabled_above : (p q : Program) (t : ℕ) (r : Rule) (c : Config) (free : List ℤ) (o : Option Rule) → rule_at q t ≡ o
     → AreWeaker (Some r) o → IsEnabled r c free → HasEnabledCopy q same_numbers t c free
 enabled_above p q t r c free None e h enabled = absurd h

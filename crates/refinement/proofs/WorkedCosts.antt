@@ -1,4 +1,4 @@
--- The section that splits the loop by the sign of A is shown where the rules have costs, and bounds carry over.
+-- The section by the sign of A is shown if the rules have costs, and bounds carry over.
 use Rattle.std.proofs.Common.{◌≡◌, ℕ, zero, suc, List, [], ◌∷◌, Some, refl, ◌∙◌, ap}
 use Rattle.std.specs.Prelude.{slice_get}
 use Rattle.std.proofs.lemmas.List.Elements.{All-from_recursion}
@@ -10,14 +10,14 @@ use Rattle.model.specs.WorkedCosts.{with_cost, paying}
 use Rattle.model.proofs.Cases.{none_some, some_same}
 use Rattle.model.proofs.WorkedTotals.{totals_hold}
 use Rattle.refinement.specs.Sections.{Copy, To, passes, fails}
-use Rattle.refinement.specs.Obligations.{NoneMeet, guard_against, IsBranchShown, HasBranch, HasBranches, IsShown}
+use Rattle.refinement.specs.Obligations.{NoneMeet, guard_with_failure, IsBranchShown, HasBranch, HasBranches, IsShown}
 use Rattle.refinement.specs.Worked.{less, entry_copy, loop_copy, end_copy, enters_by_sign, loops_by, never_loops}
 use Rattle.refinement.specs.Worked.{split_by_sign, CostsAreKept}
 use Rattle.refinement.proofs.Keeping.{shown_sections_keep_bounds}
 use Rattle.refinement.proofs.WorkedSections.{entered-up, entered-down, looped-up, no-loop, fits_1, fits_2, fits_3}
 use Rattle.refinement.proofs.WorkedSections.{by_sign_shown}
 
--- what no values of a rule's variables meet, none meet where the rule has a cost
+-- if no values of a rule's variables meet some atoms, none meet them if the rule has a cost
 none-at-cost : (c : Term) (r : Rule) (atoms : List Atom) → NoneMeet r atoms → NoneMeet (with_cost c r) atoms
 none-at-cost c r atoms h = record { none = h.none }
 
@@ -28,7 +28,7 @@ entering_for_a = with_cost (Variable 0) entering
 abbrev looping_for_b : Rule
 looping_for_b = with_cost (Variable 1) looping
 
--- their branches are shown
+-- the branches of the rules with costs are shown
 branch_1 : IsBranchShown NoneMeet paying split_by_sign enters_by_sign
 branch_1 = record {
   copy = entry_copy;
@@ -40,7 +40,7 @@ branch_1 = record {
       there = refl;
       target = refl;
       facts = All-from_recursion
-          (λ f. NoneMeet entering_for_a (guard_against entering_for_a (passes (Variable 0) ∷ []) f)) (Variable 0 ∷ [])
+          (λ f. NoneMeet entering_for_a (guard_with_failure entering_for_a (passes (Variable 0) ∷ []) f)) (Variable 0 ∷ [])
           (none-at-cost (Variable 0) entering _ entered-up, tt);
     },
     record {
@@ -48,7 +48,7 @@ branch_1 = record {
       there = refl;
       target = refl;
       facts = All-from_recursion
-          (λ f. NoneMeet entering_for_a (guard_against entering_for_a (fails (Variable 0) ∷ []) f))
+          (λ f. NoneMeet entering_for_a (guard_with_failure entering_for_a (fails (Variable 0) ∷ []) f))
           (less (Negation (Variable 0)) 1 ∷ []) (none-at-cost (Variable 0) entering _ entered-down, tt);
     },
   );
@@ -64,7 +64,7 @@ branch_2 = record {
     there = refl;
     target = refl;
     facts = All-from_recursion
-        (λ f. NoneMeet looping_for_b (guard_against looping_for_b (passes (Variable 0) ∷ []) f)) (Variable 0 ∷ [])
+        (λ f. NoneMeet looping_for_b (guard_with_failure looping_for_b (passes (Variable 0) ∷ []) f)) (Variable 0 ∷ [])
         (none-at-cost (Variable 1) looping _ looped-up, tt);
   };
 }
@@ -77,7 +77,7 @@ branch_3 = record {
   cases = none-at-cost (Variable 1) looping _ no-loop;
 }
 
--- each rule has its branch at each copy, as without costs
+-- each rule with its cost has its branch at each copy, as without costs
 three_branches : HasBranches paying split_by_sign
 three_branches = record { each = go }
   where

@@ -18,7 +18,7 @@ use Rattle.refinement.specs.Worked.{from_3, at_least, looping_from_1, longer_cou
 use Rattle.refinement.proofs.Keeping.{shown_sections_keep_bounds}
 use Rattle.refinement.proofs.WorkedSections.{at_least_3_shown}
 
--- what the copy of l1 says
+-- what follows from the facts of the copy of l1
 follows_3 : (k : ℕ) (copy : Copy) → slice_get (at_least 3).copies k ≡ Some copy → copy.over ≡ 1
     → FollowsFrom copy.facts (less (Variable 0) 3)
 follows_3 zero copy there over =
@@ -56,7 +56,7 @@ facts_hold_at_symbols = record {
   at_start = λ h. omega (arith, ints, h.each (pos 0 ∷ []) [] (one_value 0 (pos 0)) (record { places = refl; at = refl; values = refl }) refl);
 }
 
--- a rule is as weak as itself
+-- each rule is weaker than itself, in the weak sense
 itself : (r : Rule) → IsWeaker r r
 itself r = record {
   source = refl;
@@ -68,7 +68,7 @@ itself r = record {
   guard = λ env h. h;
 }
 
--- looping without the second atom is weaker
+-- the looping rule without its second atom is weaker
 weaker_loop : IsWeaker looping looping_from_1
 weaker_loop = record {
   source = refl;
@@ -93,7 +93,7 @@ longer_rules (suc zero) = itself entering
 longer_rules (suc (suc zero)) = weaker_loop
 longer_rules (suc (suc (suc t))) = tt
 
--- at l1(10, 0) the loop without the second atom is enabled, and the loop isn't
+-- at l1(10, 0) the looping rule without its second atom is enabled, and the looping rule isn't
 enabled_at_10 : IsEnabled looping_from_1 (two_values 1 (pos 10) (pos 0)) []
 enabled_at_10 = record {
   source = refl;
@@ -111,7 +111,7 @@ not_enabled_at_10 h =
     h.enabled.guard in
     omega (arith, ints, guard 1 (Compare (Variable 0) AtMost (Literal (pos 9))) (omega arith))
 
--- at l1(1, 0) the loop is enabled, and the program without it has no rule 2
+-- at l1(1, 0) the looping rule is enabled, and the program without it has no rule 2
 enabled_at_1 : IsEnabled looping (two_values 1 (pos 1) (pos 0)) []
 enabled_at_1 =
     let P = AtomHolds (pos 1 ∷ pos 0 ∷ []) in

@@ -1,4 +1,4 @@
--- The worked sections spell what was worked out, and are shown, or aren't.
+-- The worked sections spell the expected programs, and are shown, or aren't, as stated.
 use Rattle.std.proofs.Common.{◌≡◌, ℕ, zero, suc, ◌<◌, List, [], ◌∷◌, ◌++◌, length, map, ℤ, pos, Some}
 use Rattle.std.proofs.Common.{refl, sym, ◌∙◌, ap, subst, arith}
 use Rattle.std.specs.Prelude.{slice_get, slice_index_or}
@@ -11,14 +11,14 @@ use Rattle.model.specs.WorkedRuns.{entering, looping, countdown}
 use Rattle.model.proofs.Cases.{none_some, some_same}
 use Rattle.refinement.specs.Lifted.{AreCopies}
 use Rattle.refinement.specs.Sections.{Copy, To, Never, Branch, Section, passes, fails, spelled, projection_of}
-use Rattle.refinement.specs.Obligations.{NoneMeet, ReadsFirst, guard_along, guard_against, IsShownAt, AreCasesShown}
+use Rattle.refinement.specs.Obligations.{NoneMeet, ReadsFirst, guard_along, guard_with_failure, IsShownAt, AreCasesShown}
 use Rattle.refinement.specs.Obligations.{IsBranchOf, IsBranchShown, HasBranch, HasBranches, IsShown}
 use Rattle.refinement.specs.Worked.{SectionsSpell, ExpressionsAreMoved, SectionsAreShown, less, entry_copy, loop_copy}
 use Rattle.refinement.specs.Worked.{end_copy, enters_by_sign, loops_by, never_loops, split, split_by_sign, without_last}
 use Rattle.refinement.specs.Worked.{with_start_fact, with_other_first, with_branch, entering_down, entering_from_3, from_3}
 use Rattle.refinement.specs.Worked.{at_least}
 
--- the rules 1 and 2 of the spelled program are all copies of rule 1
+-- rules 1 and 2 of the spelled program are all copies of rule 1
 two_copies : AreCopies (spelled countdown split_by_sign) (projection_of countdown split_by_sign) 1 (1 ∷ 2 ∷ [])
 two_copies = record { each = go }
   where
@@ -30,7 +30,7 @@ two_copies = record { each = go }
     go (suc (suc (suc zero))) r h e = absurd (omega (arith, e))
     go (suc (suc (suc (suc t)))) r h e = absurd (none_some r h)
 
--- rule 3 is the copy of rule 2
+-- rule 3 of the spelled program is the only copy of rule 2
 one_copy : AreCopies (spelled countdown split_by_sign) (projection_of countdown split_by_sign) 2 (1 ∷ 3 ∷ [])
 one_copy = record { each = go }
   where
@@ -42,7 +42,7 @@ one_copy = record { each = go }
     go (suc (suc (suc zero))) r h e = (1, omega arith, refl)
     go (suc (suc (suc (suc t)))) r h e = absurd (none_some r h)
 
--- no list of one number has another one
+-- 2 is not in the list of 1
 not_other : Contains {X = ℕ} (1 ∷ []) 2 → ⊥
 not_other (zero, low, at) = omega (arith, at)
 not_other (suc k, low, at) = omega (arith, low)
@@ -66,7 +66,7 @@ sections_spell = record {
   fewer_copies = λ h. not_other (h.each 2 entering_down refl refl);
 }
 
--- of two values the second doesn't depend on what stands behind
+-- the second of two values doesn't depend on the values after them
 second_reads : (values more : List ℤ) → length values ≡ 2
     → value (Variable 1) (values ++ more) ≡ value (Variable 1) values
 second_reads [] more h = absurd (omega (arith, h))
@@ -81,7 +81,7 @@ expressions_are_moved = record {
   reads_third = λ h. omega (arith, ints, h.each (pos 0 ∷ pos 0 ∷ []) (pos 1 ∷ []) refl);
 }
 
--- what a branch's being shown says of its cases
+-- if a branch is shown, its cases are
 shown-cases : (p : Program) (section : Section) (b : Branch) (copy : Copy) (r : Rule)
     → slice_get section.copies b.source ≡ Some copy → rule_at p b.rule ≡ Some r → IsBranchShown NoneMeet p section b
     → AreCasesShown NoneMeet section r (map passes copy.facts) b.cases
@@ -91,31 +91,31 @@ shown-cases p section b copy r there numbered h =
     subst (λ (x : Rule). AreCasesShown NoneMeet section x (map passes copy.facts) b.cases) same_rule
     (subst (λ (c : Copy). AreCasesShown NoneMeet section h.rule (map passes c.facts) b.cases) same_copy h.cases)
 
--- and of the facts of a path's copy
+-- if a path to a copy is shown, the facts of the copy can't fail after it
 shown-facts : (section : Section) (r : Rule) (atoms : List Atom) (k : ℕ) (copy : Copy)
     → slice_get section.copies k ≡ Some copy → IsShownAt NoneMeet section r atoms k
-    → All (λ f. NoneMeet r (guard_against r atoms f)) copy.facts
+    → All (λ f. NoneMeet r (guard_with_failure r atoms f)) copy.facts
 shown-facts section r atoms k copy there h =
     let same : h.copy ≡ copy = some_same h.copy copy (sym h.there ∙ there) in
-    subst (λ (c : Copy). All (λ f. NoneMeet r (guard_against r atoms f)) c.facts) same h.facts
+    subst (λ (c : Copy). All (λ f. NoneMeet r (guard_with_failure r atoms f)) c.facts) same h.facts
 
--- behind entering with A at least 0 it is so, and with A below 0 it is that
-pub entered-up : NoneMeet entering (guard_against entering (passes (Variable 0) ∷ []) (Variable 0))
+-- after entering with A at least 0, A is at least 0; and after entering with A below 0, it is below 0
+pub entered-up : NoneMeet entering (guard_with_failure entering (passes (Variable 0) ∷ []) (Variable 0))
 entered-up = record { none = λ env len holds. omega (arith, ints, holds 0 Always (omega arith), holds 1 Always (omega arith)) }
 
 pub entered-down : NoneMeet entering
-    (guard_against entering (fails (Variable 0) ∷ []) (less (Negation (Variable 0)) 1))
+    (guard_with_failure entering (fails (Variable 0) ∷ []) (less (Negation (Variable 0)) 1))
 entered-down = record { none = λ env len holds. omega (arith, ints, holds 0 Always (omega arith), holds 1 Always (omega arith)) }
 
--- behind the loop with A at least 0 it is so, since A was at least 1
-pub looped-up : NoneMeet looping (guard_against looping (passes (Variable 0) ∷ []) (Variable 0))
+-- after looping with A at least 0, A is at least 0, since it was at least 1
+pub looped-up : NoneMeet looping (guard_with_failure looping (passes (Variable 0) ∷ []) (Variable 0))
 looped-up = record { none = λ env len holds. omega (arith, ints, holds 0 Always (omega arith), holds 3 Always (omega arith)) }
 
--- with A below 0 it never loops
+-- with A below 0 the looping rule is never enabled
 pub no-loop : NoneMeet looping (guard_along looping (passes (less (Negation (Variable 0)) 1) ∷ []))
 no-loop = record { none = λ env len holds. omega (arith, ints, holds 0 Always (omega arith), holds 2 Always (omega arith)) }
 
--- one value that reads the first of at least two
+-- the first of at least one value doesn't depend on the values after them
 first_reads : (n : ℕ) (values more : List ℤ) → length values ≡ suc n
     → slice_index_or (values ++ more) 0 (pos 0) ≡ slice_index_or values 0 (pos 0)
 first_reads n [] more h = absurd (omega (arith, h))
@@ -142,7 +142,7 @@ fits_3 = record {
       (record { each = λ values more h. ap (λ (z : ℤ). value (less (Negation (Variable 0)) 1) (z ∷ [])) (first_reads 1 values more h) }, tt);
 }
 
--- and are shown
+-- the branches of the section by sign are shown
 branch_1 : IsBranchShown NoneMeet countdown split_by_sign enters_by_sign
 branch_1 = record {
   copy = entry_copy;
@@ -153,14 +153,14 @@ branch_1 = record {
       copy = loop_copy (Variable 0);
       there = refl;
       target = refl;
-      facts = All-from_recursion (λ f. NoneMeet entering (guard_against entering (passes (Variable 0) ∷ []) f))
+      facts = All-from_recursion (λ f. NoneMeet entering (guard_with_failure entering (passes (Variable 0) ∷ []) f))
           (Variable 0 ∷ []) (entered-up, tt);
     },
     record {
       copy = end_copy;
       there = refl;
       target = refl;
-      facts = All-from_recursion (λ f. NoneMeet entering (guard_against entering (fails (Variable 0) ∷ []) f))
+      facts = All-from_recursion (λ f. NoneMeet entering (guard_with_failure entering (fails (Variable 0) ∷ []) f))
           (less (Negation (Variable 0)) 1 ∷ []) (entered-down, tt);
     },
   );
@@ -175,7 +175,7 @@ branch_2 = record {
     copy = loop_copy (Variable 0);
     there = refl;
     target = refl;
-    facts = All-from_recursion (λ f. NoneMeet looping (guard_against looping (passes (Variable 0) ∷ []) f))
+    facts = All-from_recursion (λ f. NoneMeet looping (guard_with_failure looping (passes (Variable 0) ∷ []) f))
         (Variable 0 ∷ []) (looped-up, tt);
   };
 }
@@ -233,10 +233,10 @@ loop-at-one : GuardHolds one_zero (guard_along looping (passes (Variable 0) ∷ 
 loop-at-one = All-from_recursion (AtomHolds one_zero) (guard_along looping (passes (Variable 0) ∷ []))
     (omega (arith, ints), (omega (arith, ints), (omega (arith, ints), tt)))
 
--- a fact that A is at least 1 fails behind it
-fails-at-one : GuardHolds one_zero (guard_against looping (passes (less (Variable 0) 1) ∷ []) (less (Variable 0) 1))
+-- the fact that A is at least 1 fails after looping at these values
+fails-at-one : GuardHolds one_zero (guard_with_failure looping (passes (less (Variable 0) 1) ∷ []) (less (Variable 0) 1))
 fails-at-one = All-from_recursion (AtomHolds one_zero)
-    (guard_against looping (passes (less (Variable 0) 1) ∷ []) (less (Variable 0) 1))
+    (guard_with_failure looping (passes (less (Variable 0) 1) ∷ []) (less (Variable 0) 1))
     (omega (arith, ints), (omega (arith, ints), (omega (arith, ints), (omega (arith, ints), tt))))
 
 pub not_too_strong : IsShown countdown (split (less (Variable 0) 1) (To 1)) → ⊥
@@ -282,7 +282,7 @@ not_with_fact h =
     let same : Variable 0 ∷ [] ≡ [] = ap (λ (c : Copy). c.facts) (some_same start h.first.copy h.first.there) ∙ h.first.facts in
     omega (arith, ap (length {A = Term}) same)
 
--- a branch of rule 1 at `b`, and one of rule 3, which there isn't
+-- the section with one more branch isn't shown: of rule 1 at `b`, and of rule 3, which doesn't exist
 not_other_source : IsShown countdown (with_branch 1) → ⊥
 not_other_source h =
     let b : Branch = record { source = 1; rule = 1; cases = To 1 } in
@@ -297,7 +297,7 @@ not_no_rule h =
     let shown : IsBranchShown NoneMeet countdown (with_branch 3) b = h.branches 0 b (omega arith) in
     none_some shown.rule shown.fits.numbered
 
--- a fact that reads a third variable
+-- the section with a fact that reads a third variable isn't shown
 not_third_variable : IsShown countdown (split (Variable 2) (To 1)) → ⊥
 not_third_variable h =
     let b : Branch = loops_by (To 1) in
@@ -316,11 +316,11 @@ not_other_first h =
     let first : Copy = record { name = 97 ∷ []; over = 1; facts = [] } in
     omega (arith, ap (λ (c : Copy). c.over) (some_same first h.first.copy h.first.there), h.first.start)
 
--- A is at least 3 behind the rule that says so
-behind_3 : NoneMeet entering_from_3 (guard_against entering_from_3 [] (less (Variable 0) 3))
+-- after the rule with the guard A >= 3, A is at least 3
+behind_3 : NoneMeet entering_from_3 (guard_with_failure entering_from_3 [] (less (Variable 0) 3))
 behind_3 = record { none = λ env len holds. omega (arith, ints, holds 0 Always (omega arith), holds 1 Always (omega arith)) }
 
--- its one branch
+-- the only branch of that section is shown
 from_3_branch : IsBranchShown NoneMeet from_3 (at_least 3) (record { source = 0; rule = 1; cases = To 1 })
 from_3_branch = record {
   copy = entry_copy;
@@ -330,7 +330,7 @@ from_3_branch = record {
     copy = loop_copy (less (Variable 0) 3);
     there = refl;
     target = refl;
-    facts = All-from_recursion (λ f. NoneMeet entering_from_3 (guard_against entering_from_3 [] f))
+    facts = All-from_recursion (λ f. NoneMeet entering_from_3 (guard_with_failure entering_from_3 [] f))
         (less (Variable 0) 3 ∷ []) (behind_3, tt);
   };
 }
@@ -357,9 +357,9 @@ at_least_3_shown = record {
   complete = one_branch;
 }
 
--- at 3 it isn't at least 4
-fails-at-3 : GuardHolds (pos 3 ∷ []) (guard_against entering_from_3 [] (less (Variable 0) 4))
-fails-at-3 = All-from_recursion (AtomHolds (pos 3 ∷ [])) (guard_against entering_from_3 [] (less (Variable 0) 4))
+-- at 3, A isn't at least 4
+fails-at-3 : GuardHolds (pos 3 ∷ []) (guard_with_failure entering_from_3 [] (less (Variable 0) 4))
+fails-at-3 = All-from_recursion (AtomHolds (pos 3 ∷ [])) (guard_with_failure entering_from_3 [] (less (Variable 0) 4))
     (omega (arith, ints), (omega (arith, ints), tt))
 
 not_at_least_4 : IsShown from_3 (at_least 4) → ⊥

@@ -1,4 +1,4 @@
--- Runs of a program lifted to a program that simulates it, and the bounds that so carry over.
+-- Runs of a program lifted to a program that simulates it, and the bounds that carry over.
 use Rattle.std.specs.Prelude.{◌≡◌, ◌≢◌, ℕ, List, [], ◌∷◌, map, ℤ, Some}
 use Rattle.std.specs.List.{All, Contains}
 use Rattle.model.specs.Bounds.{Bound, SumOf, MaximumOf, Parts, NoParts, Part}
@@ -8,8 +8,8 @@ use Rattle.model.specs.Runs.{Config, Step, IsRun}
 use Rattle.model.specs.Facts.{HoldsLength, HoldsTotal}
 use Rattle.refinement.specs.Simulation.{Projection, config_below, step_below}
 
--- a run lifts to q: from the same start values a run of q has steps that project to its steps, one by one, and ends at
--- a configuration that projects to its end, where the facts hold
+-- a run lifts to q: a run of q from the same start values has steps that project to its steps, one by one, and ends at
+-- a configuration that projects to its end and has the facts
 pub record HasLift (q : Program) (o : Projection) (HasFacts : Config → Type 0) (start : List ℤ) (steps : List Step)
     (c : Config) : Type 0 where
   pub above : List Step
@@ -29,7 +29,7 @@ pub record AllRunsProject (p q : Program) (o : Projection) : Type 0 where
   pub each : (start : List ℤ) (steps : List Step) (c : Config) → IsRun q start steps c
       → IsRun p start (map (step_below o) steps) (config_below o c)
 
--- a list of rules of q has each copy of rule n of p; it may have others, and some more than once
+-- a list of rules of q contains each copy of rule n of p; it may contain other rules, and some twice
 pub record AreCopies (q : Program) (o : Projection) (n : ℕ) (copies : List ℕ) : Type 0 where
   pub each : (t : ℕ) (r : Rule) → rule_at q t ≡ Some r → o.rule t ≡ n → Contains copies t
 
@@ -46,8 +46,8 @@ sum_of bound copies = SumOf (parts_of bound copies)
 abbrev pub maximum_of : (ℕ → Bound) → List ℕ → Bound
 maximum_of bound copies = MaximumOf (parts_of bound copies)
 
--- bounds of q carry over to p: to a rule the sum of those of its copies, for how often it occurs and for what its
--- steps cost, and the maximum for sizes after it; and what bounds whole runs as it is
+-- bounds of q carry over to p: the sum of the bounds on a rule's copies bounds how often the rule occurs, and what its
+-- steps cost; their maximum bounds the sizes after it; and a bound on whole runs is one for p
 pub record BoundsAreKept (p q : Program) (o : Projection) : Type 0 where
   pub times : (n : ℕ) (copies : List ℕ) (bound : ℕ → Bound) → n ≢ 0 → AreCopies q o n copies
       → All (λ t. HoldsTime q t (bound t)) copies → HoldsTime p n (sum_of bound copies)

@@ -1,5 +1,5 @@
--- What has to hold of a section so that the program it spells simulates the program: that certain guards are met by no
--- values.
+-- The obligations of a section, with which the program that it spells simulates the program: certain guards are
+-- unsatisfiable.
 use Rattle.std.specs.Prelude.{◌≡◌, ℕ, ◌+◌, List, [], ◌∷◌, ◌++◌, length, map, ℤ, pos, Some, slice_get, slice_index_or}
 use Rattle.std.specs.List.{All, Contains}
 use Rattle.model.specs.Terms.{Term, Literal, Variable, Negation, Addition, Subtraction, Multiplication, Exponentiation}
@@ -21,7 +21,7 @@ moved (Exponentiation e n) us = Exponentiation (moved e us) n
 pub record NoneMeet (r : Rule) (atoms : List Atom) : Type 0 where
   pub none : (env : List ℤ) → length env ≡ r.left + r.free → GuardHolds env atoms → ⊥
 
--- what an expression comes to depends on its first n variables alone
+-- the value of an expression depends only on its first n variables
 pub record ReadsFirst (n : ℕ) (f : Term) : Type 0 where
   pub each : (values more : List ℤ) → length values ≡ n → value f (values ++ more) ≡ value f values
 
@@ -29,20 +29,21 @@ pub record ReadsFirst (n : ℕ) (f : Term) : Type 0 where
 abbrev pub guard_along : Rule → List Atom → List Atom
 guard_along r atoms = r.guard ++ atoms
 
--- the same, and that a fact fails at the new values
-abbrev pub guard_against : Rule → List Atom → Term → List Atom
-guard_against r atoms fact = guard_along r atoms ++ fails (moved fact r.updates) ∷ []
+-- the guard of a rule along a path, and the atom that a fact fails at the new values
+abbrev pub guard_with_failure : Rule → List Atom → Term → List Atom
+guard_with_failure r atoms fact = guard_along r atoms ++ fails (moved fact r.updates) ∷ []
 
--- for a notion of guards that are unmet: the copy with a number is one of the rule's target, and the guard along the
--- path is unmet where one of the copy's facts fails behind the rule
+-- given a notion of unsatisfiable guards: the copy with a number is one of the rule's target, and the guard along the
+-- path is unsatisfiable together with one of the copy's facts failing after the rule
 pub record IsShownAt (IsUnmet : Rule → List Atom → Type 0) (section : Section) (r : Rule) (atoms : List Atom) (k : ℕ) :
     Type 0 where
   pub copy : Copy
   pub there : slice_get section.copies k ≡ Some copy
   pub target : copy.over ≡ r.target
-  pub facts : All (λ f. IsUnmet r (guard_against r atoms f)) copy.facts
+  pub facts : All (λ f. IsUnmet r (guard_with_failure r atoms f)) copy.facts
 
--- cases are shown behind these atoms: each path to a copy is, and the guard along a path to nowhere is unmet
+-- cases are shown after these atoms: each path to a copy is shown, and the guard along a path to nowhere is
+-- unsatisfiable
 abbrev pub AreCasesShown : (Rule → List Atom → Type 0) → Section → Rule → List Atom → Cases → Type 0
 AreCasesShown IsUnmet section r atoms (To k) = IsShownAt IsUnmet section r atoms k
 AreCasesShown IsUnmet section r atoms Never = IsUnmet r (guard_along r atoms)
@@ -58,7 +59,7 @@ pub record IsBranchOf (p : Program) (section : Section) (b : Branch) (copy : Cop
   pub leaves : r.source ≡ copy.over
   pub over_left : All (ReadsFirst r.left) copy.facts
 
--- a branch is shown: its cases are, behind the facts of its source
+-- a branch is shown: its cases are shown after the facts of its source
 pub record IsBranchShown (IsUnmet : Rule → List Atom → Type 0) (p : Program) (section : Section) (b : Branch) :
     Type 0 where
   pub copy : Copy
@@ -85,19 +86,19 @@ pub record HasBranches (p : Program) (section : Section) : Type 0 where
   pub each : (k : ℕ) (copy : Copy) (t : ℕ) (r : Rule) → slice_get section.copies k ≡ Some copy
       → rule_at p t ≡ Some r → r.source ≡ copy.over → HasBranch section k t
 
--- a section is shown by a notion of guards that are unmet: its first copy is one of the start symbol without facts,
--- each branch is shown, and none is missing
+-- a section is shown by a notion of unsatisfiable guards: its first copy is one of the start symbol without facts, each
+-- branch is shown, and none is missing
 pub record IsShownBy (IsUnmet : Rule → List Atom → Type 0) (p : Program) (section : Section) : Type 0 where
   pub first : HasFirstCopy p section
   pub branches : All (IsBranchShown IsUnmet p section) section.branches
   pub complete : HasBranches p section
 
--- a section is shown where these guards are met by no values
+-- a section is shown, if a guard is unsatisfiable when no values meet it
 abbrev pub IsShown : Program → Section → Type 0
 IsShown p section = IsShownBy NoneMeet p section
 
 -- the copy with a number is one of the rule's target, and its facts hold at the new values wherever the guard along the
--- path does
+-- path holds
 pub record IsRightAt (section : Section) (r : Rule) (atoms : List Atom) (k : ℕ) : Type 0 where
   pub copy : Copy
   pub there : slice_get section.copies k ≡ Some copy
@@ -105,7 +106,7 @@ pub record IsRightAt (section : Section) (r : Rule) (atoms : List Atom) (k : ℕ
   pub facts : (env : List ℤ) → length env ≡ r.left + r.free → GuardHolds env (guard_along r atoms)
       → AreAtLeastZero copy.facts (map (λ u. value u env) r.updates)
 
--- cases are right behind these atoms: each path to a copy is, and no values meet the guard along a path to nowhere
+-- cases are right after these atoms: each path to a copy is right, and no values meet the guard along a path to nowhere
 abbrev pub AreCasesRight : Section → Rule → List Atom → Cases → Type 0
 AreCasesRight section r atoms (To k) = IsRightAt section r atoms k
 AreCasesRight section r atoms Never = NoneMeet r (guard_along r atoms)
@@ -113,7 +114,7 @@ AreCasesRight section r atoms (If f yes_cases no_cases) =
     AreCasesRight section r (atoms ++ passes f ∷ []) yes_cases
     × AreCasesRight section r (atoms ++ fails f ∷ []) no_cases
 
--- a branch is right: its cases are, behind the facts of its source
+-- a branch is right: its cases are right after the facts of its source
 pub record IsBranchRight (p : Program) (section : Section) (b : Branch) : Type 0 where
   pub copy : Copy
   pub rule : Rule

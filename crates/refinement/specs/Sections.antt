@@ -12,7 +12,7 @@ pub record Copy : Type 0 where
   pub over : ℕ
   pub facts : List Term
 
--- where a rule leads from a copy: to a copy; nowhere, since it is never enabled there; or by whether an expression over
+-- how a rule leads from a copy: to a copy; nowhere, since it is never enabled there; or by whether an expression over
 -- the rule's variables is at least 0
 pub data Cases : Type 0 where
   To : ℕ → Cases
@@ -30,32 +30,32 @@ pub record Section : Type 0 where
   pub copies : List Copy
   pub branches : List Branch
 
--- the expression is at least 0
+-- the atom that the expression is at least 0
 abbrev pub passes : Term → Atom
 passes f = Compare f AtLeast (Literal (pos 0))
 
--- the expression is below 0
+-- the atom that the expression is below 0
 abbrev pub fails : Term → Atom
 fails f = Compare f LessThan (Literal (pos 0))
 
--- a path through cases to a copy, with what holds along it
+-- a path through cases to a copy, with the atoms that hold along it
 pub record Path : Type 0 where
   pub atoms : List Atom
   pub copy : ℕ
 
--- the paths to copies, in order, behind these atoms
+-- the paths to copies, in order, after these atoms
 abbrev pub paths : List Atom → Cases → List Path
 paths atoms (To k) = record { atoms = atoms; copy = k } ∷ []
 paths atoms Never = []
 paths atoms (If f yes_cases no_cases) =
     paths (atoms ++ passes f ∷ []) yes_cases ++ paths (atoms ++ fails f ∷ []) no_cases
 
--- the symbol below a copy, 0 where there is no copy
+-- the symbol of a copy, 0 if there is no copy
 abbrev pub symbol_below : Option Copy → ℕ
 symbol_below None = 0
 symbol_below (Some c) = c.over
 
--- the facts of a copy, none where there is no copy
+-- the facts of a copy, none if there is no copy
 abbrev pub facts_in : Option Copy → List Term
 facts_in None = []
 facts_in (Some c) = c.facts
@@ -64,7 +64,7 @@ facts_in (Some c) = c.facts
 abbrev pub facts_of : Section → ℕ → List Term
 facts_of section k = facts_in (slice_get section.copies k)
 
--- a rule from a copy of its source to where a path leads, under what holds along the path
+-- a rule from a copy of its source to the end of a path, with the atoms along the path in its guard
 abbrev pub rule_along : ℕ → Rule → Path → Rule
 rule_along source r path = record {
   source = source;
@@ -82,12 +82,12 @@ pub record RuleCopy : Type 0 where
   pub of_rule : ℕ
   pub rule : Rule
 
--- the copies of a rule, where there is one, along the paths of a branch
+-- the copies of a rule, if there is one, along the paths of a branch
 abbrev pub copies_along : Branch → Option Rule → List Path → List RuleCopy
 copies_along b None ends = []
 copies_along b (Some r) ends = map (λ path. record { of_rule = b.rule; rule = rule_along b.source r path }) ends
 
--- the copies of a branch's rule: one for each path to a copy, behind the facts of its source
+-- the copies of a branch's rule: one for each path to a copy, after the facts of its source
 abbrev pub copies_by : Program → Section → Branch → List RuleCopy
 copies_by p section b =
     copies_along b (rule_at p b.rule) (paths (map passes (facts_of section b.source)) b.cases)
@@ -111,7 +111,7 @@ spelled p section = record {
   rules = map (λ c. c.rule) (rule_copies p section section.branches);
 }
 
--- the number of the rule below a copy of a rule, 0 where there is none
+-- the number of the rule below a copy of a rule, 0 if there is none
 abbrev pub rule_below : Option RuleCopy → ℕ
 rule_below None = 0
 rule_below (Some c) = c.of_rule
@@ -132,7 +132,7 @@ projection_of p section = record {
 abbrev pub AreAtLeastZero : List Term → List ℤ → Type 0
 AreAtLeastZero facts values = All (λ f. pos 0 ≤ℤ value f values) facts
 
--- the configuration stands at a copy, and its values meet the copy's facts
+-- the configuration is at a copy, and its values meet the copy's facts
 pub record HasFactsOf (section : Section) (c : Config) : Type 0 where
   pub copy : Copy
   pub there : slice_get section.copies c.at ≡ Some copy

@@ -34,13 +34,13 @@ pub record IsCopy (o : Projection) (r copy : Rule) : Type 0 where
   pub source : o.symbol copy.source ≡ r.source
   pub target : o.symbol copy.target ≡ r.target
 
--- the rule of a program has a rule of the program p below it, of which it is a copy
+-- the rule is a copy of the rule of p below it
 pub record HasRuleBelow (p : Program) (o : Projection) (t : ℕ) (copy : Rule) : Type 0 where
   pub rule : Rule
   pub numbered : rule_at p (o.rule t) ≡ Some rule
   pub copies : IsCopy o rule copy
 
--- some rule of q above rule t is enabled at the configuration, with these values of its free variables
+-- some copy of rule t in q is enabled at the configuration, with these values of its free variables
 pub record HasEnabledCopy (q : Program) (o : Projection) (t : ℕ) (c : Config) (free : List ℤ) : Type 0 where
   pub number : ℕ
   pub rule : Rule
@@ -49,8 +49,8 @@ pub record HasEnabledCopy (q : Program) (o : Projection) (t : ℕ) (c : Config) 
   pub enabled : IsEnabled rule c free
 
 -- the program q simulates p, with facts that hold at the configurations of q: starts and rules of q project to those of
--- p; the facts hold at each start; where they hold, a rule of p that is enabled below has an enabled copy; and a copy
--- leads on to where they hold, if the guard of the rule below holds too
+-- p; the facts hold at each start; where they hold, if a rule of p is enabled below, some copy of it is enabled; and a
+-- step by a copy, if the guard of the rule below holds too, leads to where they hold
 pub record Simulates (q p : Program) (o : Projection) (HasFacts : Config → Type 0) : Type 0 where
   pub start : o.symbol q.start ≡ p.start
   pub places : arity_of q q.start ≡ arity_of p p.start

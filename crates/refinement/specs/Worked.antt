@@ -1,4 +1,4 @@
--- Sections of small programs, what they spell, and which of them are shown, as it was worked out by hand.
+-- Worked values of sections of small programs, of the programs that they spell, and of which are shown.
 use Rattle.std.specs.Prelude.{◌≡◌, ℕ, [], ◌∷◌, map, pos, Some, None, ⊤}
 use Rattle.model.specs.Terms.{Term, Literal, Variable, Negation, Addition, Subtraction}
 use Rattle.model.specs.Programs.{AtLeast, AtMost, LessThan, Compare, Rule, Program}
@@ -11,12 +11,12 @@ use Rattle.refinement.specs.Sections.{projection_of}
 use Rattle.refinement.specs.Obligations.{moved, ReadsFirst, IsShown}
 use Rattle.refinement.specs.Laws.{HoldsAt, HasWeakerGuards, same_numbers}
 
--- less than an expression, by a number
+-- an expression minus a number
 abbrev pub less : Term → ℕ → Term
 less f n = Subtraction f (Literal (pos n))
 
--- copies of the symbols of the program that enters a loop and counts A down: `a` of l0, and of l1 `b`, with a fact, and
--- `c`, where A is below 0
+-- copies of the symbols of the program that enters a loop and counts A down: `a` of l0; `b` of l1, with a fact; and `c`
+-- of l1, where A is below 0
 abbrev pub entry_copy : Copy
 entry_copy = record { name = 97 ∷ []; over = 0; facts = [] }
 
@@ -26,7 +26,8 @@ loop_copy fact = record { name = 98 ∷ []; over = 1; facts = fact ∷ [] }
 abbrev pub end_copy : Copy
 end_copy = record { name = 99 ∷ []; over = 1; facts = less (Negation (Variable 0)) 1 ∷ [] }
 
--- its rules at these: it enters by whether A is at least 0; it loops at `b` by these cases; and it never loops at `c`
+-- the branches at these copies: entering by whether A is at least 0; looping at `b` by these cases; and never looping
+-- at `c`
 abbrev pub enters_by_sign : Branch
 enters_by_sign = record { source = 0; rule = 1; cases = If (Variable 0) (To 1) (To 2) }
 
@@ -43,25 +44,25 @@ split fact cases = record {
   branches = enters_by_sign ∷ loops_by cases ∷ never_loops ∷ [];
 }
 
--- where the loop is entered with A at least 0, it stays so
+-- the section by the sign of A: a loop that is entered with A at least 0 stays at `b`
 abbrev pub split_by_sign : Section
 split_by_sign = split (Variable 0) (To 1)
 
--- the same without the branch of the loop at `c`
+-- the section by sign without the branch of the loop at `c`
 abbrev pub without_last : Section
 without_last = record {
   copies = entry_copy ∷ loop_copy (Variable 0) ∷ end_copy ∷ [];
   branches = enters_by_sign ∷ loops_by (To 1) ∷ [];
 }
 
--- the same with a fact at the start
+-- the section by sign with a fact at the start
 abbrev pub with_start_fact : Section
 with_start_fact = record {
   copies = record { name = 97 ∷ []; over = 0; facts = Variable 0 ∷ [] } ∷ loop_copy (Variable 0) ∷ end_copy ∷ [];
   branches = enters_by_sign ∷ loops_by (To 1) ∷ never_loops ∷ [];
 }
 
--- the same with a first copy of l1
+-- the section by sign with a copy of l1 as the first copy
 abbrev pub with_other_first : Section
 with_other_first = record {
   copies = record { name = 97 ∷ []; over = 1; facts = [] } ∷ loop_copy (Variable 0) ∷ end_copy ∷ [];
@@ -75,7 +76,8 @@ with_branch t = record {
   branches = record { source = 1; rule = t; cases = To 1 } ∷ split_by_sign.branches;
 }
 
--- by hand: entering with A at least 0, entering with A below 0, and looping with A at least 0
+-- the rules of the spelled program, written by hand: entering with A at least 0, entering with A below 0, and looping
+-- with A at least 0
 abbrev pub entering_up : Rule
 entering_up = record {
   source = 0;
@@ -147,14 +149,14 @@ from_3 = record {
   rules = entering_from_3 ∷ [];
 }
 
--- its section with a copy of each symbol, and the fact that A is at least a number at l1
+-- its section with a copy of each symbol, where l1 has the fact that A is at least a number
 abbrev pub at_least : ℕ → Section
 at_least n = record {
   copies = entry_copy ∷ loop_copy (less (Variable 0) n) ∷ [];
   branches = record { source = 0; rule = 1; cases = To 1 } ∷ [];
 }
 
--- paths through cases, the spelled program and what is below its symbols and rules are what was worked out
+-- the paths through cases, the spelled program and its projection are the expected ones
 pub record SectionsSpell : Type 0 where
   pub to_copy : paths (passes (Variable 1) ∷ []) (To 2) ≡ record { atoms = passes (Variable 1) ∷ []; copy = 2 } ∷ []
   pub to_nowhere : paths (passes (Variable 1) ∷ []) Never ≡ []
@@ -170,13 +172,13 @@ pub record SectionsSpell : Type 0 where
   pub first_symbol : (projection_of countdown split_by_sign).symbol 0 ≡ 0
   pub second_symbol : (projection_of countdown split_by_sign).symbol 1 ≡ 1
   pub third_symbol : (projection_of countdown split_by_sign).symbol 2 ≡ 1
-  -- the copies of rule 1 are the first two rules, and not the first alone; others may be listed with them
+  -- a list of the copies of rule 1 contains the first two rules, and not the first alone; it may contain others
   pub copies : AreCopies (spelled countdown split_by_sign) (projection_of countdown split_by_sign) 1 (1 ∷ 2 ∷ [])
   pub more_copies : AreCopies (spelled countdown split_by_sign) (projection_of countdown split_by_sign) 2 (1 ∷ 3 ∷ [])
   pub fewer_copies : ¬ (AreCopies (spelled countdown split_by_sign) (projection_of countdown split_by_sign) 1 (1 ∷ []))
 
--- B - A with A + 1 in place of A and A in place of B is A - (A + 1); what has nothing in its place is 0; and an
--- expression over the first variables alone is one that reads no other
+-- B - A with A + 1 in place of A and A in place of B is A - (A + 1); a variable without an expression in its place
+-- becomes 0; and an expression that reads only the first variables depends on no others
 pub record ExpressionsAreMoved : Type 0 where
   pub difference : moved (Subtraction (Variable 1) (Variable 0))
       (Addition (Variable 0) (Literal (pos 1)) ∷ Variable 0 ∷ [])
@@ -188,30 +190,32 @@ pub record ExpressionsAreMoved : Type 0 where
 -- the section that splits the loop by the sign of A is shown
 pub record SectionsAreShown : Type 0 where
   pub by_sign : IsShown countdown split_by_sign
-  -- one isn't with a fact that is too strong by 1, nor with a loop that never is or leads to a copy of another symbol
+  -- it isn't shown with a fact that is too strong by 1, with a loop that is said to be never enabled, or with one that
+  -- leads to a copy of another symbol
   pub too_strong : ¬ (IsShown countdown (split (less (Variable 0) 1) (To 1)))
   pub never : ¬ (IsShown countdown (split (Variable 0) Never))
   pub other_symbol : ¬ (IsShown countdown (split (Variable 0) (To 0)))
   pub no_copy : ¬ (IsShown countdown (split (Variable 0) (To 3)))
-  -- nor with a branch of a rule that leaves another symbol, or that there isn't, or with a fact over a third variable
+  -- it isn't shown with a branch of a rule that leaves another symbol or doesn't exist, or with a fact over a third
+  -- variable
   pub other_source : ¬ (IsShown countdown (with_branch 1))
   pub no_rule : ¬ (IsShown countdown (with_branch 3))
   pub third_variable : ¬ (IsShown countdown (split (Variable 2) (To 1)))
-  -- nor with a first copy of another symbol than the start, without a branch, or with a fact at the start
+  -- it isn't shown with a first copy of another symbol than the start, without a branch, or with a fact at the start
   pub other_first : ¬ (IsShown countdown with_other_first)
   pub missing_branch : ¬ (IsShown countdown without_last)
   pub start_fact : ¬ (IsShown countdown with_start_fact)
-  -- A is at least 3 behind the rule that says so, and not at least 4
+  -- A is at least 3 after the rule with the guard A >= 3, and isn't shown to be at least 4
   pub at_least_3 : IsShown from_3 (at_least 3)
   pub at_least_4 : ¬ (IsShown from_3 (at_least 4))
 
--- so A is at least 3 wherever a run stands at l1, and it isn't at least 4 there, nor at least 3 at l0
+-- A is at least 3 whenever a run is at l1, and isn't always at least 4 there, nor at least 3 at l0
 pub record FactsHoldAtSymbols : Type 0 where
   pub at_least_3 : HoldsAt from_3 1 (less (Variable 0) 3)
   pub at_least_4 : ¬ (HoldsAt from_3 1 (less (Variable 0) 4))
   pub at_start : ¬ (HoldsAt from_3 0 (less (Variable 0) 3))
 
--- looping on A alone, without its second atom
+-- the looping rule with only its first atom, on A
 abbrev pub looping_from_1 : Rule
 looping_from_1 = record {
   source = 1;
@@ -224,7 +228,7 @@ looping_from_1 = record {
   cost = None;
 }
 
--- the program that enters and loops so
+-- the program that enters and has this looping rule
 abbrev pub longer_countdown : Program
 longer_countdown = record {
   symbols = record { name = 108 ∷ 48 ∷ []; arity = 2 } ∷ record { name = 108 ∷ 49 ∷ []; arity = 2 } ∷ [];
@@ -241,8 +245,8 @@ pub record ProgramsSimulate : Type 0 where
   pub fewer_rules : ¬ (Simulates entry_alone countdown same_numbers (λ c. ⊤))
 
 -- where entering costs A and each round costs B, the section by sign is shown, the rules that it spells have the costs
--- of the rules that they are copies of, and bounds carry over from what it spells; they don't from the program without
--- costs, all of whose steps together cost at most 10
+-- of their rules, and bounds carry over from the spelled program; they don't carry over from the program without costs,
+-- all of whose steps together cost at most 10
 pub record CostsAreKept : Type 0 where
   pub by_sign : IsShown paying split_by_sign
   pub of_copies : map (λ r. r.cost) (spelled paying split_by_sign).rules

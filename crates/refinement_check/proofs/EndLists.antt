@@ -42,7 +42,7 @@ ends-placed p s (b ∷ branches) =
     (ends-of-branch p b.source b.rule (ends (map passes (facts_of (section_of s) b.source)) b.cases))
     ∙ ap (λ (xs : List BranchEnd). ends_of_branch p s b ++ xs) (ends-placed p s branches))
 
--- there are as many copies that ends at copies leave as such ends
+-- the copies that ends at copies leave are as many as these ends
 pub sources-count : (p : Program) (es : List NumberedEnd) → length (sources_of es) ≡ rules_among (map (placed p) es)
 sources-count p [] = refl
 sources-count p (e ∷ es) = go e.end.goal (sources-count p es)
@@ -52,7 +52,7 @@ sources-count p (e ∷ es) = go e.end.goal (sources-count p es)
     go (AtCopy k by) h = omega (arith, h)
     go (Nowhere by) h = omega (arith, h)
 
--- and the first copy is among them where an end leaves it
+-- the first copy is among them if such an end leaves it
 pub sources-start : (p : Program) (es : List NumberedEnd)
     → list_any (λ n. nat_eq n 0) (sources_of es) ≡ leaves_start (map (placed p) es)
 sources-start p [] = refl
@@ -64,7 +64,7 @@ sources-start p (e ∷ es) = go e.end.goal (sources-start p es)
     go (AtCopy k by) h = ap (λ (v : Bool). nat_eq e.source 0 || v) h
     go (Nowhere by) h = h
 
--- too many ends at copies aren't right, and few are where one leaves the first copy
+-- too many ends at copies are a fault; if there are few, they are right if one leaves the first copy
 pub rules-over : (p : Program) (es : List NumberedEnd) (sources : List ℕ) → sources ≡ sources_of es
     → rule_limit < length sources → false ≡ are_rules_right (map (placed p) es)
 rules-over p es sources e over =
@@ -81,7 +81,7 @@ rules-few p es sources leaves e few h =
     h ∙ (ap (list_any (λ n. nat_eq n 0)) e ∙ (sources-start p es
     ∙ sym (ap (λ (v : Bool). v && leaves_start (map (placed p) es)) (le-leb _ _ within))))
 
--- what is wrong with the ends of a section as types is what is wrong with those of the section as plain data
+-- the fault of the ends of the code's section is that of the plain section's ends
 ends-agree : (p : Program) (section : declared.Section) (copies : List SymbolCopy) (es : List NumberedEnd)
     → copies ≡ section.copies.items
     → es ≡ numbered_ends (views.section_of section) (map annotated_branch section.branches.items)

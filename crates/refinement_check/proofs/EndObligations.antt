@@ -1,4 +1,4 @@
--- The obligations of an end, by its rule and by where it is.
+-- The obligations of an end, by its rule and by its goal.
 use Rattle.std.proofs.Common.{◌≡◌, ℕ, suc, List, [], ◌∷◌, Option, Some, refl, ◌∙◌, ap, subst}
 use Rattle.std.specs.Prelude.{slice_get, Result, Ok, Err, IfOk}
 use Rattle.refined_programs.specs.model.Terms.{Term}
@@ -8,9 +8,9 @@ use Rattle.refined_programs.specs.refinement.Obligations.{guard_along}
 use Rattle.refined_programs.specs.Ends.{Goal, AtCopy, Nowhere, End}
 use Rattle.refinement_rows.specs.Certified.{with_guard}
 use Rattle.section_checks.specs.Faults.{Obligation, fact_obligations, obligations_at, obligations_of}
-use Rattle.refinement_check.specs.Views.{against, facts_against, obligations_by}
+use Rattle.refinement_check.specs.Views.{obligation_along, obligations_of_facts, obligations_by}
 
--- what is seen of an answer that is Ok is the same as another thing
+-- if two views are equal, an `Ok` result has the one exactly if it has the other
 pub ok-equal : {X Y E : Type 0} (r : Result X E) (view : X → Y) (a b : Y) → a ≡ b → IfOk r (λ x. view x ≡ a)
     → IfOk r (λ x. view x ≡ b)
 ok-equal (Ok x) view a b e h = h ∙ e
@@ -18,11 +18,11 @@ ok-equal (Err d) view a b e h = tt
 
 -- the obligations of facts for the rule along a path are those for the rule
 pub facts-along : (n j : ℕ) (r : Rule) (atoms : List Atom) (facts : List Term) (by : List (List ℕ))
-    → facts_against n j (with_guard r (guard_along r atoms)) facts by ≡ fact_obligations n j r atoms facts by
+    → obligations_of_facts n j (with_guard r (guard_along r atoms)) facts by ≡ fact_obligations n j r atoms facts by
 facts-along n j r atoms [] by = refl
 facts-along n j r atoms (f ∷ facts) [] = refl
 facts-along n j r atoms (f ∷ facts) (ms ∷ by) =
-    ap (λ (os : List Obligation). against (with_guard r (guard_along r atoms)) f ms n j ∷ os)
+    ap (λ (os : List Obligation). obligation_along (with_guard r (guard_along r atoms)) f ms n j ∷ os)
     (facts-along n (suc j) r atoms facts by)
 
 -- the obligations of an end for the rule along its path are those for its rule
@@ -31,7 +31,7 @@ goal-along : (copies : List Copy) (n : ℕ) (r : Rule) (atoms : List Atom) (g : 
 goal-along copies n r atoms (Nowhere by) = refl
 goal-along copies n r atoms (AtCopy k by) = facts-along n 1 r atoms (facts_in (slice_get copies k)) by
 
--- so where the rule is found by its number
+-- the obligations of an end for the rule along its path are those for its rule, if the rule is found by its number
 pub obligations-along : (copies : List Copy) (n : ℕ) (r along : Rule) (o : Option Rule) (e : End)
     → along ≡ with_guard r (guard_along r e.atoms) → Some r ≡ o
     → obligations_by copies n along e.goal ≡ obligations_of copies n o e

@@ -1,4 +1,4 @@
--- What accepted sections say of the program, of sections as types.
+-- The law of accepted sections, for sections of the code.
 use Rattle.std.proofs.Common.{subst}
 use Rattle.refined_programs.specs.refinement.Sections as plain
 use Rattle.refined_programs.specs.refinement.Sections.{spelled}

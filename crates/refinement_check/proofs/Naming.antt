@@ -1,4 +1,4 @@
--- Names of the copies of a section, one by one.
+-- The names of a section's copies, one by one.
 use Rattle.std.proofs.Common.{◌≡◌, Bool, true, false, not, List, [], ◌∷◌, ◌++◌, map, refl, sym, ◌∙◌, ap, subst}
 use Rattle.std.proofs.Common.{append_assoc}
 use Rattle.std.specs.List.{AllByRecursion, list_any}
@@ -18,7 +18,7 @@ use Rattle.section_checks.specs.Laws.{HasDistinctNames}
 abbrev pub names_of : List SymbolCopy → List Name
 names_of copies = map (λ c. c.name) (map annotated_copy copies)
 
--- what holds of each name holds of that of each copy, and the other way round
+-- a property of all names is one of the name of each copy, and the other way round
 pub copies-named : (P : Name → Type 0) (copies : List Copy) → AllByRecursion P (map (λ c. c.name) copies)
     → AllByRecursion (λ c. P c.name) copies
 copies-named P [] h = tt
@@ -29,19 +29,19 @@ pub names-of-copies : (P : Name → Type 0) (copies : List Copy) → AllByRecurs
 names-of-copies P [] h = tt
 names-of-copies P (c ∷ copies) h = (h.0, names-of-copies P copies h.1)
 
--- one more at the end
+-- if all elements of a list and one more have a property, all with that one have it
 pub all-push : {X : Type 0} (P : X → Type 0) (xs : List X) (x : X) → AllByRecursion P xs → P x
     → AllByRecursion P (xs ++ x ∷ [])
 all-push P [] x h p = (p, tt)
 all-push P (y ∷ xs) x h p = (h.0, all-push P xs x h.1 p)
 
--- an element in the middle
+-- a property of all elements is one of an element in the middle
 all-middle : {X : Type 0} (P : X → Type 0) (before : List X) (x : X) (behind : List X)
     → AllByRecursion P (before ++ x ∷ behind) → P x
 all-middle P [] x behind h = h.0
 all-middle P (y ∷ before) x behind h = all-middle P before x behind h.1
 
--- a section whose names are names and differ has distinct names
+-- a section whose copies have different names, which are names, has distinct names
 pub named : (section : declared.Section) (names : List Name) → names ≡ names_of section.copies.items
     → AllByRecursion IsName names → AreDistinct names → HasDistinctNames (annotated_of section)
 named section names e are distinct =
@@ -50,7 +50,7 @@ named section names e are distinct =
       distinct = subst AreDistinct e distinct;
     }
 
--- one with a copy whose name isn't a name, or is that of an earlier copy, hasn't
+-- a section with a copy whose name isn't a name, or is that of an earlier copy, doesn't have distinct names
 pub unnamed : (section : declared.Section) (before : List Name) (n : Name) (behind : List Name)
     → before ++ n ∷ behind ≡ names_of section.copies.items → (IsName n → ⊥) → HasDistinctNames (annotated_of section) → ⊥
 unnamed section before n behind e fails h =
@@ -64,7 +64,7 @@ repeated section before n behind e among h =
     let absent = not_before before n behind (subst AreDistinct (sym e) h.distinct) in
     true≢false (sym among ∙ absent)
 
--- what a set says of a key that goes into it: it is new exactly where its name isn't among those there
+-- a key is new in a set exactly if its name isn't among those of the set
 flipped : (a v : Bool) → not a ≡ v → a ≡ not v
 flipped true v e = ap not e
 flipped false v e = ap not e
@@ -75,7 +75,7 @@ pub among-by : {X : Type 0} (view : X → Name) (test : X → Bool) (n : Name) (
 among-by view test n ks is_new v same added e =
     sym (key_among view n test same ks) ∙ flipped (list_any test ks) v (sym added ∙ e)
 
--- the names of a set once a new one goes into it, which is the first of those that are left
+-- the names of a set after a new one is inserted, which is the first of those left
 pub one-more : {X : Type 0} (view : X → Name) (eq : X → X → Bool) (ks new : List X) (k : X) (n : Name)
     (left rest all : List Name) (is_new : Bool) → ((j : X) → eq k j ≡ is_same (view k) (view j))
     → new ≡ insert_key eq ks k → is_new ≡ not (list_any (eq k) ks) → is_new ≡ true → view k ≡ n → left ≡ n ∷ rest

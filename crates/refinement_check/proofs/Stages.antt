@@ -1,4 +1,4 @@
--- What is wrong first, stage by stage.
+-- The first fault, stage by stage.
 use Rattle.std.proofs.Common.{◌≡◌, [], ◌∷◌, Option, Some, None, refl, sym, ◌∙◌, ap, subst}
 use Rattle.std.specs.Prelude.{Result, Ok, Err, IfOk, option_map}
 use Rattle.refined_programs.specs.model.Programs.{Program}
@@ -11,7 +11,7 @@ use Rattle.refinement_check.specs.declared.fault.SectionFault.{SectionFault}
 use Rattle.refinement_check.specs.Views.{fault_of}
 use Rattle.refinement_check.specs.Stages.{shape_fault_of, ends_fault_of, branches_fault_of, facts_fault_of}
 
--- a fault of the first stage is the first, and after none the second stage decides
+-- a fault of the first stage is the first; if it has none, the second stage decides
 pub or_first : (x : Fault) (a b : Option Fault) → Some x ≡ a → Some x ≡ or_then a b
 or_first x a b e = subst (λ (o : Option Fault). Some x ≡ or_then o b) e refl
 
@@ -28,7 +28,7 @@ or-assoc : (a b c : Option Fault) → or_then (or_then a b) c ≡ or_then a (or_
 or-assoc None b c = refl
 or-assoc (Some x) b c = refl
 
--- the stages of the shape and those of the ends are all
+-- the stages of the shape and then those of the ends are all stages
 pub halves : (p : Program) (s : Section) → or_then (shape_fault_of p s) (ends_fault_of p s) ≡ section_fault p s
 halves p s =
     let start : Option Fault = first_failing (test WrongStart (starts_right p s.copies) ∷ []) in
@@ -47,7 +47,7 @@ pub in_halves : {E : Type 0} (r : Result (Option SectionFault) E) (p : Program) 
 in_halves (Ok found) p s h = h ∙ halves p s
 in_halves (Err x) p s h = tt
 
--- a section without a fault is accepted, and the fault that is found is the first
+-- a section without a fault is accepted, and the computed fault is the first
 pub accepted_by : (p : Program) (s : Section) → None ≡ section_fault p s → IsAccepted p s
 accepted_by p s e = (faults_are_computed.none p s).0 (sym e)
 

@@ -1,4 +1,4 @@
--- What is wrong first with obligations, and with the ends that they belong to, one by one.
+-- The first fault of obligations, and of the ends that they belong to, one by one.
 use Rattle.std.proofs.Common.{◌≡◌, ℕ, suc, ◌+◌, ◌<◌, Bool, true, false, cond, List, [], ◌∷◌, length, map, drop, get_or}
 use Rattle.std.proofs.Common.{Option, Some, None, is_some, refl, sym, ◌∙◌, ap, subst, add-one}
 use Rattle.std.specs.Prelude.{◌&&◌, Result, Ok, Err, IfOk}
@@ -21,13 +21,13 @@ use Rattle.section_decide.proofs.Deciding.{decides-each, decides-within}
 use Rattle.refinement_check.specs.Views.{NumberedEnd, placed}
 use Rattle.refinement_check.proofs.Preparing.{obligations-prepared}
 
--- the element at a position, and those behind it
+-- the rest of a list from a position on is the element there and those after it
 pub more : {X Y : Type 0} (f : X → Y) (xs : List X) (i : ℕ) (x : X) → i < length xs → x ≡ get_or xs i x
     → map f (drop i xs) ≡ f x ∷ map f (drop (i + 1) xs)
 more f xs i x l e =
     at_drop_more (map f) xs i x l ∙ ap (λ y. f y ∷ map f (drop (i + 1) xs)) (sym e)
 
--- the fault of the first obligation is that of all, and after none the others decide
+-- the fault of the first obligation is that of all; if it has none, the others decide
 first-obligation : (a b : Bool) (w f : Fault) (rest found : Option Fault) → is_some found ≡ true
     → found ≡ cond a (cond b None (Some f)) (Some w) → found ≡ cond a (cond b rest (Some f)) (Some w)
 first-obligation true true w f rest (Some x) s e = absurd (none_some x (sym e))
@@ -56,7 +56,7 @@ obligation-passes n o os found s e =
     other-obligations (fits_rows o) (implies (rows_of o.rule) o.by minus_one) (WrongShape n) o.fault
     (first_failing (obligation_tests n os)) found s e
 
--- so of the obligations that are left
+-- the fault of the obligations left is that of all
 pub obligations-fail : (n : ℕ) (o : Obligation) (os now : List Obligation) (fault : Fault) (all : Option Fault)
     → now ≡ o ∷ os → Some fault ≡ first_failing (obligation_tests n (o ∷ []))
     → first_failing (obligation_tests n now) ≡ all → Some fault ≡ all
@@ -71,7 +71,7 @@ obligations-pass n o os now all left h decide =
     obligation-passes n o os None refl h
     ∙ (ap (λ (xs : List Obligation). first_failing (obligation_tests n xs)) (sym left) ∙ decide)
 
--- so with the ends
+-- the fault of the ends left is that of all
 stage-fails : (found rest : Option Fault) → is_some found ≡ true → found ≡ or_then found rest
 stage-fails (Some x) rest s = refl
 stage-fails None rest s = absurd (false≢true s)
@@ -94,7 +94,7 @@ end-passes copies n e es found s h =
     let rest : Option Fault = first_in_stages (certificate_tests copies (suc n) es) in
     stage-passes found rest s ∙ ap (λ (o : Option Fault). or_then o rest) h
 
--- where no end is over the limits the first isn't, nor any of the others
+-- if no end is over the limits, the first isn't, nor is any of the others
 limit-passed : (v : Bool) (rest : Option Fault) (x : Fault) → cond v rest (Some x) ≡ None → (v ≡ true) × (rest ≡ None)
 limit-passed true rest x e = (refl, e)
 limit-passed false rest x e = absurd (none_some x (sym e))
@@ -107,7 +107,7 @@ pub others-within : (copies : List Copy) (n : ℕ) (e : BranchEnd) (es : List Br
     → first_failing (limit_tests copies n (e ∷ es)) ≡ None → first_failing (limit_tests copies (suc n) es) ≡ None
 others-within copies n e es h = (limit-passed (limit_test copies n e).passes _ (OverLimit n) h).1
 
--- so the rules of its obligations have rows
+-- the rules of the obligations of an end that is within the limits can be prepared
 pub end-prepared : (p : Program) → IsValid p → (copies : List Copy) (n : ℕ) (e : NumberedEnd) (es : List BranchEnd)
     → first_failing (limit_tests copies n (placed p e ∷ es)) ≡ None
     → AllByRecursion (λ o. IsPreparable o.rule) (obligations_of copies n (rule_at p e.rule) e.end)
@@ -117,14 +117,14 @@ end-prepared p valid copies n e es h =
     (obligations_of copies n (rule_at p e.rule) e.end)).0
     (second-holds _ _ (limit-passed (limit_test copies n (placed p e)).passes _ (OverLimit n) h).0))
 
--- where the first of two holds both hold as the second does
+-- if the first of two tests passes, both pass exactly if the second does
 pub both-within : {E : Type 0} (r : Result Bool E) (own a b c : Bool) → own ≡ a → own ≡ true → b ≡ c
     → IfOk r (λ v. v ≡ b) → IfOk r (λ v. v ≡ (a && c))
 both-within (Ok v) own a b c e yes_it_does same h =
     h ∙ (same ∙ sym (ap (λ (w : Bool). w && c) (sym e ∙ yes_it_does)))
 both-within (Err d) own a b c e yes_it_does same h = tt
 
--- the rules of the obligations of the first end that is left have rows
+-- the rules of the obligations of the first end left can be prepared
 pub here-prepared : (p : Program) → IsValid p → (copies : List Copy) (n : ℕ) (e : NumberedEnd) (es now : List BranchEnd)
     (os : List Obligation) → now ≡ placed p e ∷ es → first_failing (limit_tests copies n now) ≡ None
     → os ≡ obligations_of copies n (rule_at p e.rule) e.end → AllByRecursion (λ o. IsPreparable o.rule) os
@@ -133,7 +133,7 @@ here-prepared p valid copies n e es now os left within same =
     (end-prepared p valid copies n e es
     (subst (λ (xs : List BranchEnd). first_failing (limit_tests copies n xs) ≡ None) left within))
 
--- and the other ends that are left are within the limits
+-- if the ends left are within the limits, so are those after the first
 pub left-within : (copies : List Copy) (n : ℕ) (e : BranchEnd) (es now : List BranchEnd) → now ≡ e ∷ es
     → first_failing (limit_tests copies n now) ≡ None → first_failing (limit_tests copies (n + 1) es) ≡ None
 left-within copies n e es now left within =
@@ -141,7 +141,7 @@ left-within copies n e es now left within =
     ∙ others-within copies n e es
     (subst (λ (xs : List BranchEnd). first_failing (limit_tests copies n xs) ≡ None) left within)
 
--- the fault of the first end that is left is that of all, and after none the others decide
+-- the fault of the first end left is that of all; if it has none, the others decide
 pub left-fails : (copies : List Copy) (n : ℕ) (e : BranchEnd) (es now : List BranchEnd) (os : List Obligation)
     (fault : Fault) (all : Option Fault) → now ≡ e ∷ es → os ≡ obligations_of copies n e.rule e.end
     → Some fault ≡ first_failing (obligation_tests n os) → first_in_stages (certificate_tests copies n now) ≡ all

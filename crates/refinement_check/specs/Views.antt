@@ -1,4 +1,4 @@
--- What contracts see of faults, of branches that are due, of ends and of obligations.
+-- Faults, required branches, ends and obligations of the code as plain data.
 use Rattle.std.specs.Prelude.{ℕ, suc, List, [], ◌∷◌, ◌++◌, map, slice_get, ⊤}
 use Rattle.refinement_check.specs.declared.fault.SectionFault.{SectionFault}
 use Rattle.refinement_check.specs.declared.fault.SectionFault.TheVariants as variants
@@ -31,12 +31,12 @@ fault_of (variants.Limit end) = OverLimit end
 fault_of (variants.Never end) = NotNever end
 fault_of (variants.Fact end fact) = NotFact end fact
 
--- an error says the first fault, or that an allocation failed
+-- the error is the first fault of the section, or that an allocation failed
 abbrev pub SaysFirst : Program → Section → AcceptError → Type 0
 SaysFirst p s (Wrong fault) = IsFirstFault p s (fault_of fault)
 SaysFirst p s Memory = ⊤
 
--- a branch that is due as plain data
+-- a required branch as plain data
 abbrev pub due_of : declared_due.Due → Due
 due_of d = record { source = d.source; rule = d.rule }
 
@@ -46,7 +46,7 @@ pub record NumberedEnd : Type 0 where
   pub rule : ℕ
   pub end : End
 
--- the end with the rule itself, where there is one
+-- the end with the rule itself, if there is one
 abbrev pub placed : Program → NumberedEnd → BranchEnd
 placed p e = record { source = e.source; rule = rule_at p e.rule; end = e.end }
 
@@ -68,7 +68,7 @@ abbrev pub numbered_ends : plain.Section → List Branch → List NumberedEnd
 numbered_ends s [] = []
 numbered_ends s (b ∷ branches) = numbered_ends_of_branch s b ++ numbered_ends s branches
 
--- the copy that an end leaves, where it is at a copy
+-- the copy that an end leaves, if the end is at a copy
 abbrev pub sources_by : ℕ → Goal → List ℕ
 sources_by source (AtCopy k by) = source ∷ []
 sources_by source (Nowhere by) = []
@@ -82,21 +82,22 @@ sources_of (e ∷ es) = sources_by e.source e.end.goal ++ sources_of es
 abbrev pub obligation_of : declared_obligation.Obligation → Obligation
 obligation_of o = record { rule = rule_of o.rule; by = o.by.items; fault = fault_of o.fault }
 
--- the rule with one more atom, that the fact fails at the new values
+-- the rule with one more atom: that the fact fails at the new values
 abbrev pub denied : Rule → Term → Rule
 denied along fact = with_guard along (along.guard ++ fails (moved fact along.updates) ∷ [])
 
 -- the obligation of a fact of an end's copy, for the rule along the path to the copy
-abbrev pub against : Rule → Term → List ℕ → ℕ → ℕ → Obligation
-against along fact by n j = record { rule = denied along fact; by = by; fault = NotFact n j }
+abbrev pub obligation_along : Rule → Term → List ℕ → ℕ → ℕ → Obligation
+obligation_along along fact by n j = record { rule = denied along fact; by = by; fault = NotFact n j }
 
--- those of the facts, of which the first has number j
-abbrev pub facts_against : ℕ → ℕ → Rule → List Term → List (List ℕ) → List Obligation
-facts_against n j along [] by = []
-facts_against n j along (f ∷ facts) [] = []
-facts_against n j along (f ∷ facts) (ms ∷ by) = against along f ms n j ∷ facts_against n (suc j) along facts by
+-- the obligations of facts, of which the first has number j
+abbrev pub obligations_of_facts : ℕ → ℕ → Rule → List Term → List (List ℕ) → List Obligation
+obligations_of_facts n j along [] by = []
+obligations_of_facts n j along (f ∷ facts) [] = []
+obligations_of_facts n j along (f ∷ facts) (ms ∷ by) = obligation_along along f ms n j ∷ obligations_of_facts n (suc j) along facts by
 
--- those of an end by the rule along its path: of one that is nowhere that of the guard, of one at a copy those of facts
+-- the obligations of an end, for the rule along its path: that of the guard if the end is nowhere, those of the facts
+-- if it is at a copy
 abbrev pub obligations_by : List plain.Copy → ℕ → Rule → Goal → List Obligation
 obligations_by copies n along (Nowhere by) = record { rule = along; by = by; fault = NotNever n } ∷ []
-obligations_by copies n along (AtCopy k by) = facts_against n 1 along (facts_in (slice_get copies k)) by
+obligations_by copies n along (AtCopy k by) = obligations_of_facts n 1 along (facts_in (slice_get copies k)) by

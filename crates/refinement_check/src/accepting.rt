@@ -1,4 +1,4 @@
-//! Whether a section is accepted, stage by stage.
+//! Accepts or refuses a section, stage by stage.
 
 ghost use Rattle.std.specs.Prelude.{◌≡◌, ◌&&◌, map, option_map, MatchResult, IfOk, None};
 ghost use Rattle.std.specs.List.{list_all};
@@ -25,13 +25,14 @@ use poly_terms::Memory;
 use refined_programs::{Section, SymbolCopy, rule_along, rule_at};
 use std::alloc::Global;
 
-/// Accepts a section of a valid program exactly where all checks pass, stage by stage: the start; the facts of copies;
-/// the branches; their tests; the shape of the ends of paths; the number of rules; their limits; and the certificates,
-/// end by end. Then bounds of what the section spells are bounds of the program (`accepted_sections_keep_bounds`).
+/// Accepts a section of a valid program exactly if all checks pass, stage by stage: the start; the facts of copies; the
+/// branches; their tests; the shape of the ends of paths; the number of rules; their limits; and the certificates, end
+/// by end. Then bounds of the program that the section spells are bounds of the program
+/// (`accepted_sections_keep_bounds`).
 ///
 /// # Errors
 ///
-/// `Wrong` with what is wrong first; `Memory` where an allocation fails.
+/// `Wrong` with the first fault; `Memory` where an allocation fails.
 #[tactic(auto, using(crate::proofs::Stages::accepted_by, crate::proofs::Stages::first_by))]
 pub fn accept(alloc: Global, p: &Program, section: &Section) -> Result<(), AcceptError>
     requires valid { IsValid (program_of p.now) }
@@ -45,7 +46,7 @@ pub fn accept(alloc: Global, p: &Program, section: &Section) -> Result<(), Accep
     }
 }
 
-// What is wrong first with a section, if anything is.
+// The first fault of a section, if it has one.
 #[tactic(auto, using(crate::proofs::Stages::in_halves))]
 fn section_fault(
     alloc: Global,
@@ -59,7 +60,7 @@ fn section_fault(
     fault_by_halves(alloc, p, section)
 }
 
-// The same, by what is wrong with the shape of the section, and then with its ends.
+// The first fault of the section's shape, or else of its ends.
 #[tactic(auto, using(crate::proofs::Stages::or_first, crate::proofs::Stages::ok_second))]
 fn fault_by_halves(
     alloc: Global,
@@ -77,7 +78,7 @@ fn fault_by_halves(
     }
 }
 
-// What is wrong with the ends: their shape, how many there are, their limits or certificates.
+// The first fault of the ends: of their shape, number, limits or certificates.
 fn ends_fault(alloc: Global, p: &Program, section: &Section) -> Result<Option<SectionFault>, Memory>
     requires valid { IsValid (program_of p.now) }
     ensures { IfOk result
@@ -87,7 +88,7 @@ fn ends_fault(alloc: Global, p: &Program, section: &Section) -> Result<Option<Se
     fault_of_ends(alloc, p, &section.copies, &ends)
 }
 
-// What is wrong with these ends.
+// The first fault of these ends.
 #[tactic(auto, using(crate::proofs::Stages::or_first, crate::proofs::Stages::ok_second))]
 fn fault_of_ends(
     alloc: Global,
@@ -105,7 +106,7 @@ fn fault_of_ends(
     }
 }
 
-// What is wrong with how many rules they are, their limits or certificates.
+// The first fault of the number, the limits or the certificates of these ends.
 #[tactic(auto, using(crate::proofs::Stages::or_first, crate::proofs::Stages::ok_second))]
 fn fault_of_rules(
     alloc: Global,
@@ -123,7 +124,7 @@ fn fault_of_rules(
     }
 }
 
-// What is wrong with their limits or certificates.
+// The first fault of the limits or the certificates of these ends.
 #[tactic(auto, using(crate::proofs::Stages::or_first, crate::proofs::Stages::ok_second))]
 fn fault_of_guards(
     alloc: Global,
@@ -180,7 +181,7 @@ fn is_end_within(
     }
 }
 
-// Whether the rule of an end is, where there is one.
+// Whether the rule of an end is within the limits, if there is one.
 fn is_own_within(alloc: Global, p: &Program, end: &NumberedEnd) -> Result<bool, Memory>
     ensures { IfOk result (λ within. within
         ≡ is_end_within_by (placed (program_of p.now) (numbered_end_of end.now)).rule (end_of end.now.end)) }
@@ -191,7 +192,7 @@ fn is_own_within(alloc: Global, p: &Program, end: &NumberedEnd) -> Result<bool, 
     }
 }
 
-// Whether the rules of obligations are.
+// Whether the rules of obligations are within the limits.
 fn are_within(alloc: Global, obligations: &[Obligation]) -> Result<bool, Memory>
     ensures { IfOk result
         (λ within. within ≡ list_all (λ o. within_limits o.rule) (map obligation_of obligations.now)) }

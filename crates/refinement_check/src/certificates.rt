@@ -1,4 +1,4 @@
-//! The obligations of an end: guards that have to be unmet, with multipliers that are to show so.
+//! The obligations of an end: guards that have to be unsatisfiable, with multipliers that have to show so.
 
 ghost use Rattle.std.specs.Prelude.{◌≡◌, ◌∷◌, [], map, option_map, IfOk, true};
 ghost use Rattle.std.specs.List.{AllByRecursion};
@@ -15,7 +15,7 @@ ghost use Rattle.refinement_rows.specs.guard_prep.Prepared.{rows_of, prepared as
 ghost use Rattle.refinement_rows.specs.guard_prep.Views.{prepared_of};
 ghost use Rattle.section_checks.specs.Faults.{NotNever, obligations_of};
 ghost use Rattle.section_decide.specs.Deciding.{obligation_tests, fits_rows};
-ghost use Rattle.refinement_check.specs.Views.{fault_of, obligation_of, denied, against, facts_against, obligations_by};
+ghost use Rattle.refinement_check.specs.Views.{fault_of, obligation_of, denied, obligation_along, obligations_of_facts, obligations_by};
 
 use crate::ends::NumberedEnd;
 use crate::fault::SectionFault;
@@ -28,8 +28,8 @@ use refined_programs::{
 };
 use std::alloc::Global;
 
-/// A guard that has to be unmet, as a rule that has it, with multipliers that are to show so, and the fault where they
-/// don't.
+/// A guard that has to be unsatisfiable, as a rule that has it, with multipliers that have to show so, and the fault if
+/// they don't.
 #[derive(Drop)]
 pub(crate) struct Obligation {
     pub rule: Rule,
@@ -44,8 +44,8 @@ struct FactPlace {
     fact: u64,
 }
 
-/// The obligations of the end with a number: of one that is nowhere, the guard along its path; of one at a copy, that
-/// guard with each fact of the copy denied of the new values.
+/// The obligations of the end with a number: if it is nowhere, the guard along its path; if it is at a copy, that guard
+/// with each fact of the copy denied at the new values.
 ///
 /// # Errors
 ///
@@ -70,7 +70,7 @@ pub(crate) fn obligations(
     }
 }
 
-// Those of an end by the rule with the guard along its path.
+// The obligations of an end, where `along` is the rule with the guard along its path.
 fn obligations_along(
     alloc: Global,
     copies: &[SymbolCopy],
@@ -90,7 +90,7 @@ fn obligations_along(
     }
 }
 
-// That of the guard along a path.
+// The obligation that the guard along a path is unsatisfiable.
 fn unmet_guard(
     alloc: Global,
     number: u64,
@@ -107,7 +107,7 @@ fn unmet_guard(
     Ok(found)
 }
 
-// Those of the facts of an end's copy.
+// The obligations of the facts of an end's copy.
 fn kept_facts(
     alloc: Global,
     number: u64,
@@ -116,7 +116,7 @@ fn kept_facts(
     by: &[Multipliers],
 ) -> Result<Vec<Obligation>, Memory>
     ensures { IfOk result (λ found. map obligation_of found.items
-        ≡ facts_against number 1 (rule_of along) (map affine_of facts.now) (lists_of by.now)) }
+        ≡ obligations_of_facts number 1 (rule_of along) (map affine_of facts.now) (lists_of by.now)) }
 {
     let mut found = Vec::new(alloc);
     let mut lists = by;
@@ -128,24 +128,24 @@ fn kept_facts(
             end: number,
             fact: j as u64 + 1,
         };
-        found.push(obligation_against(alloc, &along, fact, list, place)?)?;
+        found.push(obligation_of_fact(alloc, &along, fact, list, place)?)?;
         lists = behind;
     }
     Ok(found)
 }
 
-// That of a fact of an end's copy.
-fn obligation_against(
+// The obligation of a fact of an end's copy.
+fn obligation_of_fact(
     alloc: Global,
     along: &Rule,
     fact: &Affine,
     list: &Multipliers,
     place: FactPlace,
 ) -> Result<Obligation, Memory>
-    ensures { IfOk result (λ o. obligation_of o ≡ against (rule_of along.now) (affine_of fact.now)
+    ensures { IfOk result (λ o. obligation_of o ≡ obligation_along (rule_of along.now) (affine_of fact.now)
         list.now.numbers.items place.end place.fact) }
 {
-    let rule = rule_against(alloc, along, fact)?;
+    let rule = rule_with_failure(alloc, along, fact)?;
     let by = list.numbers.as_slice().to_vec(alloc)?;
     let fault = SectionFault::Fact {
         end: place.end,
@@ -155,7 +155,7 @@ fn obligation_against(
 }
 
 // A rule with one more atom: that a fact fails at the new values.
-fn rule_against(alloc: Global, along: &Rule, fact: &Affine) -> Result<Rule, Memory>
+fn rule_with_failure(alloc: Global, along: &Rule, fact: &Affine) -> Result<Rule, Memory>
     ensures { IfOk result (λ r. rule_of r ≡ denied (rule_of along.now) (affine_of fact.now)) }
 {
     let form = fact.expr(alloc)?;
@@ -187,7 +187,7 @@ pub(crate) fn unmet(
     Ok(None)
 }
 
-// What is wrong with the multipliers of an obligation, if anything is.
+// The fault of the multipliers of an obligation, if they have one.
 fn fault_in(
     alloc: Global,
     number: u64,
@@ -222,7 +222,7 @@ fn shows(obligation: &Obligation, prepared: &RuleRows) -> bool
     requires fits { fits_rows (obligation_of obligation.now) ≡ true }
     ensures { result ≡ implies (rows_of (rule_of obligation.now.rule)) obligation.now.by.items minus_one }
 {
-    // The law says that the rows have the sizes that `empty` asks for.
+    // The law that the rows have the sizes that `empty` requires.
     rows_suit_certificates();
     empty(&prepared.rows, &obligation.by)
 }

@@ -1,4 +1,4 @@
-//! The branches that are due.
+//! The branches that are required.
 
 ghost use Rattle.std.specs.Prelude.{◌≡◌, ◌++◌, ◌∷◌, [], map, nat_eq, if◌then◌else◌, option_map, IfOk, OnOk};
 ghost use Rattle.cert_decide.specs.Tests.{first_failing};
@@ -14,14 +14,14 @@ use poly_terms::Memory;
 use refined_programs::{Branch, SymbolCopy};
 use std::alloc::Global;
 
-/// A branch that is due: of the rule with a number, at the copy with a number.
+/// A branch that is required: of the rule with a number, at the copy with a number.
 #[derive(Clone, Copy)]
 pub(crate) struct Due {
     pub source: usize,
     pub rule: usize,
 }
 
-/// The branches that are due: of each copy, in order, each rule that leaves its symbol, in order.
+/// The branches that are required: for each copy, in order, of each rule that leaves its symbol, in order.
 ///
 /// # Errors
 ///
@@ -41,7 +41,7 @@ pub(crate) fn due_branches(
     Ok(dues)
 }
 
-// Appends those of a copy.
+// Appends the branches that are required at a copy.
 fn push_due(dues: &mut Vec<Due>, source: usize, symbol: u32, rules: &[Rule]) -> Result<(), Memory>
     ensures { OnOk result (map due_of dues.new.items
         ≡ map due_of dues.old.items ++ due_at source symbol 1 (map rule_of rules.now)) }
@@ -52,7 +52,7 @@ fn push_due(dues: &mut Vec<Due>, source: usize, symbol: u32, rules: &[Rule]) -> 
     Ok(())
 }
 
-// Appends that of a rule, where it leaves the symbol.
+// Appends the branch of a rule, if it leaves the symbol.
 fn push_if_due(
     dues: &mut Vec<Due>,
     source: usize,
@@ -73,7 +73,7 @@ fn push_if_due(
     Ok(())
 }
 
-/// The first branch that isn't the one that is due, or the number behind the last where one is missing.
+/// The fault of the first branch that isn't the required one, or of a missing one at the end.
 pub(crate) fn wrong_branch(branches: &[Branch], dues: &[Due]) -> Option<SectionFault>
     ensures { option_map fault_of result
         ≡ first_failing (branch_tests 1 (map annotated_branch branches.now) (map due_of dues.now)) }
@@ -96,7 +96,7 @@ pub(crate) fn wrong_branch(branches: &[Branch], dues: &[Due]) -> Option<SectionF
     missing(branches.len() as u64 + 1, rest)
 }
 
-// That a branch is missing, where some are due behind the last.
+// The fault that a branch is missing, if some are required after the last one.
 fn missing(number: u64, rest: &[Due]) -> Option<SectionFault>
     ensures { option_map fault_of result ≡ first_failing (branch_tests number [] (map due_of rest.now)) }
 {
@@ -106,7 +106,7 @@ fn missing(number: u64, rest: &[Due]) -> Option<SectionFault>
     }
 }
 
-// Whether a branch is the one that is due.
+// Whether a branch is the required one.
 fn is_due(branch: &Branch, due: Due) -> bool
     ensures { result ≡ is_due_by (annotated_branch branch.now) (due_of due) }
 {

@@ -1,4 +1,4 @@
-//! The ends of all branches, in one list, and what has to hold of their shape.
+//! The ends of all branches, in one list, and the checks of their shape.
 
 ghost use Rattle.std.specs.Prelude.{◌≡◌, ◌++◌, ◌∷◌, [], map, option_map, slice_get, nat_eq, IfOk, OnOk};
 ghost use Rattle.std.specs.List.{list_any};
@@ -43,7 +43,7 @@ pub(crate) fn all_ends(alloc: Global, section: &Section) -> Result<Vec<NumberedE
     Ok(ends)
 }
 
-// Appends those of a branch.
+// Appends the ends of a branch.
 fn push_ends(
     alloc: Global,
     ends: &mut Vec<NumberedEnd>,
@@ -73,7 +73,8 @@ fn push_numbered(
     Ok(())
 }
 
-/// The first end that isn't at a copy of the rule's target with as many lists of multipliers as facts, or nowhere.
+/// The fault of the first end that is neither nowhere nor at a copy of the rule's target with as many lists of
+/// multipliers as facts.
 pub(crate) fn wrong_shape(
     p: &Program,
     copies: &[SymbolCopy],
@@ -112,7 +113,7 @@ fn fits_copy(p: &Program, copies: &[SymbolCopy], rule: u32, copy: u32, by: &[Mul
     }
 }
 
-/// That more than 1,000 ends are at copies, or none of them leaves the first copy.
+/// The fault that more than 1,000 ends are at copies, or that none of them leaves the first copy.
 ///
 /// # Errors
 ///
@@ -156,7 +157,7 @@ fn sources_at_copies(alloc: Global, ends: &[NumberedEnd]) -> Result<Vec<u32>, Me
     Ok(sources)
 }
 
-// Appends the copy that an end leaves, where it is at a copy.
+// Appends the copy that an end leaves, if the end is at a copy.
 fn push_source(sources: &mut Vec<u32>, source: u32, goal: &Goal) -> Result<(), Memory>
     ensures { OnOk result (sources.new.items ≡ sources.old.items ++ sources_by source (goal_of goal.now)) }
 {

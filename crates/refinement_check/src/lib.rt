@@ -1,8 +1,9 @@
-//! Whether a section of a program with certificates is accepted, so that what it spells simulates the program.
+//! Accepts or refuses sections of a program with certificates. The program that an accepted section spells simulates
+//! the program.
 //!
-//! Builds on `section_decide`. Definitions are in `specs/`. Main guarantee: `accept` is Ok exactly where all checks of
-//! the section pass, and else says what is wrong first. Then the section is certified: bounds of the program that it
-//! spells carry over, and facts of copies hold at their symbols; it is a valid program where `has_distinct_names` says
+//! Builds on `section_decide`. Definitions are in `specs/`. Main guarantee: `accept` is Ok exactly if all checks of the
+//! section pass, and else reports the first fault. Then the section is certified: bounds of the program that it spells
+//! carry over, and facts of copies hold at their symbols; the spelled program is valid if `has_distinct_names` answers
 //! yes (`accepted_sections_keep_bounds`).
 #![tactic(auto)]
 

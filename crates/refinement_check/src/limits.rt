@@ -42,7 +42,7 @@ fn has_few_atoms(rule: &Rule) -> bool
     }
 }
 
-// Whether atoms are over so many variables and can be expanded.
+// Whether atoms are over this many variables and can be expanded.
 fn are_valid_atoms(alloc: Global, atoms: &[Atom], variables: u64) -> Result<bool, Memory>
     ensures { IfOk result (λ valid. valid ≡ list_all (valid_atom variables) (map atom_of atoms.now)) }
 {
@@ -55,7 +55,7 @@ fn are_valid_atoms(alloc: Global, atoms: &[Atom], variables: u64) -> Result<bool
     Ok(true)
 }
 
-// Whether an atom is over so many variables and can be expanded.
+// Whether an atom is over this many variables and can be expanded.
 fn is_valid_atom(alloc: Global, atom: &Atom, variables: u64) -> Result<bool, Memory>
     ensures { IfOk result (λ valid. valid ≡ valid_atom variables (atom_of atom.now)) }
 {
@@ -67,7 +67,7 @@ fn is_valid_atom(alloc: Global, atom: &Atom, variables: u64) -> Result<bool, Mem
     }
 }
 
-// Whether a comparison is.
+// Whether a comparison is over this many variables and can be expanded.
 fn is_valid_comparison(
     alloc: Global,
     left: &Expr,
@@ -116,7 +116,7 @@ fn expands(alloc: Global, d: &Expr, rel: Rel, e: &Expr) -> Result<bool, Memory>
     }
 }
 
-// The expanded difference of a comparison, or why there is none.
+// The expanded difference of a comparison, or why it has none.
 fn difference(alloc: Global, d: &Expr, rel: Rel, e: &Expr) -> Result<Poly, PolyError>
     ensures { let whole = difference_of (term_of d.now) (relation_of rel) (term_of e.now) in
         Answers result (first_fault whole) (expanded whole) }

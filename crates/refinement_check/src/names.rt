@@ -1,4 +1,4 @@
-//! Whether the copies of a section have names that differ.
+//! Whether the copies of a section have different names.
 
 ghost use Rattle.std.specs.Prelude.{◌≡◌, ◌↔◌, IsTrue, IfOk};
 ghost use Rattle.std.specs.List.{list_all};
@@ -12,8 +12,8 @@ use refined_programs::Section;
 use std::alloc::Global;
 use text_core::{begins_name, continues_name};
 
-/// Whether the copies of a section have names, and no two have the same. Where an accepted section has such copies, the
-/// program that it spells is valid (`accepted_sections_keep_bounds`).
+/// Whether the copies of a section have names, and these differ. The program that an accepted section with such copies
+/// spells is valid (`accepted_sections_keep_bounds`).
 ///
 /// # Errors
 ///
@@ -45,7 +45,7 @@ fn is_name(bytes: &[u8]) -> bool
     }
 }
 
-// Whether a name can continue with each of these bytes.
+// Whether each of these bytes can continue a name.
 fn continue_name(bytes: &[u8]) -> bool
     ensures { result ≡ list_all continues_as bytes.now }
 {

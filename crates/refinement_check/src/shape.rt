@@ -20,7 +20,7 @@ use poly_terms::Memory;
 use refined_programs::{Affine, Branch, Cases, Section, SymbolCopy, arity_of, rule_at};
 use std::alloc::Global;
 
-/// What is wrong first with the start, the facts, the branches or their tests.
+/// The first fault of the start, the facts, the branches or their tests.
 ///
 /// # Errors
 ///
@@ -40,7 +40,7 @@ pub(crate) fn shape_fault(
     }
 }
 
-// What is wrong first with the facts, the branches or their tests.
+// The first fault of the facts, the branches or their tests.
 #[tactic(auto, using(crate::proofs::Stages::or_first, crate::proofs::Stages::ok_second))]
 fn facts_fault(
     alloc: Global,
@@ -57,7 +57,7 @@ fn facts_fault(
     }
 }
 
-// What is wrong first with the branches or their tests.
+// The first fault of the branches or their tests.
 #[tactic(auto, using(crate::proofs::Stages::or_first, crate::proofs::Stages::or_second))]
 fn branches_fault(
     alloc: Global,
@@ -75,7 +75,7 @@ fn branches_fault(
     }
 }
 
-// That the first copy isn't one of the start symbol without facts.
+// The fault that the first copy isn't one of the start symbol without facts.
 fn wrong_start(p: &Program, copies: &[SymbolCopy]) -> Option<SectionFault>
     ensures { option_map fault_of result
         ≡ first_failing (test WrongStart (starts_as (program_of p.now) (map annotated_copy copies.now)) ∷ []) }
@@ -98,7 +98,7 @@ fn starts_right(p: &Program, copies: &[SymbolCopy]) -> bool
     }
 }
 
-// The first copy with a fact of another width than its symbol has places.
+// The fault of the first copy with a fact that has another number of coefficients than its symbol has places.
 fn wrong_facts(p: &Program, copies: &[SymbolCopy]) -> Option<SectionFault>
     ensures { option_map fault_of result
         ≡ first_failing (fact_tests (program_of p.now) 1 (map annotated_copy copies.now)) }
@@ -112,7 +112,7 @@ fn wrong_facts(p: &Program, copies: &[SymbolCopy]) -> Option<SectionFault>
     None
 }
 
-// Whether each form has so many coefficients.
+// Whether each form has `width` coefficients.
 fn are_wide(forms: &[Affine], width: u64) -> bool
     ensures { result ≡ list_all (is_wide width) (map affine_form forms.now) }
 {
@@ -125,7 +125,7 @@ fn are_wide(forms: &[Affine], width: u64) -> bool
     true
 }
 
-// The first branch with a test of another width than its rule has variables.
+// The fault of the first branch with a test that has another number of coefficients than its rule has variables.
 fn wrong_test(p: &Program, branches: &[Branch]) -> Option<SectionFault>
     ensures { option_map fault_of result
         ≡ first_failing (width_tests (program_of p.now) 1 (map annotated_branch branches.now)) }
@@ -141,7 +141,7 @@ fn wrong_test(p: &Program, branches: &[Branch]) -> Option<SectionFault>
     None
 }
 
-// The number of a rule's variables, 0 where there is no rule.
+// The number of a rule's variables, 0 if there is no rule.
 fn variables_of(p: &Program, rule: u32) -> u64
     ensures { result ≡ variables_in (rule_numbered (program_of p.now) rule) }
 {
@@ -151,7 +151,7 @@ fn variables_of(p: &Program, rule: u32) -> u64
     }
 }
 
-// Whether each test among cases has so many coefficients.
+// Whether each test among cases has `width` coefficients.
 fn are_tests_wide(cases: &Cases, width: u64) -> bool
     ensures { result ≡ tests_wide width (annotated_cases cases.now) }
 {

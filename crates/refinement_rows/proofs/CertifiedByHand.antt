@@ -1,4 +1,4 @@
--- The section that splits the loop by the sign of A is certified, and one with a stronger fact isn't.
+-- The section by the sign of A is certified, and one with a stronger fact isn't.
 use Rattle.std.proofs.Common.{◌≡◌, ℕ, zero, suc, List, [], ◌∷◌, refl, sym, subst, arith}
 use Rattle.std.specs.Prelude.{ℤ, pos, negsuc}
 use Rattle.std.proofs.lemmas.Int.{ints}
@@ -7,7 +7,7 @@ use Rattle.refinement.specs.model.Terms.{Variable, Negation}
 use Rattle.refinement.specs.model.Programs.{Atom}
 use Rattle.refinement.specs.model.WorkedRuns.{entering, looping, countdown}
 use Rattle.refinement.specs.Sections.{Branch, To, passes, fails}
-use Rattle.refinement.specs.Obligations.{guard_along, guard_against, IsBranchShown}
+use Rattle.refinement.specs.Obligations.{guard_along, guard_with_failure, IsBranchShown}
 use Rattle.refinement.specs.Worked.{less, entry_copy, loop_copy, end_copy, enters_by_sign, loops_by, never_loops}
 use Rattle.refinement.specs.Worked.{split_by_sign, split}
 use Rattle.refinement.proofs.WorkedSections.{fits_1, fits_2, fits_3, by_sign_shown, not_too_strong}
@@ -21,12 +21,13 @@ use Rattle.refinement_rows.specs.Worked.{SectionsAreCertified}
 use Rattle.refinement_rows.proofs.CertifiedLaws.{certified-shown}
 use Rattle.refinement_rows.proofs.WorkedGuards.{row, below-shows, denied-shows}
 
--- entering with A at least 0, the fact A >= 0 denied; and entering with A below 0, the fact -A - 1 >= 0 denied
+-- the atoms of entering with A at least 0, with the fact A >= 0 denied; and of entering with A below 0, with the fact
+-- -A - 1 >= 0 denied
 abbrev up : List Atom
-up = guard_against entering (passes (Variable 0) ∷ []) (Variable 0)
+up = guard_with_failure entering (passes (Variable 0) ∷ []) (Variable 0)
 
 abbrev down : List Atom
-down = guard_against entering (fails (Variable 0) ∷ []) (less (Negation (Variable 0)) 1)
+down = guard_with_failure entering (fails (Variable 0) ∷ []) (less (Negation (Variable 0)) 1)
 
 up-rows : rows_of (with_guard entering up) ≡ row (pos 1) (pos 0) (pos 0) ∷ row (negsuc 0) (pos 0) (negsuc 0) ∷ []
 unfolding divisor_of
@@ -66,7 +67,7 @@ down-prepared = record {
   );
 }
 
--- the two rows of each add up to -1
+-- the two rows of each list of atoms add up to -1
 up-shows : Refutes entering up (1 ∷ 1 ∷ [])
 up-shows = record {
   preparable = up-prepared;
@@ -93,7 +94,7 @@ down-shows = record {
     zeros (suc zero) = refl
     zeros (suc (suc u)) = refl
 
--- so each branch is certified
+-- each branch is certified
 certified_1 : IsBranchShown IsRefuted countdown split_by_sign enters_by_sign
 certified_1 = record {
   copy = entry_copy;
@@ -104,14 +105,14 @@ certified_1 = record {
       copy = loop_copy (Variable 0);
       there = refl;
       target = refl;
-      facts = All-from_recursion (λ f. IsRefuted entering (guard_against entering (passes (Variable 0) ∷ []) f))
+      facts = All-from_recursion (λ f. IsRefuted entering (guard_with_failure entering (passes (Variable 0) ∷ []) f))
           (Variable 0 ∷ []) (record { multipliers = 1 ∷ 1 ∷ []; refutes = up-shows }, tt);
     },
     record {
       copy = end_copy;
       there = refl;
       target = refl;
-      facts = All-from_recursion (λ f. IsRefuted entering (guard_against entering (fails (Variable 0) ∷ []) f))
+      facts = All-from_recursion (λ f. IsRefuted entering (guard_with_failure entering (fails (Variable 0) ∷ []) f))
           (less (Negation (Variable 0)) 1 ∷ []) (record { multipliers = 1 ∷ 1 ∷ []; refutes = down-shows }, tt);
     },
   );
@@ -126,7 +127,7 @@ certified_2 = record {
     copy = loop_copy (Variable 0);
     there = refl;
     target = refl;
-    facts = All-from_recursion (λ f. IsRefuted looping (guard_against looping (passes (Variable 0) ∷ []) f))
+    facts = All-from_recursion (λ f. IsRefuted looping (guard_with_failure looping (passes (Variable 0) ∷ []) f))
         (Variable 0 ∷ []) (record { multipliers = 1 ∷ 0 ∷ 0 ∷ 1 ∷ []; refutes = denied-shows }, tt);
   };
 }

@@ -14,7 +14,7 @@ use Rattle.guard_prep.proofs.PointLaws.{guards-give-points}
 use Rattle.refinement_rows.specs.Certified.{with_guard, IsRefuted, IsCertified}
 use Rattle.refinement_rows.specs.Laws.{CertifiedSectionsKeepBounds}
 
--- values that meet a guard are a point of its rows
+-- if rows are refuted, no values meet the atoms
 pub refuted-unmet : (r : Rule) (atoms : List Atom) → IsRefuted r atoms → NoneMeet r atoms
 refuted-unmet r atoms h = record {
   none = λ env len holds.

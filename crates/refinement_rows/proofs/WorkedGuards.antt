@@ -1,4 +1,4 @@
--- The worked guards are refuted, or aren't.
+-- The worked guards are refuted, or aren't, as stated.
 use Rattle.std.proofs.Common.{◌≡◌, ℕ, zero, suc, List, [], ◌∷◌, refl, sym, subst, arith}
 use Rattle.std.specs.Prelude.{ℤ, pos, negsuc, ◌≤ℤ◌}
 use Rattle.std.proofs.lemmas.Int.{ints}
@@ -7,7 +7,7 @@ use Rattle.refinement.specs.model.Terms.{Term, Variable, Negation}
 use Rattle.refinement.specs.model.Programs.{Atom, AtomHolds, GuardHolds}
 use Rattle.refinement.specs.model.WorkedRuns.{looping}
 use Rattle.refinement.specs.Sections.{passes}
-use Rattle.refinement.specs.Obligations.{guard_along, guard_against}
+use Rattle.refinement.specs.Obligations.{guard_along, guard_with_failure}
 use Rattle.refinement.specs.Worked.{less}
 use Rattle.guard_prep.specs.linear_forms.Forms.{Form, at}
 use Rattle.guard_prep.specs.linear_forms.Certificates.{combined_coef, Implies, minus_one}
@@ -18,16 +18,16 @@ use Rattle.refinement_rows.specs.Certified.{with_guard, Refutes, IsRefuted}
 use Rattle.refinement_rows.specs.Worked.{GuardsAreRefuted}
 use Rattle.refinement_rows.proofs.CertifiedLaws.{refuted-unmet}
 
--- a row in A and B
+-- a row with coefficients of A and B, and a constant
 abbrev pub row : ℤ → ℤ → ℤ → Form
 row a b k = record { coefs = a ∷ b ∷ []; constant = k }
 
--- the loop where A is below 0, and behind it the fact A >= 0 denied
+-- the guard of the loop where A is below 0; and the guard of the loop with the fact A >= 0 denied after it
 abbrev below : List Atom
 below = guard_along looping (passes (less (Negation (Variable 0)) 1) ∷ [])
 
 abbrev denied : List Atom
-denied = guard_against looping (passes (Variable 0) ∷ []) (Variable 0)
+denied = guard_with_failure looping (passes (Variable 0) ∷ []) (Variable 0)
 
 below-rows : rows_of (with_guard looping below)
     ≡ row (pos 1) (pos 0) (negsuc 0) ∷ row (negsuc 0) (pos 0) (pos 9) ∷ row (negsuc 0) (pos 0) (negsuc 0) ∷ []
@@ -40,7 +40,7 @@ denied-rows : rows_of (with_guard looping denied)
 unfolding divisor_of
 denied-rows = refl
 
--- both have rows
+-- both guards can be prepared
 below-prepared : IsPreparable (with_guard looping below)
 below-prepared = record {
   few_variables = omega arith;
@@ -94,7 +94,7 @@ below-shows = record {
     zeros (suc zero) = refl
     zeros (suc (suc u)) = refl
 
--- the first and the fourth to -1
+-- the first row and the fourth add up to -1
 pub denied-shows : Refutes looping denied (1 ∷ 0 ∷ 0 ∷ 1 ∷ [])
 denied-shows = record {
   preparable = denied-prepared;
@@ -109,7 +109,7 @@ denied-shows = record {
     zeros (suc zero) = refl
     zeros (suc (suc u)) = refl
 
--- what is shown is shown of these rows
+-- multipliers that refute a guard show that -1 follows from its rows
 below-of : (ms : List ℕ) → Refutes looping below ms
     → Implies (row (pos 1) (pos 0) (negsuc 0) ∷ row (negsuc 0) (pos 0) (pos 9) ∷ row (negsuc 0) (pos 0) (negsuc 0) ∷ [])
     ms minus_one
@@ -121,13 +121,13 @@ not_second h = let k = below-of (0 ∷ 1 ∷ 1 ∷ []) h in let low = k.constant
 not_short : Refutes looping below (1 ∷ 0 ∷ []) → ⊥
 not_short h = let k = below-of (1 ∷ 0 ∷ []) h in let long = k.long in omega (arith, long)
 
--- at 1 and 0 the loop is enabled, and behind it A isn't at least 1
+-- at A = 1 and B = 0 the loop is enabled, and after it A isn't at least 1
 abbrev one_zero : List ℤ
 one_zero = pos 1 ∷ pos 0 ∷ []
 
-fails-at-one : GuardHolds one_zero (guard_against looping (passes (Variable 0) ∷ []) (less (Variable 0) 1))
+fails-at-one : GuardHolds one_zero (guard_with_failure looping (passes (Variable 0) ∷ []) (less (Variable 0) 1))
 fails-at-one = All-from_recursion (AtomHolds one_zero)
-    (guard_against looping (passes (Variable 0) ∷ []) (less (Variable 0) 1))
+    (guard_with_failure looping (passes (Variable 0) ∷ []) (less (Variable 0) 1))
     (omega (arith, ints), (omega (arith, ints), (omega (arith, ints), (omega (arith, ints), tt))))
 
 loops-at-one : GuardHolds one_zero (guard_along looping [])
@@ -141,6 +141,6 @@ guards_are_refuted = record {
   short = not_short;
   fact = denied-shows;
   too_strong = λ h. (refuted-unmet looping
-      (guard_against looping (passes (Variable 0) ∷ []) (less (Variable 0) 1)) h).none one_zero refl fails-at-one;
+      (guard_with_failure looping (passes (Variable 0) ∷ []) (less (Variable 0) 1)) h).none one_zero refl fails-at-one;
   loop = λ h. (refuted-unmet looping (guard_along looping []) h).none one_zero refl loops-at-one;
 }

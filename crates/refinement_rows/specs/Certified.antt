@@ -1,4 +1,4 @@
--- Sections with certificates: multipliers show that each guard that has to be unmet has no point.
+-- Sections with certificates: multipliers show that each guard that has to be unsatisfiable has no point.
 use Rattle.std.specs.Prelude.{ℕ, List}
 use Rattle.refinement.specs.model.Programs.{Atom, Rule, Program}
 use Rattle.refinement.specs.Sections.{Section}
@@ -25,11 +25,11 @@ pub record Refutes (r : Rule) (atoms : List Atom) (multipliers : List ℕ) : Typ
   pub preparable : IsPreparable (with_guard r atoms)
   pub shows : Implies (rows_of (with_guard r atoms)) multipliers minus_one
 
--- some multipliers do
+-- some multipliers refute the atoms as the rule's guard
 pub record IsRefuted (r : Rule) (atoms : List Atom) : Type 0 where
   pub multipliers : List ℕ
   pub refutes : Refutes r atoms multipliers
 
--- a section is certified where each guard that has to be unmet is refuted
+-- a section is certified if each guard that has to be unsatisfiable is refuted
 abbrev pub IsCertified : Program → Section → Type 0
 IsCertified p section = IsShownBy IsRefuted p section

@@ -12,7 +12,7 @@ use Rattle.bound_text.specs.Texts.{text_of}
 use Rattle.bound_text.proofs.TextAnswers.{one_bound}
 use Rattle.report_text.specs.Reports.{bound_end, none_end}
 use Rattle.report_text.specs.Printable.{IsPrintableBound}
-use Rattle.report_text.proofs.TellingTexts.{same_front}
+use Rattle.report_text.proofs.DistinguishedTexts.{same_front}
 use Rattle.report_text.proofs.Digits.{is_plain, all_plain}
 use Rattle.report_text.proofs.SymbolNames.{name_plain, both_plain}
 
@@ -22,7 +22,7 @@ pub record IsLine (text : List ℕ) : Type 0 where
   pub plain : list_all is_plain words ≡ true
   pub ends : text ≡ words ++ codes "\n"
 
--- two lines that go on to the same are the same
+-- if two texts that begin with a line are the same, their first lines are the same
 pub lines_same : (x y : List ℕ) → IsLine x → IsLine y → (u v : List ℕ) → x ++ u ≡ y ++ v → (x ≡ y) × (u ≡ v)
 lines_same x y a b u v e =
     let lines : (a.words ++ codes "\n") ++ u ≡ (b.words ++ codes "\n") ++ v = ap (λ (w : List ℕ). w ++ u) (sym a.ends) ∙ (e ∙ ap (λ (w : List ℕ). w ++ v) b.ends) in
@@ -61,7 +61,7 @@ module _ (names : List Name) (are : AreNames names) where
   pub bound_line : (b : Bound) → IsLine (bound_end names b)
   bound_line b = record { words = text_of names b; plain = pieces_plain (pieces_of b); ends = refl }
 
-  -- one line, one bound
+  -- equal lines of printable bounds have equal bounds
   pub bound_same : (a b : Bound) → IsPrintableBound (length names) a → IsPrintableBound (length names) b → bound_end names a ≡ bound_end names b → a ≡ b
   bound_same a b p q e =
       let r = same_front is_plain (text_of names a) (text_of names b) (codes "\n") (codes "\n") (pieces_plain (pieces_of a)) (pieces_plain (pieces_of b)) refl refl e in

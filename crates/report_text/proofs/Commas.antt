@@ -5,14 +5,14 @@ use Rattle.std.specs.List.{list_all, AllByRecursion}
 use Rattle.std.proofs.lemmas.Bool.{and_parts}
 use Rattle.its_model.proofs.text_core.PrefixLaws.{Stops}
 use Rattle.report_text.specs.Pieces.{with_commas_before, with_commas}
-use Rattle.report_text.proofs.TellingTexts.{Determines}
+use Rattle.report_text.proofs.DistinguishedTexts.{Determines}
 use Rattle.report_text.proofs.Digits.{counts}
 
 -- the bytes of lists of numbers
 abbrev pub lists : ℕ → Bool
 lists b = counts b || (b == 44)
 
--- what ends a list ends a number
+-- a text that ends a list ends a number
 stops_number : (u : List ℕ) → Stops lists u → Stops counts u
 stops_number [] s = tt
 stops_number (c ∷ u) s = go (counts c) s
@@ -25,7 +25,7 @@ stops_number (c ∷ u) s = go (counts c) s
 no_comma : (u w : List ℕ) → Stops lists u → u ≡ 44 ∷ w → ⊥
 no_comma u w s e = let h : true ≡ false = subst (Stops lists) e s in cc
 
--- no byte of a number does
+-- no byte of a number follows a list
 no_byte : (u x w : List ℕ) → Stops lists u → 0 < length x → list_all counts x ≡ true → u ≡ x ++ w → ⊥
 no_byte u [] w s some all e = absurd (omega (arith, some))
 no_byte u (c ∷ x) w s some all e =
@@ -41,28 +41,28 @@ module _ {X : Type 0} {Fits : X → Type 0} {text : X → List ℕ} (determined 
   ends [] u s = stops_number u s
   ends (x ∷ xs) u s = refl
 
-  -- the elements behind the first
-  more_told : (xs ys : List X) (u v : List ℕ) → AllByRecursion Fits xs → AllByRecursion Fits ys → Stops lists u → Stops lists v
+  -- the elements after the first are determined
+  later_elements_determined : (xs ys : List X) (u v : List ℕ) → AllByRecursion Fits xs → AllByRecursion Fits ys → Stops lists u → Stops lists v
       → with_commas_before (map text xs) ++ u ≡ with_commas_before (map text ys) ++ v → (xs ≡ ys) × (u ≡ v)
-  more_told [] [] u v p q s t e = (refl, e)
-  more_told [] (y ∷ ys) u v p q s t e = absurd (no_comma u _ s e)
-  more_told (x ∷ xs) [] u v p q s t e = absurd (no_comma v _ t (sym e))
-  more_told (x ∷ xs) (y ∷ ys) u v p q s t e =
+  later_elements_determined [] [] u v p q s t e = (refl, e)
+  later_elements_determined [] (y ∷ ys) u v p q s t e = absurd (no_comma u _ s e)
+  later_elements_determined (x ∷ xs) [] u v p q s t e = absurd (no_comma v _ t (sym e))
+  later_elements_determined (x ∷ xs) (y ∷ ys) u v p q s t e =
       let r = determined.each x y (with_commas_before (map text xs) ++ u) (with_commas_before (map text ys) ++ v) p.0 q.0 (ends xs u s) (ends ys v t)
       (sym (append_assoc (text x) (with_commas_before (map text xs)) u) ∙ (ap (drop 2) e ∙ append_assoc (text y) (with_commas_before (map text ys)) v)) in
-      let l = more_told xs ys u v p.1 q.1 s t r.1 in
+      let l = later_elements_determined xs ys u v p.1 q.1 s t r.1 in
       (λ i. r.0 i ∷ l.0 i, l.1)
 
-  -- two lists with one text are one
-  all_told : (xs ys : List X) (u v : List ℕ) → AllByRecursion Fits xs → AllByRecursion Fits ys → Stops lists u → Stops lists v
+  -- two lists with one text are equal
+  list_elements_determined : (xs ys : List X) (u v : List ℕ) → AllByRecursion Fits xs → AllByRecursion Fits ys → Stops lists u → Stops lists v
       → with_commas (map text xs) ++ u ≡ with_commas (map text ys) ++ v → (xs ≡ ys) × (u ≡ v)
-  all_told [] [] u v p q s t e = (refl, e)
-  all_told [] (y ∷ ys) u v p q s t e =
+  list_elements_determined [] [] u v p q s t e = (refl, e)
+  list_elements_determined [] (y ∷ ys) u v p q s t e =
       absurd (no_byte u (text y) (with_commas_before (map text ys) ++ v) s (some y q.0) (counted y) (e ∙ append_assoc (text y) (with_commas_before (map text ys)) v))
-  all_told (x ∷ xs) [] u v p q s t e =
+  list_elements_determined (x ∷ xs) [] u v p q s t e =
       absurd (no_byte v (text x) (with_commas_before (map text xs) ++ u) t (some x p.0) (counted x) (sym e ∙ append_assoc (text x) (with_commas_before (map text xs)) u))
-  all_told (x ∷ xs) (y ∷ ys) u v p q s t e = more_told (x ∷ xs) (y ∷ ys) u v p q s t (ap (λ (w : List ℕ). codes ", " ++ w) e)
+  list_elements_determined (x ∷ xs) (y ∷ ys) u v p q s t e = later_elements_determined (x ∷ xs) (y ∷ ys) u v p q s t (ap (λ (w : List ℕ). codes ", " ++ w) e)
 
   -- a list is determined by its text
   pub list_determined : Determines (AllByRecursion Fits) (λ xs. with_commas (map text xs)) (Stops lists)
-  list_determined = record { each = all_told }
+  list_determined = record { each = list_elements_determined }

@@ -9,7 +9,7 @@ use Rattle.std.proofs.lemmas.Bool.{and_parts}
 use Rattle.std.proofs.lemmas.Bool.Decides.{nat_tests}
 use Rattle.its_model.proofs.text_core.PrefixLaws.{Stops}
 use Rattle.report_text.specs.Printable.{IsShort, IsShortSigned}
-use Rattle.report_text.proofs.TellingTexts.{Determines, same_front}
+use Rattle.report_text.proofs.DistinguishedTexts.{Determines, same_front}
 
 -- the bytes of numbers with a sign
 abbrev pub counts : ℕ → Bool
@@ -19,11 +19,11 @@ counts b = is_ascii_digit b || (b == 45)
 abbrev pub is_plain : ℕ → Bool
 is_plain b = not (b == 10)
 
--- the glyph of a digit is one
+-- the glyph of a digit is a digit
 glyph_digit : (d : ℕ) → d < 10 → is_ascii_digit (digit_glyph false d) ≡ true
 glyph_digit d h = grind (arith, nat_tests)
 
--- digits before digits
+-- digits put before digits are digits
 onto_digits : (k n : ℕ) (acc : List ℕ) → list_all is_ascii_digit acc ≡ true → list_all is_ascii_digit (digits_onto k 10 false n acc) ≡ true
 onto_digits zero n acc h = h
 onto_digits (suc k) n acc h =
@@ -41,7 +41,7 @@ pub all_digits : (n : ℕ) → list_all is_ascii_digit (decimal n) ≡ true
 unfolding digits
 all_digits n = onto_digits 64 n [] refl
 
--- a test that follows from another
+-- if all bytes pass a test that implies another, all pass the other one
 pub all_weaker : (p q : ℕ → Bool) → ((c : ℕ) → p c ≡ true → q c ≡ true) → (xs : List ℕ) → list_all p xs ≡ true → list_all q xs ≡ true
 all_weaker p q leads [] h = refl
 all_weaker p q leads (c ∷ xs) h =
@@ -77,16 +77,16 @@ pub signed_count : (z : ℤ) → list_all counts (signed_decimal z) ≡ true
 signed_count (pos n) = all_count n
 signed_count (negsuc n) = all_count (suc n)
 
--- it has a byte
+-- a numeral with a sign has a byte
 pub signed_some : (z : ℤ) → IsShortSigned z → 0 < length (signed_decimal z)
 signed_some (pos n) h = decimal_nonempty n h
 signed_some (negsuc n) h = omega arith
 
--- a numeral has no sign
+-- a numeral doesn't begin with a sign
 no_sign : (n : ℕ) (ds : List ℕ) → decimal n ≡ 45 ∷ ds → ⊥
 no_sign n ds e = let h : false ≡ true = subst (λ (xs : List ℕ). list_all is_ascii_digit xs ≡ true) e (all_digits n) in cc
 
--- one number, one numeral
+-- equal numerals with a sign are of equal numbers
 signed_one : (y z : ℤ) → IsShortSigned y → IsShortSigned z → signed_decimal y ≡ signed_decimal z → y ≡ z
 signed_one (pos m) (pos n) p q e = ap pos (decimal_injective m n p q e)
 signed_one (pos m) (negsuc n) p q e = absurd (no_sign m (decimal (suc n)) e)

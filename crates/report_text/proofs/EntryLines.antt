@@ -1,4 +1,4 @@
--- The lines of times, costs, sizes and the total determine the text behind the colon.
+-- The lines of times, costs, sizes and the total determine the text after the colon.
 use Rattle.std.proofs.Common.{◌≡◌, ℕ, ◌+◌, ◌^◌, ◌≤◌, Bool, true, false, cond, List, [], ◌∷◌, ◌++◌, length, get_or}
 use Rattle.std.proofs.Common.{codes, decimal, refl, ap, Option, Some, None, is_some, IsSome, arith}
 use Rattle.std.specs.Prelude.{⊤}
@@ -11,7 +11,7 @@ use Rattle.report_text.specs.Pieces.{place_text, numbered_lines}
 use Rattle.report_text.specs.Reports.{time_end, time_line, cost_end, cost_line, total_end, total_line}
 use Rattle.report_text.specs.Reports.{size_end, size_line, size_lines, bound_end, none_end}
 use Rattle.report_text.specs.Printable.{IsPrintableTotal}
-use Rattle.report_text.proofs.TellingTexts.{inside, inside_three, same_behind}
+use Rattle.report_text.proofs.DistinguishedTexts.{inside, inside_three, same_behind}
 use Rattle.report_text.proofs.BoundLines.{IsLine, lines_same, bound_line, bound_same, none_line}
 use Rattle.report_text.proofs.Numbered.{Pairs, pairs_any, numbered_determined}
 
@@ -22,11 +22,11 @@ headline_determined true false u v e = absurd (let no : 98 ≡ 117 = ap (λ (x :
 headline_determined false true u v e = absurd (let no : 117 ≡ 98 = ap (λ (x : List ℕ). get_or x 0 0) e in omega (arith, no))
 headline_determined false false u v e = (refl, same_behind (codes "unknown\n") u v e)
 
--- the lines of two times say the same
+-- the lines of two times have the same end
 abbrev pub SaySame : List Name → Time → Time → Type 0
 SaySame names t s = time_end names t ≡ time_end names s
 
--- the lines of two costs say the same, or neither has a line
+-- the lines of two costs have the same end, or neither has a line
 abbrev pub CostsSaySame : List Name → Option RuleCost → Option RuleCost → Type 0
 CostsSaySame names None None = ⊤
 CostsSaySame names None (Some d) = ⊥
@@ -37,11 +37,11 @@ CostsSaySame names (Some c) (Some d) = cost_end names c ≡ cost_end names d
 abbrev pub BothCost : Option RuleCost → Option RuleCost → Type 0
 BothCost c d = is_some c ≡ is_some d
 
--- the lines of two sizes say the same
+-- the lines of two sizes have the same end
 abbrev pub SizesSaySame : List Name → Size → Size → Type 0
 SizesSaySame names t s = size_end names t ≡ size_end names s
 
--- anything fits
+-- all elements have the trivial property
 all_fit : {X : Type 0} (xs : List X) → AllByRecursion (λ x. ⊤) xs
 all_fit [] = tt
 all_fit (x ∷ xs) = (tt, all_fit xs)
@@ -67,7 +67,7 @@ module _ (names : List Name) (are : AreNames names) where
   size_ends (Sized b) = bound_line names are b
   size_ends (Unsized w) = none_line
 
-  -- the lines of rules
+  -- the lines of rules determine their ends
   pub times_say : (ts ss : List Time) (u v : List ℕ) → length ts ≡ length ss → 1 + length ts ≤ 2 ^ 64 → numbered_lines (time_line names) 1 ts ++ u ≡ numbered_lines (time_line names) 1 ss ++ v
       → Pairs (SaySame names) ts ss × (u ≡ v)
   times_say ts ss u v same few e =
@@ -76,7 +76,7 @@ module _ (names : List Name) (are : AreNames names) where
       lines_same (time_end names t) (time_end names s) (time_ends t) (time_ends s) w z (inside_three (codes "time ") (decimal n) (codes ": ") (time_end names t) (time_end names s) w z d))
       (λ n m t w over short h. tt) 1 ts ss u v few (omega (arith, few, same)) (all_fit ts) (all_fit ss) (pairs_any ts ss same) (λ m. tt) (λ m. tt) e
 
-  -- the line of a rule's cost, where both have one or neither has
+  -- the line of a rule's cost determines its end, if both rules have a cost or neither has
   cost_step : (n : ℕ) (c d : Option RuleCost) (u v : List ℕ) → BothCost c d → cost_line names n c ++ u ≡ cost_line names n d ++ v
       → CostsSaySame names c d × (u ≡ v)
   cost_step n None None u v both e = (tt, e)
@@ -86,7 +86,7 @@ module _ (names : List Name) (are : AreNames names) where
       lines_same (cost_end names c) (cost_end names d) (cost_ends c) (cost_ends d) u v
       (inside_three (codes "cost ") (decimal n) (codes ": ") (cost_end names c) (cost_end names d) u v e)
 
-  -- the lines of all costs
+  -- the lines of all costs determine their ends
   pub costs_say : (cs ds : List (Option RuleCost)) (u v : List ℕ) → Pairs BothCost cs ds → 1 + length cs ≤ 2 ^ 64 → 1 + length ds ≤ 2 ^ 64
       → numbered_lines (cost_line names) 1 cs ++ u ≡ numbered_lines (cost_line names) 1 ds ++ v → Pairs (CostsSaySame names) cs ds × (u ≡ v)
   costs_say cs ds u v both few less e =
@@ -94,12 +94,12 @@ module _ (names : List Name) (are : AreNames names) where
       (λ n c d w z short p q like k l h. cost_step n c d w z like h)
       (λ n m c w over short h. tt) 1 cs ds u v few less (all_fit cs) (all_fit ds) both (λ m. tt) (λ m. tt) e
 
-  -- the line of the total
+  -- the line of the total determines its end
   pub total_says : (a b : Option Bound) (u v : List ℕ) → total_line names a ++ u ≡ total_line names b ++ v → (total_end names a ≡ total_end names b) × (u ≡ v)
   total_says a b u v e =
       lines_same (total_end names a) (total_end names b) (total_ends a) (total_ends b) u v (inside (codes "total: ") (total_end names a) (total_end names b) u v e)
 
-  -- the lines of places
+  -- the lines of places determine their ends
   pub places_say : (rule : ℕ) (ts ss : List Size) (u v : List ℕ) → length ts ≡ length ss → 1 + length ts ≤ 2 ^ 64 → size_lines names rule ts ++ u ≡ size_lines names rule ss ++ v
       → Pairs (SizesSaySame names) ts ss × (u ≡ v)
   places_say rule ts ss u v same few e =
@@ -108,7 +108,7 @@ module _ (names : List Name) (are : AreNames names) where
       lines_same (size_end names t) (size_end names s) (size_ends t) (size_ends s) w z (inside_three (codes "size ") (place_text rule n) (codes ": ") (size_end names t) (size_end names s) w z d))
       (λ n m t w over short h. tt) 1 ts ss u v few (omega (arith, few, same)) (all_fit ts) (all_fit ss) (pairs_any ts ss same) (λ m. tt) (λ m. tt) e
 
-  -- the lines of the places of all rules
+  -- the lines of the places of all rules determine their ends
   pub rows_say : (ts ss : List (List Size)) (u v : List ℕ) → Pairs (λ t s. length t ≡ length s) ts ss → AllByRecursion (λ t. 1 + length t ≤ 2 ^ 64) ts
       → AllByRecursion (λ t. 1 + length t ≤ 2 ^ 64) ss → 1 + length ts ≤ 2 ^ 64 → 1 + length ss ≤ 2 ^ 64
       → numbered_lines (size_lines names) 1 ts ++ u ≡ numbered_lines (size_lines names) 1 ss ++ v → Pairs (Pairs (SizesSaySame names)) ts ss × (u ≡ v)
@@ -117,7 +117,7 @@ module _ (names : List Name) (are : AreNames names) where
       (λ n t s w z short p q like k l d. places_say n t s w z like p d)
       (λ n m t w over short h. tt) 1 ts ss u v few less small also same (λ m. tt) (λ m. tt) e
 
--- totals whose lines say the same are the same, where both are there or neither is
+-- totals with equal ends of lines are equal, if both exist or neither does
 pub total_determined : (p : Program) → AreNames p.start_names → (a b : Option Bound) → IsPrintableTotal p a → IsPrintableTotal p b → (IsSome a → IsSome b) → (IsSome b → IsSome a)
     → total_end p.start_names a ≡ total_end p.start_names b → a ≡ b
 total_determined p are (Some a) (Some b) h k s t e = ap Some (bound_same p.start_names are a b h k e)

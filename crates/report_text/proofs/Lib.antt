@@ -1,9 +1,9 @@
 -- the lines of lists, one by one
 pub mod Lists
--- entries of an outcome as those of its report
+-- the entries of an outcome, and those of its report
 pub mod Entries
 -- texts that determine their subject: numbers, lists, points, limit hits, symbols' places, gaps and reasons
-pub mod TellingTexts
+pub mod DistinguishedTexts
 pub mod Digits
 pub mod Commas
 pub mod Points
@@ -16,7 +16,7 @@ pub mod Numbered
 pub mod BoundLines
 pub mod EntryLines
 pub mod WhyLines
--- a text states one report at most
+-- a text states at most one report
 pub mod OneReport
 -- small texts worked out by hand
 pub mod WorkedTexts

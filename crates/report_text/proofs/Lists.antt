@@ -1,4 +1,4 @@
--- The texts of the elements of a list, as a loop writes them: what is written and what is left make the whole.
+-- The texts of the elements of a list, as a loop writes them: the written text and the remaining one are the whole.
 use Rattle.std.proofs.Common.{◌≡◌, ℕ, suc, ◌+◌, ◌<◌, ◌≤◌, List, [], ◌∷◌, ◌++◌, length, map, drop, get_or, codes, refl}
 use Rattle.std.proofs.Common.{sym, ◌∙◌, ap, append_assoc, arith}
 use Rattle.std.proofs.lemmas.List.{append-nil, at_drop_more}
@@ -8,7 +8,7 @@ use Rattle.cert_types.specs.cert_rules.Gaps.{SymbolPlace}
 use Rattle.report_text.specs.Pieces.{with_commas_before, numbered_lines}
 use Rattle.report_text.specs.Reasons.{shut_line, shut_lines}
 
--- the text of one more element behind a comma
+-- the text of one more element after a comma
 pub goes_on_more : {X : Type 0} (f : X → List ℕ) (xs : List X) (i : ℕ) (d : X) (old new all : List ℕ) → i < length xs
     → old ++ with_commas_before (map f (drop i xs)) ≡ all → new ≡ (old ++ codes ", ") ++ f (get_or xs i d)
     → new ++ with_commas_before (map f (drop (i + 1) xs)) ≡ all
@@ -19,7 +19,7 @@ goes_on_more {X} f xs i d old new all lt inv e =
     ∙ (append_assoc (old ++ codes ", ") (f (get_or xs i d)) rest
     ∙ (append_assoc old (codes ", ") (f (get_or xs i d) ++ rest) ∙ (ap (λ (t : List ℕ). old ++ t) (sym step) ∙ inv)))
 
--- behind the last element the text with commas is whole
+-- after the last element the text with commas is whole
 pub goes_on_end : {X : Type 0} (f : X → List ℕ) (xs : List X) (i : ℕ) (old all : List ℕ) → length xs ≤ i
     → old ++ with_commas_before (map f (drop i xs)) ≡ all → old ≡ all
 goes_on_end {X} f xs i old all le inv =
@@ -36,14 +36,14 @@ shut_more {X} symbols f xs i d old new all lt inv e =
     ap (λ (t : List ℕ). t ++ rest) e
     ∙ (append_assoc old (shut_line symbols (f (get_or xs i d))) rest ∙ (ap (λ (t : List ℕ). old ++ t) (sym step) ∙ inv))
 
--- behind the last shut place the lines are complete
+-- after the last shut place the lines are complete
 pub shut_end : {X : Type 0} (symbols : List Symbol) (f : X → SymbolPlace) (xs : List X) (i : ℕ) (old all : List ℕ) → length xs ≤ i
     → old ++ shut_lines symbols (map f (drop i xs)) ≡ all → old ≡ all
 shut_end {X} symbols f xs i old all le inv =
     let step : shut_lines symbols (map f (drop i xs)) ≡ [] = ap (λ (ys : List X). shut_lines symbols (map f ys)) (drop_of_length-le xs le) in
     sym (append-nil old) ∙ (ap (λ (t : List ℕ). old ++ t) (sym step) ∙ inv)
 
--- the lines of one more element, by its number
+-- the lines with those of one element more, by its number
 pub numbered_more : {X : Type 0} (lines : ℕ → X → List ℕ) (xs : List X) (i : ℕ) (d : X) (old new all : List ℕ) → i < length xs
     → old ++ numbered_lines lines (i + 1) (drop i xs) ≡ all → new ≡ old ++ lines (i + 1) (get_or xs i d)
     → new ++ numbered_lines lines (i + 1 + 1) (drop (i + 1) xs) ≡ all
@@ -55,14 +55,14 @@ numbered_more {X} lines xs i d old new all lt inv e =
     ∙ (ap (λ (t : List ℕ). t ++ rest) e
     ∙ (append_assoc old (lines (i + 1) (get_or xs i d)) rest ∙ (ap (λ (t : List ℕ). old ++ t) (sym step) ∙ inv)))
 
--- behind the last element the lines by numbers are whole
+-- after the last element the lines by numbers are whole
 pub numbered_end : {X : Type 0} (lines : ℕ → X → List ℕ) (xs : List X) (i : ℕ) (old all : List ℕ) → length xs ≤ i
     → old ++ numbered_lines lines (i + 1) (drop i xs) ≡ all → old ≡ all
 numbered_end {X} lines xs i old all le inv =
     let step : numbered_lines lines (i + 1) (drop i xs) ≡ [] = ap (λ (ys : List X). numbered_lines lines (i + 1) ys) (drop_of_length-le xs le) in
     sym (append-nil old) ∙ (ap (λ (t : List ℕ). old ++ t) (sym step) ∙ inv)
 
--- elements whose lines are those of what is seen of them
+-- elements have the same lines as their plain data
 pub numbered_same : {X Y : Type 0} (f : ℕ → X → List ℕ) (g : ℕ → Y → List ℕ) (view : X → Y) → ((n : ℕ) (x : X) → f n x ≡ g n (view x))
     → (n : ℕ) (xs : List X) → numbered_lines f n xs ≡ numbered_lines g n (map view xs)
 numbered_same f g view same n [] = refl
@@ -70,7 +70,7 @@ numbered_same f g view same n (x ∷ xs) =
     ap (λ (t : List ℕ). t ++ numbered_lines f (suc n) xs) (same n x)
     ∙ ap (λ (t : List ℕ). g n (view x) ++ t) (numbered_same f g view same (suc n) xs)
 
--- the lines of one more row
+-- the lines with those of one row more
 pub rows_more : {R X : Type 0} (rows : List R) (items : R → List X) (line : ℕ → ℕ → X → List ℕ) (i : ℕ) (d : R) (row : List X)
     (old new all : List ℕ) → i < length rows → old ++ numbered_lines (λ n r. numbered_lines (line n) 1 (items r)) (i + 1) (drop i rows) ≡ all
     → row ≡ items d → d ≡ get_or rows i d → new ≡ old ++ numbered_lines (line (i + 1)) 1 row

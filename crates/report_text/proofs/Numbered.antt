@@ -13,7 +13,7 @@ Pairs R [] (y ∷ ys) = ⊥
 Pairs R (x ∷ xs) [] = ⊥
 Pairs R (x ∷ xs) (y ∷ ys) = R x y × Pairs R xs ys
 
--- elements that are the same make the same list
+-- if the elements of two lists are equal in pairs, the lists are equal
 pub pairs_same : {X : Type 0} (xs ys : List X) → Pairs (λ x y. x ≡ y) xs ys → xs ≡ ys
 pairs_same [] [] same = refl
 pairs_same [] (y ∷ ys) same = absurd same
@@ -30,14 +30,14 @@ pairs_any (x ∷ xs) (y ∷ ys) e = (tt, pairs_any xs ys (omega (arith, e)))
 module _ {X : Type 0} (Fits : X → Type 0) (Alike Same : X → X → Type 0) (Later : ℕ → List ℕ → Type 0) (line : ℕ → X → List ℕ)
     (step : (n : ℕ) (x y : X) (u v : List ℕ) → n < 2 ^ 64 → Fits x → Fits y → Alike x y → Later n u → Later n v → line n x ++ u ≡ line n y ++ v → Same x y × (u ≡ v))
     (later : (n m : ℕ) (x : X) (u : List ℕ) → n < m → m < 2 ^ 64 → Later n u → Later n (line m x ++ u)) where
-  -- what follows the line of a number is later than it
+  -- what follows the line of a number begins with that of a later one
   pub later_lines : (n m : ℕ) (xs : List X) (u : List ℕ) → n < m → m + length xs ≤ 2 ^ 64 → Later n u → Later n (numbered_lines line m xs ++ u)
   later_lines n m [] u over few h = h
   later_lines n m (x ∷ xs) u over few h =
       subst (Later n) (sym (append_assoc (line m x) (numbered_lines line (suc m) xs) u))
       (later n m x (numbered_lines line (suc m) xs ++ u) over (omega (arith, few)) (later_lines n (suc m) xs u (omega (arith, over)) (omega (arith, few)) h))
 
-  -- all of the lines
+  -- the lines of all elements are determined
   pub numbered_determined : (n : ℕ) (xs ys : List X) (u v : List ℕ) → n + length xs ≤ 2 ^ 64 → n + length ys ≤ 2 ^ 64 → AllByRecursion Fits xs → AllByRecursion Fits ys → Pairs Alike xs ys
       → ((m : ℕ) → Later m u) → ((m : ℕ) → Later m v) → numbered_lines line n xs ++ u ≡ numbered_lines line n ys ++ v → Pairs Same xs ys × (u ≡ v)
   numbered_determined n [] [] u v a b p q like s t e = (tt, e)

@@ -26,7 +26,7 @@ arity_small [] s are = omega arith
 arity_small (x ∷ symbols) zero are = let few = are.0.arity in omega (arith, few)
 arity_small (x ∷ symbols) (suc s) are = arity_small symbols s are.1
 
--- the rows of sizes have one entry for each place of a target
+-- the rows of sizes have an entry for each place of a target
 abbrev HasPlaces : Program → List (List Size) → List Rule → Type 0
 HasPlaces p rows rules = map length rows ≡ map (λ rule. arity_of p rule.target) rules
 
@@ -57,7 +57,7 @@ rows_many p [] (rule ∷ rules) e = absurd cc
 rows_many p (row ∷ rows) [] e = absurd cc
 rows_many p (row ∷ rows) (rule ∷ rules) e = ap suc (rows_many p rows rules (ap (drop 1) e))
 
--- entries that fit, and short rows, are rows that fit
+-- rows of entries that fit, if they are short, fit
 rows_fit : (p : Program) (rows : List (List Size)) → AllByRecursion (AllByRecursion (IsPrintableSize p)) rows → AllByRecursion (λ row. 1 + length row ≤ 2 ^ 64) rows → AllByRecursion (FitsRow p) rows
 rows_fit p [] f g = tt
 rows_fit p (row ∷ rows) f g = ((f.0, g.0), rows_fit p rows f.1 g.1)
@@ -73,7 +73,7 @@ costs_paired (c ∷ cs) (d ∷ ds) e = (ap (λ (bs : List Bool). get_or bs 0 (is
 costs_many : (cs : List (Option RuleCost)) (rules : List Rule) → map is_some cs ≡ map (λ rule. is_some rule.cost) rules → length cs ≡ length rules
 costs_many cs rules e = sym (length-map cs is_some) ∙ (ap length e ∙ length-map rules (λ rule. is_some rule.cost))
 
--- the lines of a text, one part behind the other
+-- the lines of a text, one part after the other
 laid_out : (a b c d e w x s : List ℕ) → (a ++ (b ++ (c ++ (d ++ e)))) ++ (w ++ (x ++ s)) ≡ a ++ (b ++ (c ++ (d ++ (e ++ (w ++ (x ++ s))))))
 laid_out a b c d e w x s =
     let more = w ++ (x ++ s) in
@@ -94,7 +94,7 @@ parts_of p r =
 
 -- the lines of sizes determine them: the two entries of each pair are the same, they are printable, and the rest of the
 -- text is the same
-record SizesTold (p : Program) (rs ss : List (List Size)) (u v : List ℕ) : Type 0 where
+record SizesAreDetermined (p : Program) (rs ss : List (List Size)) (u v : List ℕ) : Type 0 where
   pub say : Pairs (Pairs (SizesSaySame p.start_names)) rs ss
   pub left : AllByRecursion (FitsRow p) rs
   pub right : AllByRecursion (FitsRow p) ss
@@ -115,15 +115,15 @@ module _ (p : Program) (valid : IsValid p) where
   abbrev reasons : Report → List ℕ
   reasons r = numbered_lines (why_time p.symbols) 1 r.times ++ (numbered_lines why_cost 1 r.costs ++ numbered_lines why_sizes 1 r.sizes)
 
-  -- as many lines as rules are few
+  -- the lines of rules are few
   few_lines : (n : ℕ) → n ≡ length p.rules → 1 + n ≤ 2 ^ 64
   few_lines n e = let few = valid.few_rules in omega (arith, few, e)
 
-  -- the sizes of two reports
-  rows_told : (r q : Report) → IsPrintableReport p r → IsPrintableReport p q → HasPlaces p r.sizes p.rules → HasPlaces p q.sizes p.rules
+  -- the sizes of two reports with one text are the same
+  size_rows_determined : (r q : Report) → IsPrintableReport p r → IsPrintableReport p q → HasPlaces p r.sizes p.rules → HasPlaces p q.sizes p.rules
       → numbered_lines (size_lines p.start_names) 1 r.sizes ++ reasons r ≡ numbered_lines (size_lines p.start_names) 1 q.sizes ++ reasons q
-      → SizesTold p r.sizes q.sizes (reasons r) (reasons q)
-  rows_told r q f g a b e =
+      → SizesAreDetermined p r.sizes q.sizes (reasons r) (reasons q)
+  size_rows_determined r q f g a b e =
       let left = rows_short p valid r.sizes p.rules a in
       let right = rows_short p valid q.sizes p.rules b in
       let few = few_lines (length r.sizes) (rows_many p r.sizes p.rules a) in
@@ -131,7 +131,7 @@ module _ (p : Program) (valid : IsValid p) where
       let said = rows_say p.start_names starts r.sizes q.sizes (reasons r) (reasons q) (rows_paired p r.sizes q.sizes p.rules a b) left right few less e in
       record { say = said.0; left = rows_fit p r.sizes f.sizes left; right = rows_fit p q.sizes g.sizes right; few = few; less = less; rest = said.1 }
 
-  -- two reports with one text are one
+  -- two reports with one text are equal
   same_report : (text : List ℕ) (r q : Report) → IsPrintableReport p r → IsPrintableReport p q → States p text r → States p text q → r ≡ q
   same_report text r q f g s t =
       let names = p.start_names in
@@ -147,7 +147,7 @@ module _ (p : Program) (valid : IsValid p) where
       let less_costs = few_lines (length q.costs) (costs_many q.costs p.rules t.report.costs) in
       let paid = costs_say names starts r.costs q.costs (total r) (total q) (costs_paired r.costs q.costs (s.report.costs ∙ sym t.report.costs)) few_costs less_costs said.1 in
       let summed = total_says names starts r.total q.total (sizes r) (sizes q) paid.1 in
-      let rows = rows_told r q f g s.report.sizes t.report.sizes summed.1 in
+      let rows = size_rows_determined r q f g s.report.sizes t.report.sizes summed.1 in
       let why = why_times_determined p starts named r.times q.times (numbered_lines why_cost 1 r.costs ++ numbered_lines why_sizes 1 r.sizes)
       (numbered_lines why_cost 1 q.costs ++ numbered_lines why_sizes 1 q.sizes) few less f.times g.times said.0
       (λ n. others_no_time n r.costs r.sizes) (λ n. others_no_time n q.costs q.sizes) rows.rest in
@@ -160,6 +160,6 @@ module _ (p : Program) (valid : IsValid p) where
       (λ there. t.report.total.0 (sym known ∙ s.report.total.1 there)) (λ there. s.report.total.0 (known ∙ t.report.total.1 there)) summed.0 in
       λ i. record { times = why.0 i; costs = why_costs.0 i; total = whole i; sizes = places i }
 
--- a text states one report at most
+-- a text states at most one report
 pub one_report : TextsStateOneReport
 one_report = record { each = λ p text r q valid f g s t. same_report p valid text r q f g s t }

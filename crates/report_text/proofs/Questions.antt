@@ -7,15 +7,15 @@ use Rattle.farkas_cert.specs.linear_forms.declared.limit_cause.LimitCause.{Limit
 use Rattle.farkas_cert.specs.linear_forms.declared.limit_cause.LimitCause.TheVariants as causes
 use Rattle.report_text.specs.Reasons.{question_text, cause_text, limit_hit_text, large_text}
 use Rattle.report_text.specs.Printable.{IsShort, IsPrintableQuestion, IsPrintableCause, IsPrintableLimitHit}
-use Rattle.report_text.proofs.TellingTexts.{Determines, Any, determined_behind, determined_before, determined_both, same_behind}
+use Rattle.report_text.proofs.DistinguishedTexts.{Determines, Any, determined_behind, determined_before, determined_both, same_behind}
 use Rattle.report_text.proofs.Digits.{counts, number_determined}
 use Rattle.report_text.proofs.Points.{pair_determined}
 
--- a number behind a word
+-- a number after a word is determined by its text
 worded : (w : List ℕ) → Determines IsShort (λ n. w ++ decimal n) (Stops counts)
 worded w = determined_behind number_determined w
 
--- a number between two words
+-- a number between two words is determined by its text
 counted : (w c : List ℕ) → ((u : List ℕ) → Stops counts (c ++ u)) → Determines IsShort (λ n. w ++ (decimal n ++ c)) Any
 counted w c stops = determined_behind (determined_before number_determined c Any (λ u s. stops u)) w
 
@@ -33,7 +33,7 @@ first_of_cause (causes.Budget pivots) = 98
 first_of_cause (causes.Wide entries) = 119
 first_of_cause causes.Scale = 115
 
--- it is the first of its text
+-- the first byte of a question is the first one of its text
 first_is : (q : Question) (u : List ℕ) → get_or (question_text q ++ u) 0 0 ≡ first_of q
 first_is (questions.Empty rule) u = refl
 first_is (questions.Rank rule) u = refl
@@ -47,7 +47,7 @@ first_cause_is (causes.Budget pivots) u = refl
 first_cause_is (causes.Wide entries) u = refl
 first_cause_is causes.Scale u = refl
 
--- one text, one question
+-- two questions with one text are equal
 question_one : (x y : Question) (u v : List ℕ) → IsPrintableQuestion x → IsPrintableQuestion y → Stops counts u → Stops counts v
     → question_text x ++ u ≡ question_text y ++ v → first_of x ≡ first_of y → (x ≡ y) × (u ≡ v)
 question_one (questions.Empty a) (questions.Empty b) u v p q s t e k = let r = (worded (codes "empty ")).each a b u v p q s t e in (ap questions.Empty r.0, r.1)
@@ -58,13 +58,13 @@ question_one (questions.Local a i) (questions.Local b j) u v p q s t e k =
 question_one (questions.Cost a) (questions.Cost b) u v p q s t e k = let r = (worded (codes "cost ")).each a b u v p q s t e in (ap questions.Cost r.0, r.1)
 question_one x y u v p q s t e k = absurd (omega (arith, k))
 
--- the question of a linear program
+-- the question of a linear program is determined by its text
 pub question_determined : Determines IsPrintableQuestion question_text (Stops counts)
 question_determined = record {
   each = λ x y u v p q s t e. question_one x y u v p q s t e (sym (first_is x u) ∙ (ap (λ (w : List ℕ). get_or w 0 0) e ∙ first_is y v));
 }
 
--- one text, one limit
+-- two limits with one text are equal
 cause_one : (x y : LimitCause) (u v : List ℕ) → IsPrintableCause x → IsPrintableCause y → Stops counts u → Stops counts v
     → cause_text x ++ u ≡ cause_text y ++ v → first_of_cause x ≡ first_of_cause y → (x ≡ y) × (u ≡ v)
 cause_one (causes.Range a) (causes.Range b) u v p q s t e k = let r = (worded (codes "range at pivot ")).each a b u v p q s t e in (ap causes.Range r.0, r.1)
@@ -77,13 +77,13 @@ cause_one (causes.Wide a) (causes.Wide b) u v p q s t e k =
 cause_one causes.Scale causes.Scale u v p q s t e k = (refl, same_behind (codes "scale") u v e)
 cause_one x y u v p q s t e k = absurd (omega (arith, k))
 
--- the limit that it passed
+-- the limit that a linear program exceeded is determined by its text
 pub cause_determined : Determines IsPrintableCause cause_text (Stops counts)
 cause_determined = record {
   each = λ x y u v p q s t e. cause_one x y u v p q s t e (sym (first_cause_is x u) ∙ (ap (λ (w : List ℕ). get_or w 0 0) e ∙ first_cause_is y v));
 }
 
--- both
+-- a limit hit, the limit with its question, is determined by its text
 pub limit_hit_determined : Determines IsPrintableLimitHit limit_hit_text (Stops counts)
 limit_hit_determined =
     let both : Determines (λ (z : Question × LimitCause). IsPrintableQuestion z.0 × IsPrintableCause z.1) (λ (z : Question × LimitCause). question_text z.0 ++ (codes " " ++ cause_text z.1)) (Stops counts) =
@@ -94,6 +94,6 @@ limit_hit_determined =
           (ap (λ (z : Question × LimitCause). record { question = z.0; cause = z.1 }) r.0, r.1);
     }
 
--- the number of nodes of a bound that is too large
+-- the number of nodes of a large bound is determined by its text
 pub large_determined : Determines IsShort large_text Any
 large_determined = counted (codes "large ") (codes " nodes") (λ w. refl)

@@ -16,18 +16,18 @@ use Rattle.report_text.specs.Reasons.{question_text, cause_text, limit_hit_text,
 use Rattle.report_text.specs.Reasons.{no_size_text}
 use Rattle.report_text.specs.Printable.{IsShort, IsShortSigned, IsPrintablePoint, IsPrintableLimitHit, IsPrintableResultVariable}
 use Rattle.report_text.specs.Printable.{IsPrintableNoTime, IsPrintableNoSize}
-use Rattle.report_text.proofs.TellingTexts.{Determines, Any, determined_behind, determined_before, determined_both, same_behind}
+use Rattle.report_text.proofs.DistinguishedTexts.{Determines, Any, determined_behind, determined_before, determined_both, same_behind}
 use Rattle.report_text.proofs.Digits.{number_determined}
 use Rattle.report_text.proofs.Points.{parts_determined, point_determined, result_variable_determined}
 use Rattle.report_text.proofs.Questions.{limit_hit_determined, large_determined}
 use Rattle.report_text.proofs.SymbolNames.{names_of}
 use Rattle.report_text.proofs.GapLines.{Whys, gap_determined}
 
--- a limit hit at the end of a line
+-- a limit hit at the end of a line is determined
 ended_limit_hit : Determines IsPrintableLimitHit (λ t. limit_hit_text t ++ codes "\n") Any
 ended_limit_hit = determined_before limit_hit_determined (codes "\n") Any (λ u s. refl)
 
--- a number of nodes at the end of a line
+-- a number of nodes at the end of a line is determined
 ended_large : Determines IsShort (λ n. large_text n ++ codes "\n") Any
 ended_large = determined_before large_determined (codes "\n") Any (λ u s. tt)
 
@@ -88,7 +88,7 @@ size_kind_is (SizeNonlinear s) u = refl
 size_kind_is (SizeUntimed rule) u = refl
 size_kind_is (SizeLarge nodes) u = refl
 
--- why a time is missing
+-- the reason why a time is missing is determined by its text
 pub no_time_determined : (symbols : List Symbol) → AreNames (names_of symbols) → Determines (IsPrintableNoTime (length symbols)) (no_time_text symbols) Whys
 no_time_determined symbols are = record { each = λ x y u v p q s t e. go x y u v p q s t e (sym (time_kind_is symbols x u) ∙ (ap time_kind e ∙ time_kind_is symbols y v)) }
   where
@@ -104,26 +104,26 @@ unbounded_determined : Determines (λ (z : List ℤ × ScaledPoint). AllByRecurs
     (λ (z : List ℤ × ScaledPoint). codes "  ray: " ++ (parts_text z.0 ++ (codes "\n  kept: " ++ (point_text z.1 ++ codes "\n")))) Any
 unbounded_determined = determined_behind (determined_both parts_determined (determined_behind (determined_before point_determined (codes "\n") Any (λ u s. refl)) (codes "\n  kept: ")) (λ p u fits after. tt)) (codes "  ray: ")
 
--- two sides with one text are one
+-- two sides with one text are equal
 side_one : (x y : Side) (u v : List ℕ) → side_text x ++ u ≡ side_text y ++ v → (x ≡ y) × (u ≡ v)
 side_one Up Up u v e = (refl, same_behind (codes "loose up\n") u v e)
 side_one Low Low u v e = (refl, same_behind (codes "loose low\n") u v e)
 side_one Up Low u v e = absurd (let no : 117 ≡ 108 = ap (λ (x : List ℕ). get_or x 6 0) e in omega (arith, no))
 side_one Low Up u v e = absurd (let no : 108 ≡ 117 = ap (λ (x : List ℕ). get_or x 6 0) e in omega (arith, no))
 
--- which side of a place is unbounded
+-- the unbounded side of a place is determined by its text
 side_determined : Determines (λ (x : Side). ⊤) side_text Any
 side_determined = record { each = λ x y u v p q s t e. side_one x y u v e }
 
--- a result variable after a word, at the end of a line
+-- a result variable after a word, at the end of a line, is determined
 spotted : (w : List ℕ) → Determines IsPrintableResultVariable (λ s. w ++ (result_variable_text s ++ codes "\n")) Any
 spotted w = determined_behind (determined_before result_variable_determined (codes "\n") Any (λ u s. refl)) w
 
--- a rule behind a word, at the end of a line
+-- a rule after a word, at the end of a line, is determined
 ruled : (w : List ℕ) → Determines IsShort (λ n. w ++ (decimal n ++ codes "\n")) Any
 ruled w = determined_behind (determined_before number_determined (codes "\n") Any (λ u s. refl)) w
 
--- why a size is missing
+-- the reason why a size is missing is determined by its text
 pub no_size_determined : Determines IsPrintableNoSize no_size_text Any
 no_size_determined = record { each = λ x y u v p q s t e. go x y u v p q e (sym (size_kind_is x u) ∙ (ap size_kind e ∙ size_kind_is y v)) }
   where

@@ -16,14 +16,14 @@ use Rattle.its_model.specs.Valid.{IsValidSymbol}
 use Rattle.cert_types.specs.cert_rules.Gaps.{SymbolPlace}
 use Rattle.report_text.specs.Reasons.{name_in, shut_line}
 use Rattle.report_text.specs.Printable.{IsPrintablePlace}
-use Rattle.report_text.proofs.TellingTexts.{Determines, Any, same_front, inside}
+use Rattle.report_text.proofs.DistinguishedTexts.{Determines, Any, same_front, inside}
 use Rattle.report_text.proofs.Digits.{is_plain, all_weaker, all_digits, all_plain}
 
 -- the names of symbols
 abbrev pub names_of : List Symbol → List Name
 names_of symbols = map (λ s. s.name) symbols
 
--- names that differ are names that all differ
+-- names in order without repetition are names of which each two differ
 pub are_names : (names : List Name) → AllByRecursion IsName names → AreDistinct names → AreNames names
 are_names [] are differ = tt
 are_names (n ∷ names) are differ = (are.0, differ.0, are_names names are.1 differ.1)
@@ -33,7 +33,7 @@ pub valid_names : (symbols : List Symbol) → AllByRecursion IsValidSymbol symbo
 valid_names [] are = tt
 valid_names (s ∷ symbols) are = (are.0.name, valid_names symbols are.1)
 
--- the bytes of a name are no line feed
+-- no byte of a name is a line feed
 byte_plain : (c : ℕ) → continues_name c ≡ true → is_plain c ≡ true
 byte_plain c h = grind (arith, nat_tests)
 
@@ -46,16 +46,16 @@ pub name_plain : (w : Name) → IsName w → list_all is_plain w ≡ true
 name_plain [] is = absurd is
 name_plain (c ∷ w) is = rw (first_plain c is.0, all_weaker continues_name is_plain byte_plain w is.1) refl
 
--- two plain texts
+-- two plain texts are plain together
 pub both_plain : (xs ys : List ℕ) → list_all is_plain xs ≡ true → list_all is_plain ys ≡ true → list_all is_plain (xs ++ ys) ≡ true
 both_plain xs ys p q = list_all-append is_plain xs ys ∙ rw (p, q) refl
 
--- digits hold no dot
+-- digits have no dot
 no_dot : (xs ys : List ℕ) → list_all is_ascii_digit (xs ++ 46 ∷ ys) ≡ true → ⊥
 no_dot [] ys h = cc
 no_dot (c ∷ xs) ys h = no_dot xs ys (and_parts (is_ascii_digit c) (list_all is_ascii_digit (xs ++ 46 ∷ ys)) h).1
 
--- the last dot has one position
+-- the position of the last dot is unique
 last_dot : (xs ys ds es : List ℕ) → list_all is_ascii_digit ds ≡ true → list_all is_ascii_digit es ≡ true → xs ++ 46 ∷ ds ≡ ys ++ 46 ∷ es → (xs ≡ ys) × (ds ≡ es)
 last_dot [] [] ds es p q e = (refl, ap (drop 1) e)
 last_dot [] (c ∷ ys) ds es p q e = absurd (no_dot ys es (subst (λ (w : List ℕ). list_all is_ascii_digit w ≡ true) (ap (drop 1) e) p))
@@ -64,7 +64,7 @@ last_dot (c ∷ xs) (d ∷ ys) ds es p q e =
     let r = last_dot xs ys ds es p q (ap (drop 1) e) in
     (λ i. ap (λ (w : List ℕ). get_or w 0 0) e i ∷ r.0 i, r.1)
 
--- the name of a symbol is listed
+-- the name of a symbol is the listed one
 name_same : (symbols : List Symbol) (i : ℕ) → name_in (slice_get symbols i) ≡ slice_index_or (names_of symbols) i []
 name_same [] zero = refl
 name_same [] (suc i) = refl
@@ -91,18 +91,18 @@ module _ (symbols : List Symbol) (are : AreNames (names_of symbols)) where
       (ap (list_all is_plain) (name_same symbols s.symbol) ∙ name_plain (slice_index_or (names_of symbols) s.symbol []) (listed_name (names_of symbols) s.symbol are (listed s p)))
       (all_plain s.place)
 
-  -- the line is it
+  -- the line of a shut place has this text
   line_body : (s : SymbolPlace) → shut_line symbols s ≡ codes "  shut " ++ (body s ++ codes "\n")
   line_body s = ap (λ (w : List ℕ). codes "  shut " ++ w) (sym (append_assoc (name s) (46 ∷ decimal s.place) (codes "\n")))
 
-  -- one name, one symbol
+  -- places with one name have one symbol
   symbol_same : (x y : SymbolPlace) → IsPrintablePlace (length symbols) x → IsPrintablePlace (length symbols) y → name x ≡ name y → x.symbol ≡ y.symbol
   symbol_same x y p q e =
       sym (position_at (names_of symbols) x.symbol are (listed x p))
       ∙ (ap (λ (w : Name). position_of w (names_of symbols)) (sym (name_same symbols x.symbol) ∙ (e ∙ name_same symbols y.symbol))
       ∙ position_at (names_of symbols) y.symbol are (listed y q))
 
-  -- the line of a shut place
+  -- a shut place is determined by its line
   pub shut_determined : Determines (IsPrintablePlace (length symbols)) (shut_line symbols) Any
   shut_determined = record {
     each = λ x y u v p q s t e.

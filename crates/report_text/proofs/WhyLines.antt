@@ -11,7 +11,7 @@ use Rattle.report_text.specs.Pieces.{place_text, numbered_lines}
 use Rattle.report_text.specs.Reasons.{no_time_text, no_size_text}
 use Rattle.report_text.specs.Reports.{why_time, why_cost, why_size, why_sizes}
 use Rattle.report_text.specs.Printable.{IsShort, IsPrintableTime, IsPrintableCost, IsPrintableSize}
-use Rattle.report_text.proofs.TellingTexts.{Determines, Any, determined_before, same_behind, inside, inside_three}
+use Rattle.report_text.proofs.DistinguishedTexts.{Determines, Any, determined_before, same_behind, inside, inside_three}
 use Rattle.report_text.proofs.Digits.{counts, number_determined}
 use Rattle.report_text.proofs.Points.{pair_determined}
 use Rattle.report_text.proofs.SymbolNames.{names_of}
@@ -21,28 +21,28 @@ use Rattle.report_text.proofs.BoundLines.{bound_same}
 use Rattle.report_text.proofs.EntryLines.{SaySame, CostsSaySame, SizesSaySame}
 use Rattle.report_text.proofs.Numbered.{Pairs, pairs_same, numbered_determined}
 
--- nothing follows, or a reason that doesn't begin like this
+-- nothing follows, or a reason that doesn't begin with this text
 pub record IsLater (lead u : List ℕ) : Type 0 where
   pub whys : Whys u
   pub no : (w : List ℕ) → u ≡ lead ++ w → ⊥
 
--- what the reason of a rule begins with
+-- the beginning of the reason of a rule
 abbrev pub time_lead : ℕ → List ℕ
 time_lead n = codes "why time " ++ (decimal n ++ codes ": ")
 
--- what the reason of a rule's cost begins with
+-- the beginning of the reason of a rule's cost
 abbrev pub cost_lead : ℕ → List ℕ
 cost_lead n = codes "why cost " ++ (decimal n ++ codes ": ")
 
--- what the reason of a place begins with
+-- the beginning of the reason of a place
 abbrev pub place_lead : ℕ → ℕ → List ℕ
 place_lead rule n = codes "why size " ++ (place_text rule n ++ codes ": ")
 
--- what the reason of any place of a rule begins with
+-- the beginning of the reason of any place of a rule
 abbrev pub row_lead : ℕ → List ℕ
 row_lead n = codes "why size " ++ (decimal n ++ codes ".")
 
--- a text begins with the three that come before the last one
+-- a text begins with its first three parts
 begins : (a b c x u : List ℕ) → (a ++ (b ++ (c ++ x))) ++ u ≡ (a ++ (b ++ c)) ++ (x ++ u)
 begins a b c x u =
     append_assoc a (b ++ (c ++ x)) u
@@ -56,7 +56,7 @@ lead_key {K} {Fits} {key} determined a k l p q x y e =
     ((determined_before determined (codes ": ") Any (λ u s. refl)).each k l x y p q tt tt (inside a (key k ++ codes ": ") (key l ++ codes ": ") x y e)).0
 
 module _ (p : Program) (are : AreNames p.start_names) (named : AreNames (names_of p.symbols)) where
-  -- why the times of two rules are missing, if they are
+  -- the reasons why the times of two rules are missing, if they are, are the same
   time_step : (n : ℕ) (t s : Time) (u v : List ℕ) → n < 2 ^ 64 → IsPrintableTime p t → IsPrintableTime p s → SaySame p.start_names t s
       → IsLater (time_lead n) u → IsLater (time_lead n) v → why_time p.symbols n t ++ u ≡ why_time p.symbols n s ++ v → (t ≡ s) × (u ≡ v)
   time_step n (Timed a) (Timed b) u v short f g like k l e = (ap Timed (bound_same p.start_names are a b f g like), e)
@@ -78,7 +78,7 @@ module _ (p : Program) (are : AreNames p.start_names) (named : AreNames (names_o
         omega (arith, over, same);
   }
 
-  -- why all times are missing that are
+  -- the reasons of all missing times are determined
   pub why_times_determined : (ts ss : List Time) (u v : List ℕ) → 1 + length ts ≤ 2 ^ 64 → 1 + length ss ≤ 2 ^ 64 → AllByRecursion (IsPrintableTime p) ts → AllByRecursion (IsPrintableTime p) ss
       → Pairs (SaySame p.start_names) ts ss → ((n : ℕ) → IsLater (time_lead n) u) → ((n : ℕ) → IsLater (time_lead n) v)
       → numbered_lines (why_time p.symbols) 1 ts ++ u ≡ numbered_lines (why_time p.symbols) 1 ss ++ v → (ts ≡ ss) × (u ≡ v)
@@ -86,7 +86,7 @@ module _ (p : Program) (are : AreNames p.start_names) (named : AreNames (names_o
       let r = numbered_determined (IsPrintableTime p) (SaySame p.start_names) (λ t s. t ≡ s) (λ n w. IsLater (time_lead n) w) (why_time p.symbols) time_step time_later 1 ts ss u v few less f g like k l e in
       (pairs_same ts ss r.0, r.1)
 
-  -- why the bounds on two rules' costs are missing, if they are
+  -- the reasons why the bounds on two rules' costs are missing, if they are, are the same
   cost_step : (n : ℕ) (c d : Option RuleCost) (u v : List ℕ) → n < 2 ^ 64 → IsPrintableCost p c → IsPrintableCost p d → CostsSaySame p.start_names c d
       → IsLater (cost_lead n) u → IsLater (cost_lead n) v → why_cost n c ++ u ≡ why_cost n d ++ v → (c ≡ d) × (u ≡ v)
   cost_step n None None u v short f g like k l e = (refl, e)
@@ -111,7 +111,7 @@ module _ (p : Program) (are : AreNames p.start_names) (named : AreNames (names_o
         omega (arith, over, same);
   }
 
-  -- why all bounds on costs are missing that are
+  -- the reasons of all missing bounds on costs are determined
   pub why_costs_determined : (cs ds : List (Option RuleCost)) (u v : List ℕ) → 1 + length cs ≤ 2 ^ 64 → 1 + length ds ≤ 2 ^ 64 → AllByRecursion (IsPrintableCost p) cs → AllByRecursion (IsPrintableCost p) ds
       → Pairs (CostsSaySame p.start_names) cs ds → ((n : ℕ) → IsLater (cost_lead n) u) → ((n : ℕ) → IsLater (cost_lead n) v)
       → numbered_lines why_cost 1 cs ++ u ≡ numbered_lines why_cost 1 ds ++ v → (cs ≡ ds) × (u ≡ v)
@@ -119,7 +119,7 @@ module _ (p : Program) (are : AreNames p.start_names) (named : AreNames (names_o
       let r = numbered_determined (IsPrintableCost p) (CostsSaySame p.start_names) (λ c d. c ≡ d) (λ n w. IsLater (cost_lead n) w) why_cost cost_step cost_later 1 cs ds u v few less f g like k l e in
       (pairs_same cs ds r.0, r.1)
 
-  -- why the sizes of two places are missing, if they are
+  -- the reasons why the sizes of two places are missing, if they are, are the same
   size_step : (rule n : ℕ) (t s : Size) (u v : List ℕ) → n < 2 ^ 64 → IsPrintableSize p t → IsPrintableSize p s → SizesSaySame p.start_names t s
       → IsLater (place_lead rule n) u → IsLater (place_lead rule n) v → why_size rule n t ++ u ≡ why_size rule n s ++ v → (t ≡ s) × (u ≡ v)
   size_step rule n (Sized a) (Sized b) u v short f g like k l e = (ap Sized (bound_same p.start_names are a b f g like), e)
@@ -141,7 +141,7 @@ size_later rule fits n m (Unsized w) u over short h = record {
       omega (arith, over, e);
 }
 
--- what is later than a rule's places is later than each of them
+-- a reason that is later than those of a rule's places is later than each of them
 place_from_row : (rule n : ℕ) (u : List ℕ) → IsLater (row_lead rule) u → IsLater (place_lead rule n) u
 place_from_row rule n u h = record {
   whys = h.whys;
@@ -171,7 +171,7 @@ row_later n m k (Unsized w ∷ row) u over short h = record {
       omega (arith, over, same);
 }
 
--- the fifth byte of every text that begins so is this one, which no reason of a place has there
+-- the fifth byte of every text with this beginning is this one, which isn't the fifth byte of a reason of a place
 record IsOtherLead (lead : List ℕ) : Type 0 where
   pub fifth : ℕ
   pub has : (w : List ℕ) → get_or (lead ++ w) 4 0 ≡ fifth
@@ -204,7 +204,7 @@ pub sizes_no_cost : (n k : ℕ) (rows : List (List Size)) → IsLater (cost_lead
 sizes_no_cost n k rows =
     sizes_other (cost_lead n) (record { fifth = 99; has = λ w. refl; some = λ e. omega (arith, e); other = λ e. omega (arith, e) }) k rows
 
--- the reasons of costs, and those of places behind them, are later than those of times
+-- the reasons of costs, and those of places after them, are later than those of times
 costs_no_time : (n k : ℕ) (cs : List (Option RuleCost)) (u : List ℕ) → IsLater (time_lead n) u → IsLater (time_lead n) (numbered_lines why_cost k cs ++ u)
 costs_no_time n k [] u h = h
 costs_no_time n k (None ∷ cs) u h = costs_no_time n (suc k) cs u h
@@ -216,12 +216,12 @@ others_no_time n cs rows =
     costs_no_time n 1 cs (numbered_lines why_sizes 1 rows)
     (sizes_other (time_lead n) (record { fifth = 116; has = λ w. refl; some = λ e. omega (arith, e); other = λ e. omega (arith, e) }) 1 rows)
 
--- a rule's places fit
+-- the sizes of a rule's places fit
 abbrev pub FitsRow : Program → List Size → Type 0
 FitsRow p row = AllByRecursion (IsPrintableSize p) row × (1 + length row ≤ 2 ^ 64)
 
 module _ (p : Program) (are : AreNames p.start_names) (named : AreNames (names_of p.symbols)) where
-  -- why the sizes of two rules' places are missing
+  -- the reasons why the sizes of two rules' places are missing are the same
   row_step : (n : ℕ) (r s : List Size) (u v : List ℕ) → n < 2 ^ 64 → FitsRow p r → FitsRow p s → Pairs (SizesSaySame p.start_names) r s
       → IsLater (row_lead n) u → IsLater (row_lead n) v → why_sizes n r ++ u ≡ why_sizes n s ++ v → (r ≡ s) × (u ≡ v)
   row_step n r s u v short f g like k l e =
@@ -229,7 +229,7 @@ module _ (p : Program) (are : AreNames p.start_names) (named : AreNames (names_o
       1 r s u v f.1 g.1 f.0 g.0 like (λ m. place_from_row n m u k) (λ m. place_from_row n m v l) e in
       (pairs_same r s w.0, w.1)
 
-  -- why all sizes are missing that are
+  -- the reasons of all missing sizes are determined
   pub why_sizes_determined : (rs ss : List (List Size)) → 1 + length rs ≤ 2 ^ 64 → 1 + length ss ≤ 2 ^ 64 → AllByRecursion (FitsRow p) rs → AllByRecursion (FitsRow p) ss
       → Pairs (Pairs (SizesSaySame p.start_names)) rs ss → numbered_lines why_sizes 1 rs ≡ numbered_lines why_sizes 1 ss → rs ≡ ss
   why_sizes_determined rs ss few less f g like e =

@@ -1,11 +1,11 @@
--- The texts of small reports are worked out.
+-- The texts of small reports are as was worked out.
 use Rattle.std.proofs.Common.{refl, arith}
 use Rattle.std.specs.Fmt.{digits}
 use Rattle.report_text.specs.Reports.{text_of_report}
-use Rattle.report_text.specs.WorkedTexts.{TextsTellApart, CostTexts, TextsDontTell, TextsAreWorkedOut}
+use Rattle.report_text.specs.WorkedTexts.{TextsDistinguish, CostTexts, TextsDontDistinguish, TextsAreWorkedOut}
 
--- which texts differ
-determined : TextsTellApart
+-- texts of these reports differ
+determined : TextsDistinguish
 unfolding text_of_report digits
 determined = record {
   program = record {
@@ -102,9 +102,9 @@ cost_texts = record {
 }
 
 -- reports that texts don't distinguish
-untold : TextsDontTell
+not_distinguished : TextsDontDistinguish
 unfolding text_of_report digits
-untold = record {
+not_distinguished = record {
   no_places = refl;
   left_out = λ h. (let no = h.sizes in cc);
   given = record { times = refl; costs = refl; total = (λ e. refl, λ e. refl); sizes = refl };
@@ -114,6 +114,6 @@ untold = record {
   unnamed = λ h. (let no = h.shut.0.symbol in omega (arith, no));
 }
 
--- all of them
+-- all worked values of texts
 pub texts_are_worked_out : TextsAreWorkedOut
-texts_are_worked_out = record { determined = determined; costs = cost_texts; untold = untold }
+texts_are_worked_out = record { determined = determined; costs = cost_texts; not_distinguished = not_distinguished }

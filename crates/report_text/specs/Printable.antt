@@ -1,8 +1,8 @@
 -- Reports that are determined by their texts: their numbers fit the types that hold them, their bounds are tidy and
--- over the start arguments, and their gaps have only points that are shown in lines. What an analysis reports is
--- printable where its numbers fit these types, which is a law of the crate above that knows both: its bounds are
--- rewritten and over the start arguments; a gap has one move and one kept point for each rule of its set, and its shut
--- places are places of the program's symbols.
+-- over the start arguments, and their gaps have only points that are printed in lines. The report of an analysis is
+-- printable if its numbers fit these types, which is a law of a crate above: its bounds are rewritten and over the
+-- start arguments; a gap has one move and one kept point for each rule of its set, and its shut places are places of
+-- the program's symbols.
 use Rattle.std.specs.Prelude.{ℕ, ◌^◌, ◌<◌, ◌≤◌, length, ℤ, nat_abs, Option, Some, None, ⊤}
 use Rattle.std.specs.List.{AllByRecursion}
 use Rattle.model.specs.Programs.{Program}
@@ -25,7 +25,7 @@ use Rattle.outcome.specs.Reports.{Size, Sized, Unsized, RuleCost, Costed, Uncost
 abbrev pub IsShort : ℕ → Type 0
 IsShort n = n < 2 ^ 64
 
--- the absolute value of a number with a sign fits, too
+-- the absolute value of a number with a sign has 64 bits
 abbrev pub IsShortSigned : ℤ → Type 0
 IsShortSigned z = IsShort (nat_abs z)
 

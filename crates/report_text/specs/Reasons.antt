@@ -1,4 +1,4 @@
--- Why a time or a size is missing, as it is printed: the text behind the colon, and the lines that follow.
+-- Why a time or a size is missing, as it is printed: the text after the colon, and the lines that follow.
 use Rattle.std.specs.Prelude.{ℕ, List, [], ◌∷◌, ◌++◌, Option, Some, None, slice_get, codes, decimal}
 use Rattle.model.specs.Programs.{Name, Symbol}
 use Rattle.cert_types.specs.declared.answer.Question.{Question}
@@ -19,7 +19,7 @@ question_text (questions.Rank rule) = codes "rank " ++ decimal rule
 question_text (questions.Local rule place) = codes "local " ++ place_text rule place
 question_text (questions.Cost rule) = codes "cost " ++ decimal rule
 
--- the limit that it passed
+-- the limit that the linear program exceeded
 abbrev pub cause_text : LimitCause → List ℕ
 cause_text (causes.Range pivot) = codes "range at pivot " ++ decimal pivot
 cause_text (causes.Budget pivots) = codes "budget after " ++ (decimal pivots ++ codes " pivots")

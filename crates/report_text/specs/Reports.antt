@@ -67,7 +67,7 @@ why_cost rule None = []
 why_cost rule (Some (Costed b)) = []
 why_cost rule (Some (Uncosted w)) = codes "why cost " ++ (decimal rule ++ (codes ": " ++ no_size_text w))
 
--- why the size of a place is missing, if it is; and this of all places of a rule
+-- why the size of a place is missing, if it is; and the same for all places of a rule
 abbrev pub why_size : ℕ → ℕ → Size → List ℕ
 why_size rule place (Sized b) = []
 why_size rule place (Unsized w) = codes "why size " ++ (place_text rule place ++ (codes ": " ++ no_size_text w))

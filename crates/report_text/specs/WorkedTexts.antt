@@ -12,7 +12,7 @@ use Rattle.report_text.specs.Reasons.{gap_text}
 use Rattle.report_text.specs.Reports.{text_of_report}
 use Rattle.report_text.specs.Printable.{IsPrintableGap, IsPrintableReport}
 
--- the program f(unknown) -> g(unknown, .., unknown), with this many places of g and this cost or none
+-- the program f(unknown) -> g(unknown, .., unknown), with this many places of g, and this cost or none
 abbrev pub leading_at_cost : ℕ → Option Term → Program
 leading_at_cost n c = record {
   symbols = record { name = codes "f"; arity = 1 } ∷ record { name = codes "g"; arity = n } ∷ [];
@@ -33,12 +33,12 @@ leading_at_cost n c = record {
 abbrev pub leading_to : ℕ → Program
 leading_to n = leading_at_cost n None
 
--- the variable as the time and as the total, and sizes
+-- a report with the variable as the time and as the total, and these sizes
 abbrev pub timed_by_variable : List (List Size) → Report
 timed_by_variable sizes =
     record { times = Timed (Input 0) ∷ []; costs = None ∷ []; total = Some (Input 0); sizes = sizes }
 
--- no time, since its bound has 5,000 nodes, and no size, since there is no time
+-- a report without a time, since its bound has 5,000 nodes, and without a size, since there is no time
 abbrev pub without_time : Report
 without_time = record {
   times = Untimed (TimeLarge 5000) ∷ [];
@@ -66,9 +66,9 @@ paid_report t c sum = record { times = t ∷ []; costs = Some c ∷ []; total = 
 abbrev pub paying_to : Program
 paying_to = leading_at_cost 1 (Some (Variable 0))
 
--- a rule with a cost has a line of it, and the total is what it costs; the first line is `unknown` where the time or the
--- bound on the cost is missing, also over a total that is there. A variable that is named `unknown` is distinguished from
--- a missing bound on a cost, and from a missing total, by the reason
+-- a rule with a cost has a line of it, and the total is what it costs; the first line is `unknown` if the time or the
+-- bound on the cost is missing, even if there is a total. A variable that is named `unknown` is distinguished from a
+-- missing bound on a cost, and from a missing total, by the reason
 pub record CostTexts : Type 0 where
   pub program : IsValid paying_to
   pub costed : text_of_report paying_to (paid_report (Timed (Constant 1)) (Costed (Input 0)) (Some (Input 0)))
@@ -91,14 +91,15 @@ pub record CostTexts : Type 0 where
   pub stated : IsReportOn paying_to (paid_report (Timed (Constant 1)) (Costed (Input 0)) (Some (Input 0)))
   pub stated_total : IsReportOn paying_to (paid_report (Untimed (TimeLarge 5000)) (Costed (Constant 0)) (Some (Constant 0)))
   pub without_cost : ¬ (IsReportOn paying_to (timed_by_variable ((Sized (Input 0) ∷ []) ∷ [])))
-  -- a text doesn't show a cost that is left out and a further rule's that isn't there, but then it is no report
+  -- a text doesn't distinguish a cost that is left out from that of a further rule that doesn't exist, but then it is
+  -- no report
   pub no_lines : text_of_report (leading_to 0) (timed_by_variable ([] ∷ []))
       ≡ text_of_report (leading_to 0) (record { times = Timed (Input 0) ∷ []; costs = []; total = Some (Input 0); sizes = [] ∷ [] })
   pub left_out : ¬ (IsReportOn (leading_to 0)
       (record { times = Timed (Input 0) ∷ []; costs = []; total = Some (Input 0); sizes = [] ∷ [] }))
 
 -- a variable that is named `unknown` is distinguished from a missing bound by the first line and the reasons
-pub record TextsTellApart : Type 0 where
+pub record TextsDistinguish : Type 0 where
   pub program : IsValid (leading_to 1)
   pub variable : IsPrintableReport (leading_to 1) (timed_by_variable ((Sized (Input 0) ∷ []) ∷ []))
   pub missing : IsPrintableReport (leading_to 1) without_time
@@ -111,7 +112,7 @@ pub record TextsTellApart : Type 0 where
 -- where no target has a place, a text doesn't show whether sizes are left out, but then it is no report on the program;
 -- the text of a gap doesn't show a move that is one too many, or the number of a symbol that doesn't exist. Such
 -- reports aren't printable
-pub record TextsDontTell : Type 0 where
+pub record TextsDontDistinguish : Type 0 where
   pub no_places : text_of_report (leading_to 0) (timed_by_variable [])
       ≡ text_of_report (leading_to 0) (timed_by_variable ([] ∷ []))
   pub left_out : ¬ (IsReportOn (leading_to 0) (timed_by_variable []))
@@ -122,8 +123,8 @@ pub record TextsDontTell : Type 0 where
       ≡ gap_text [] (bare_gap (record { symbol = 1; place = 1 } ∷ []) [])
   pub unnamed : ¬ (IsPrintableGap 0 (bare_gap (record { symbol = 0; place = 1 } ∷ []) []))
 
--- all of them
+-- all worked values of texts
 pub record TextsAreWorkedOut : Type 0 where
-  pub determined : TextsTellApart
+  pub determined : TextsDistinguish
   pub costs : CostTexts
-  pub untold : TextsDontTell
+  pub not_distinguished : TextsDontDistinguish

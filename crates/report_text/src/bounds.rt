@@ -32,7 +32,7 @@ pub(crate) fn push_time(
     push_time_end(text, names, entry)
 }
 
-// Writes the text behind the colon.
+// Writes the text after the colon.
 fn push_time_end(text: &mut Vec<u8>, names: &[Name], entry: &TimeEntry) -> Result<(), Memory>
     requires { IsPrintableTime (length names.now) entry.now }
     ensures { OnOk result (text.new.items ≡ text.old.items ++ entry_end (map name_of names.now) entry.now) }
@@ -79,7 +79,7 @@ fn push_cost_line(
     push_cost_end(text, names, entry)
 }
 
-// Writes the text behind the colon.
+// Writes the text after the colon.
 fn push_cost_end(text: &mut Vec<u8>, names: &[Name], entry: &CostEntry) -> Result<(), Memory>
     requires { IsPrintableCost (length names.now) (Some entry.now) }
     ensures { OnOk result (text.new.items ≡ text.old.items ++ cost_end (map name_of names.now) (cost_of entry.now)) }
@@ -129,7 +129,7 @@ pub(crate) fn push_size(
     push_size_end(text, names, entry)
 }
 
-// Writes the text behind the colon.
+// Writes the text after the colon.
 fn push_size_end(text: &mut Vec<u8>, names: &[Name], entry: &SizeEntry) -> Result<(), Memory>
     requires { IsPrintableSize (length names.now) entry.now }
     ensures { OnOk result (text.new.items ≡ text.old.items ++ size_end (map name_of names.now) (size_of entry.now)) }

@@ -9,7 +9,7 @@ pub fn texts_state_one_report()
     ensures { TextsStateOneReport }
 {}
 
-/// Worked values: the texts of small reports, and what they don't show.
+/// Worked values: the texts of small reports, and what they don't distinguish.
 pub fn texts_are_worked_out()
     ensures { TextsAreWorkedOut }
 {}

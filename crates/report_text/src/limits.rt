@@ -31,7 +31,7 @@ fn push_question(text: &mut Vec<u8>, question: Question) -> Result<(), Memory>
     }
 }
 
-// The limit that it passed.
+// Writes the limit that the linear program exceeded.
 fn push_cause(text: &mut Vec<u8>, cause: LimitCause) -> Result<(), Memory>
     ensures { OnOk result (text.new.items ≡ text.old.items ++ cause_text cause) }
 {
@@ -55,7 +55,7 @@ pub(crate) fn push_large(text: &mut Vec<u8>, nodes: u64) -> Result<(), Memory>
     push_counted(text, b"large ", nodes, b" nodes")
 }
 
-// A number behind a word.
+// A number after a word.
 fn push_worded(text: &mut Vec<u8>, word: &[u8], n: u64) -> Result<(), Memory>
     ensures { OnOk result (text.new.items ≡ text.old.items ++ (word.now ++ decimal n)) }
 {

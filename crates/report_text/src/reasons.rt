@@ -195,7 +195,7 @@ fn push_large_line(text: &mut Vec<u8>, nodes: u64) -> Result<(), Memory>
     text.extend_from_slice(b"\n")
 }
 
-// A rule and a place behind a word.
+// A rule and a place after a word.
 fn push_result_variable_line(
     text: &mut Vec<u8>,
     word: &[u8],

@@ -16,7 +16,7 @@ fn name(alloc: Global, text: &[u8]) -> Result<Name, Memory> {
     })
 }
 
-// A program of which the report takes no more than its names.
+// A program of which the report uses only the names.
 fn named(alloc: Global) -> Result<Program, Memory> {
     let mut symbols = Vec::new(alloc);
     for text in [b"l0", b"l1"] {

@@ -18,6 +18,6 @@ pub mod RankWeights
 pub mod LeastRanks
 pub mod WorkedRanks
 pub mod RankFits
--- the lemmas of the crates below, which callers name through this one
+-- The lemmas of the crates below, which callers name through this one.
 pub use Rattle.linear_forms.proofs.int_laws
 pub use Rattle.linear_forms.proofs as linear_forms

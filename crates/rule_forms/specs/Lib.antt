@@ -9,6 +9,6 @@ pub mod Ranking
 pub mod RankLaws
 pub mod Worked
 pub mod WorkedRanks
--- the crates below, which callers name through this one
+-- The crates below, which callers name through this one.
 pub use Rattle.linear_forms.specs.int_laws
 pub use Rattle.linear_forms.specs as linear_forms

@@ -107,7 +107,7 @@ module _ (m : RuleRows) (is : IsPrepared m) where
       nowhere : (k : ℕ) (h : Goal) → slice_get [] k ≡ Some h → ⊥
       nowhere k h i = cc
 
-  -- the builder's problem is the question's
+  -- The linear program that the builder makes is that of the question.
   pub problem-built : (n : ℕ) (rows : List Row) (fixed : Row) (b : Builder) (p : Problem) → n ≡ 0 → rows ≡ m.rows.items
       → fixed.coefs.items ≡ [] → fixed.constant ≡ negsuc 0 → Holds b (group_of n m.unknowns rows [] fixed ∷ [])
       → IsBuilt b [] p

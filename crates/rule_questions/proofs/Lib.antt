@@ -11,7 +11,7 @@ pub mod EmptyLaws
 pub mod EmptyProblems
 pub mod Exact
 pub mod OneEmptyAnswer
--- the lemmas of the crates below, which callers name through this one
+-- The lemmas of the crates below, which callers name through this one.
 pub use Rattle.poly_terms.proofs.model
 pub use Rattle.poly_terms.proofs.int_laws
 pub use Rattle.cert_types.proofs.cert_rules

@@ -5,10 +5,10 @@ pub mod EmptyAnswers
 pub mod RuleAnswers
 pub mod OneEmptyAnswer
 pub mod SmallForms
--- the machinery of the functions inside and of the proofs
+-- The definitions for the inner functions and the proofs.
 pub mod AscendingGoals
 pub mod GroupLines
--- the crates below, which callers name through this one
+-- The crates below, which callers name through this one.
 pub use Rattle.poly_terms.specs.model
 pub use Rattle.poly_terms.specs.int_laws
 pub use Rattle.poly_terms.specs.linear_forms

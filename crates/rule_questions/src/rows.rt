@@ -27,7 +27,7 @@ pub fn constant_row(alloc: Global, constant: i128) -> Row
 ///
 /// # Errors
 ///
-/// `Memory` where an allocation fails.
+/// `Memory` if an allocation fails.
 pub fn unit_row(alloc: Global, unknown: u32) -> Result<Row, Memory>
     ensures { IfOk result (λ row. form_of row ≡ unknown_form unknown) }
 {
@@ -40,7 +40,7 @@ pub fn unit_row(alloc: Global, unknown: u32) -> Result<Row, Memory>
 ///
 /// # Errors
 ///
-/// `Memory` where an allocation fails.
+/// `Memory` if an allocation fails.
 pub fn difference(alloc: Global, before: &Row, after: &Row) -> Result<Row, Memory>
     requires before { IsSmall (form_of before.now) }
     requires after { IsSmall (form_of after.now) }

@@ -12,7 +12,7 @@ use std::alloc::Global;
 ///
 /// # Errors
 ///
-/// `Memory` where an allocation fails.
+/// `Memory` if an allocation fails.
 pub fn multipliers_from(
     alloc: Global,
     numbers: &[i64],
@@ -34,7 +34,7 @@ pub fn multipliers_from(
 ///
 /// # Errors
 ///
-/// `Memory` where an allocation fails.
+/// `Memory` if an allocation fails.
 pub fn element_from(
     alloc: Global,
     numbers: &[i64],

@@ -1,5 +1,5 @@
 -- the counting lemma of runs, and its worked values
 pub mod Counting
 pub mod Accounts
--- the lemmas of the crates below, which callers name through this one
+-- The lemmas of the crates below, which callers name through this one.
 pub use Rattle.model.proofs as model

@@ -1,6 +1,6 @@
 -- the counting lemma: levels that pay for steps, and what they say of how often a rule occurs
 pub mod Paying
--- values that were worked out by hand
+-- Worked values.
 pub mod Worked
--- the crates below, which callers name through this one
+-- The crates below, which callers name through this one.
 pub use Rattle.model.specs as model

@@ -22,7 +22,7 @@ use Rattle.run_replay.specs.Replays.{replay_fault, RunsInRange, IsRunInRange, Ba
 use Rattle.run_replay.specs.Replays.{greatest_size, greatest_sizes}
 use Rattle.run_replay.specs.ReplayLaws.{ReplaysAreDecided}
 use Rattle.run_replay.specs.ReplayAnswers.{sums_of, bad_step_of, last_first, first_steps, IsReplay, Refuses, Notes}
-use Rattle.run_replay.specs.ReplayAnswers.{CanWalk, StandsBehind}
+use Rattle.run_replay.specs.ReplayAnswers.{CanWalk, ReplayIsAfter}
 use Rattle.run_replay.proofs.ReplayFaults.{ReplayStepsHaveNoFault}
 use Rattle.run_replay.proofs.ReplayRuns.{next_runs}
 use Rattle.run_replay.proofs.ReplayTallies.{count_at_most, tally_more}
@@ -119,11 +119,11 @@ notable p start earlier t c s d is step =
 
 -- a replay that takes a step and notes it stands behind one step more
 pub stands_next : ReplayStepsHaveNoFault → (p : Program) (r : Run) (n : ℕ) (s : Step) (charged : ℕ) (old new : Standing)
-    → n < length r.steps → s ≡ get_or r.steps n s → StandsBehind p r n old
+    → n < length r.steps → s ≡ get_or r.steps n s → ReplayIsAfter p r n old
     → IsStep p (config_of old.walk.here) s (config_of new.walk.here) → replay_fault p (config_of old.walk.here) s ≡ None
     → charged ≡ cost p s.rule (old.walk.here.values.items ++ s.free)
     → Notes (s.rule - 1) new.walk.here.values.items charged (sums_of old.tally) (sums_of new.tally)
-    → CanWalk p new.walk → StandsBehind p r (n + 1) new
+    → CanWalk p new.walk → ReplayIsAfter p r (n + 1) new
 stands_next law p r n s charged old new low e h step none costs notes walks =
     let earlier = first_steps r n in
     let within = rule_within p s.rule step.rule step.numbered in
@@ -146,7 +146,7 @@ stands_next law p r n s charged old new low e h step none costs notes walks =
     }
 
 -- a replay that stands behind all steps has replayed the run
-pub whole_replay : (p : Program) (r : Run) (n : ℕ) (s : Standing) → length r.steps ≤ n → StandsBehind p r n s
+pub whole_replay : (p : Program) (r : Run) (n : ℕ) (s : Standing) → length r.steps ≤ n → ReplayIsAfter p r n s
     → IsReplay p r (sums_of s.tally)
 whole_replay p r n s all h =
     let e : first_steps r n ≡ last_first r = ap reverse (take_all n r.steps all) in

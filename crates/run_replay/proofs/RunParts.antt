@@ -40,7 +40,7 @@ run_parts zero r =
 run_parts (suc zero) ss = steps_parts ss
 run_parts (suc (suc n)) b = absurd b
 
--- kinds with one number are one
+-- Kinds with the same number are the same.
 differ : (a b : RunKind) → number_of a ≡ number_of b → a ≡ b
 differ Syntax Syntax h = refl
 differ NumberTooLarge NumberTooLarge h = refl
@@ -64,7 +64,7 @@ module _ (p : Program) where
     below_signed = λ s negative m n some l e. absurd (some_none Syntax e);
   }
 
-  -- the grammar can be read, and has the rules of numbers
+  -- The grammar can be read, and has the rules of numbers.
   pub readable : is_readable (grammar_of (run_bytes p)) ≡ true
   readable = refl
 

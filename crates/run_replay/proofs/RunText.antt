@@ -43,15 +43,15 @@ module _ (p : Program) where
   from r rule = at (record { run = r; rule = rule })
 
   -- from this state the parts have no fault; and the state that they lead to
-  abbrev StandsFrom : Spelling State → List (Part ℕ Numbered) → Type 0
-  StandsFrom s xs = Stand (fold_of (run_bytes p)) (numbers_of (run_bytes p)) s xs
+  abbrev HaveNoFaultFrom : Spelling State → List (Part ℕ Numbered) → Type 0
+  HaveNoFaultFrom s xs = Stand (fold_of (run_bytes p)) (numbers_of (run_bytes p)) s xs
 
   abbrev comes : Spelling State → List (Part ℕ Numbered) → Spelling State
   comes s xs = come (fold_of (run_bytes p)) (numbers_of (run_bytes p)) s xs
 
   -- steps of the program stand, as many as there is room for
   steps_stand : (ss : List Step) (r : Run) (rule : ℕ) → AreStepsOf p ss → length r.steps + length ss ≤ step_limit
-      → StandsFrom (from r rule) (steps_parts ss)
+      → HaveNoFaultFrom (from r rule) (steps_parts ss)
   steps_stand [] r rule h few = (refl, (refl, (refl, (refl, tt))))
   steps_stand (s ∷ ss) r rule h few =
       let named = rule_some p s.rule h.0.rule h.0.numbered in
@@ -63,11 +63,11 @@ module _ (p : Program) where
       (rule_taken p s.rule named.0 named.1 h.0.held) in
       let line = when_none (not (length s.free == wanted p s.rule)) ArityDiffers
       (differs_not (wanted p s.rule) (length s.free) free) in
-      let others = subst (λ (t : State). StandsFrom (at t) (steps_parts ss)) (sym (stepped r s named.0 h.0.held))
+      let others = subst (λ (t : State). HaveNoFaultFrom (at t) (steps_parts ss)) (sym (stepped r s named.0 h.0.held))
       (steps_stand ss (with_step r s) s.rule h.1 (omega (arith, count, few))) in
       (first, (refl, (refl, (refl, (refl, (number, ((h.0.small, bytes_stand (run_bytes p) (record { run = r; rule = s.rule }) s.free refl refl, line), others)))))))
 
-  stand_steps : (ss : List Step) (r : Run) (rule : ℕ) → StandsFrom (from r rule) (steps_parts ss)
+  stand_steps : (ss : List Step) (r : Run) (rule : ℕ) → HaveNoFaultFrom (from r rule) (steps_parts ss)
       → AreStepsOf p ss × (length r.steps ≤ step_limit → length r.steps + length ss ≤ step_limit)
   stand_steps [] r rule h = (tt, λ l. omega (arith, l))
   stand_steps (s ∷ ss) r rule h =
@@ -80,7 +80,7 @@ module _ (p : Program) where
       (none_when (not (length s.free == wanted p s.rule)) ArityDiffers line.0.2) in
       let w =
       stand_steps ss (with_step r s) s.rule
-      (subst (λ (t : State). StandsFrom (at t) (steps_parts ss)) (stepped r s named.0 named.2) line.1) in
+      (subst (λ (t : State). HaveNoFaultFrom (at t) (steps_parts ss)) (stepped r s named.0 named.2) line.1) in
       let one = room step_limit (length r.steps) (none_when (nat_le step_limit (length r.steps)) Limit h.0) in
       let count = length-append r.steps (s ∷ []) in (
         (
@@ -111,7 +111,7 @@ module _ (p : Program) where
   behind_start r = Puts (Line r.start) ∷ steps_parts r.steps
 
   -- a run stands exactly where it is within the limits
-  run_stands : (r : Run) → IsWithin p r → StandsFrom (from (record { start = []; steps = [] }) 0) (run_parts 0 r)
+  run_stands : (r : Run) → IsWithin p r → HaveNoFaultFrom (from (record { start = []; steps = [] }) 0) (run_parts 0 r)
   run_stands r h =
       word_stands (run_bytes p) (from (record { start = []; steps = [] }) 0) (codes "koat-run 1\nstart")
       (behind_start r) refl (
@@ -125,7 +125,7 @@ module _ (p : Program) where
             (let l = h.count in omega (arith, l)),
       )
 
-  stand_run : (r : Run) → StandsFrom (from (record { start = []; steps = [] }) 0) (run_parts 0 r) → IsWithin p r
+  stand_run : (r : Run) → HaveNoFaultFrom (from (record { start = []; steps = [] }) 0) (run_parts 0 r) → IsWithin p r
   stand_run r h =
       let line =
       stand_word (run_bytes p) (from (record { start = []; steps = [] }) 0) (codes "koat-run 1\nstart")
@@ -146,9 +146,9 @@ module _ (p : Program) where
   run_comes r h = steps_come r.steps (record { start = r.start; steps = [] }) 0 h.steps
 
 -- where a run is answered, the bytes are its text, within the limits
-pub stands_written : (p : Program) (bytes : List ℕ) (r : Run)
+pub parsed_written : (p : Program) (bytes : List ℕ) (r : Run)
     → answer (reader (runs_of p)) (length bytes) (tokens bytes) ≡ Stands r → IsTextWithin p bytes r
-stands_written p bytes r e =
+parsed_written p bytes r e =
     let w = answered (run_bytes p) (bounded p) (numbers p) (readable p) RunValue run_parts (runs_made p) (runs_lawful p)
     bytes r e in
     let h = stand_run p w.0 w.2 in
@@ -156,9 +156,9 @@ stands_written p bytes r e =
     record { text = ap text_of (sym same) ∙ sym (run_spells p w.0) ∙ w.1; within = subst (IsWithin p) same h }
 
 -- and the other way round
-pub written_stands : (p : Program) (bytes : List ℕ) (r : Run) → IsTextWithin p bytes r
+pub written_parsed : (p : Program) (bytes : List ℕ) (r : Run) → IsTextWithin p bytes r
     → answer (reader (runs_of p)) (length bytes) (tokens bytes) ≡ Stands r
-written_stands p bytes r h =
+written_parsed p bytes r h =
     taken (run_bytes p) (bounded p) (numbers p) (readable p) RunValue run_parts (runs_lawful p) r
     (run_derived p r h.within) (run_stands p r h.within) bytes (run_spells p r ∙ h.text)
     ∙ ap (λ (q : Run). Stands q) (run_comes p r h.within)

@@ -216,6 +216,6 @@ greatest_worked law = record {
         (replays_decided law).greatest countdown (both (pos 3) (pos 7)) (by_rule 1 ∷ []) 2 1 (omega arith)
         (two_values 1 (pos 3) (pos 7), entered law (pos 3) (pos 7) refl)
 
--- all of it
+-- All worked values of this file.
 pub replays_worked : ReplayStepsHaveNoFault → ReplaysAreWorkedOut
 replays_worked law = record { tallies = tallies_worked; greatest = greatest_worked law; costs = costs_tallied; steps = bad_steps_worked law }

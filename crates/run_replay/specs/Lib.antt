@@ -1,4 +1,4 @@
--- what the contracts of this crate, and of those above it, cite
+-- The specs that contracts of this crate and of other crates cite.
 pub mod Runs
 pub mod Texts
 pub mod Spelled
@@ -8,7 +8,7 @@ pub mod Replays
 pub mod ReplayAnswers
 pub mod ReplayLaws
 pub mod WorkedReplays
--- the crates below, which callers name through this one
+-- The crates below, which callers name through this one.
 pub use Rattle.text_grammar.specs.text_core
 pub use Rattle.text_grammar.specs as text_grammar
 pub use Rattle.its_model.specs as its_model

@@ -89,7 +89,7 @@ pub record CanWalk (p : Program) (w : Walk) : Type 0 where
 
 -- a replay stands behind the first n steps of a run: they are one in range that leads there, where it can walk on, and
 -- the tally is that along them
-pub record StandsBehind (p : Program) (r : Run) (n : ℕ) (s : Standing) : Type 0 where
+pub record ReplayIsAfter (p : Program) (r : Run) (n : ℕ) (s : Standing) : Type 0 where
   pub runs : RunsInRange p r.start (first_steps r n) (config_of s.walk.here)
   pub walks : CanWalk p s.walk
   pub tally : sums_of s.tally ≡ tally_along p r.start (first_steps r n)

@@ -17,7 +17,7 @@ pub record State : Type 0 where
   pub run : Run
   pub rule : ℕ
 
--- the number of a kind
+-- The number of a kind of refusal.
 abbrev pub number_of : RunKind → ℕ
 number_of Syntax = 1
 number_of NumberTooLarge = 2

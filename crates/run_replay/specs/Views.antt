@@ -19,7 +19,7 @@ use Rattle.run_replay.specs.Spelled.{IsTextWithin}
 abbrev pub run_of : RunFile → Run
 run_of r = record { start = r.start.items; steps = map step_of r.steps.items }
 
--- what is remembered, as plain data
+-- The parser state as plain data.
 abbrev pub own_of : code.State → State
 own_of s = record { run = run_of s.file; rule = s.rule }
 

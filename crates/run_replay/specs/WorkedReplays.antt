@@ -142,7 +142,7 @@ pub record BadStepsAreWorkedOut : Type 0 where
   -- an atom that doesn't hold comes before the cost
   pub atom_before_cost : IsFirst comparing_at_cost (pos 0) maximum (with_zero ∷ []) 1 (AtomFails 1)
 
--- all of it
+-- All worked values of this file.
 pub record ReplaysAreWorkedOut : Type 0 where
   pub tallies : TalliesAreWorkedOut
   pub greatest : GreatestAreWorkedOut

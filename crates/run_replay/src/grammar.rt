@@ -20,9 +20,9 @@ mod class {
     pub const O: u32 = 14; pub const R: u32 = 15; pub const U: u32 = 16;
 }
 
-/// How many classes of bytes there are.
+/// The number of classes of bytes.
 pub const CLASSES: u32 = 18;
-/// After how many rounds an entry of the table is what it stays.
+/// The number of rounds after which no entry of the table changes.
 pub const ROUNDS: u32 = 9;
 
 const STEPS: u32 = 9;

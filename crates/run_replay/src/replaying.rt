@@ -5,7 +5,7 @@ ghost use Rattle.its_model.specs.model.Programs.{arity_of};
 ghost use Rattle.its_model.specs.Valid.{IsValid};
 ghost use Rattle.its_model.specs.Views.{program_of};
 ghost use Rattle.run_replay.specs.Replays.{BadStep, IsRunInRange, IsFirstBadStep};
-ghost use Rattle.run_replay.specs.ReplayAnswers.{last_first, Replays, Tallies, RefusesWith, Refuses, StandsBehind};
+ghost use Rattle.run_replay.specs.ReplayAnswers.{last_first, Replays, Tallies, RefusesWith, Refuses, ReplayIsAfter};
 ghost use Rattle.run_replay.specs.Views.{run_of};
 
 use crate::file::RunFile;
@@ -58,7 +58,7 @@ impl Standing {
     fn new(alloc: Global, p: &Program, run: &RunFile) -> Result<Standing, AllocError>
         requires valid { IsValid (program_of p.now) }
         requires start { length run.now.start.items ≡ arity_of (program_of p.now) (program_of p.now).start }
-        ensures { IfOk result (λ s. StandsBehind (program_of p.now) (run_of run.now) 0 s) }
+        ensures { IfOk result (λ s. ReplayIsAfter (program_of p.now) (run_of run.now) 0 s) }
     {
         Ok(Standing {
             walk: Walk::new(alloc, p, &run.start)?,
@@ -70,8 +70,8 @@ impl Standing {
     fn step_on(&mut self, p: &Program, run: &RunFile, i: usize) -> Result<(), ReplayError>
         requires valid { IsValid (program_of p.now) }
         requires step { i < length run.now.steps.items }
-        requires stands { StandsBehind (program_of p.now) (run_of run.now) i self.old }
-        ensures { MatchResult result (λ _. StandsBehind (program_of p.now) (run_of run.now) (i + 1) self.new)
+        requires stands { ReplayIsAfter (program_of p.now) (run_of run.now) i self.old }
+        ensures { MatchResult result (λ _. ReplayIsAfter (program_of p.now) (run_of run.now) (i + 1) self.new)
             (Refuses (program_of p.now) (run_of run.now)) }
     {
         steps_have_no_fault();

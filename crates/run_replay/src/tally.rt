@@ -31,7 +31,7 @@ impl Tally {
     ///
     /// # Errors
     ///
-    /// Where an allocation fails.
+    /// If an allocation fails.
     pub(crate) fn new(alloc: Global, p: &Program) -> Result<Tally, AllocError>
         ensures { IfOk result (λ t. (start : List ℤ) → sums_of t ≡ tally_along (program_of p.now) start []) }
     {

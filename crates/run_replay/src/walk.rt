@@ -29,7 +29,7 @@ impl Walk {
     ///
     /// # Errors
     ///
-    /// Where an allocation fails.
+    /// If an allocation fails.
     pub fn new(alloc: Global, p: &Program, start: &[i128]) -> Result<Walk, AllocError>
         requires valid { IsValid (program_of p.now) }
         requires start { length start.now ≡ arity_of (program_of p.now) (program_of p.now).start }

@@ -1,9 +1,9 @@
 -- The definitions that the contracts of this crate, and of crates above it, cite.
 pub mod Flows
 pub mod Listing
--- laws, and values that were worked out by hand
+-- Laws and worked values.
 pub mod WorkedFlows
--- the machinery of the functions inside and of the proofs
+-- The definitions for the inner functions and the proofs.
 pub mod Reading
 pub mod Numbering
 pub mod Edges

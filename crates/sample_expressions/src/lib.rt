@@ -1,4 +1,4 @@
-//! Expressions in reverse Polish notation, for tests and measuring: each operator stands behind its operands.
+//! Expressions in reverse Polish notation, for tests and measuring: each operator follows its operands.
 //!
 //! Builds on `poly_terms`. Nothing is claimed of the expression that is read.
 #![tactic(auto)]

@@ -23,7 +23,7 @@ fn operand(operands: &mut Vec<Expr>) -> Expr {
     operands.pop().unwrap_or(Expr::Num(0))
 }
 
-// What a word makes of the operands before it.
+// The operands after a word, by the operands before it.
 fn part(alloc: Global, operands: &mut Vec<Expr>, word: &str) -> Result<Expr, Memory> {
     if let Ok(number) = word.parse::<i128>() {
         return Ok(Expr::Num(number));

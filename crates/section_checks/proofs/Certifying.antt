@@ -11,7 +11,7 @@ use Rattle.refined_programs.proofs.refinement.model.Cases.{none_some, some_same}
 use Rattle.refined_programs.proofs.refinement.Members.{map-contains}
 use Rattle.refined_programs.specs.refinement.Sections.{Copy, passes, fails, facts_in, facts_of}
 use Rattle.refined_programs.specs.refinement.Sections as plain
-use Rattle.refined_programs.specs.refinement.Obligations.{ReadsFirst, guard_along, guard_against, IsShownAt, AreCasesShown}
+use Rattle.refined_programs.specs.refinement.Obligations.{ReadsFirst, guard_along, guard_with_failure, IsShownAt, AreCasesShown}
 use Rattle.refined_programs.specs.refinement.Obligations.{IsBranchOf, IsBranchShown, HasBranch}
 use Rattle.refined_programs.specs.its_model.Valid.{IsValid}
 use Rattle.refined_programs.proofs.its_model.ValidLaws.{arities_agree}
@@ -51,7 +51,7 @@ prepared-with r atoms h within = record {
   updates = h.updates;
 }
 
--- a met obligation refutes its atoms
+-- a met obligation refutes the atoms of its guard
 module _ (r : Rule) (prepared : IsPreparable r) where
   met-refuted : (atoms : List Atom) (by : List ℕ) → IsWithinLimits (with_guard r atoms)
       → Implies (rows_of (with_guard r atoms)) by minus_one → IsRefuted r atoms
@@ -63,11 +63,11 @@ module _ (r : Rule) (prepared : IsPreparable r) where
   -- the obligations of a copy's facts refute each denied fact
   facts-refuted : (n j : ℕ) (atoms : List Atom) (facts : List Term) (by : List (List ℕ)) → length by ≡ length facts
       → AllByRecursion IsMet (fact_obligations n j r atoms facts by)
-      → AllByRecursion (λ f. IsRefuted r (guard_against r atoms f)) facts
+      → AllByRecursion (λ f. IsRefuted r (guard_with_failure r atoms f)) facts
   facts-refuted n j atoms [] by long met = tt
   facts-refuted n j atoms (f ∷ facts) [] long met = absurd (omega (arith, long))
   facts-refuted n j atoms (f ∷ facts) (ms ∷ by) long met = (
-    met-refuted (guard_against r atoms f) ms met.0.within met.0.shows,
+    met-refuted (guard_with_failure r atoms f) ms met.0.within met.0.shows,
     facts-refuted n (suc j) atoms facts by (omega (arith, long)) met.1,
   )
 
@@ -80,11 +80,11 @@ module _ (r : Rule) (prepared : IsPreparable r) where
     copy = copy;
     there = e;
     target = fits.target;
-    facts = All-from_recursion (λ f. IsRefuted r (guard_against r atoms f)) copy.facts
+    facts = All-from_recursion (λ f. IsRefuted r (guard_with_failure r atoms f)) copy.facts
         (facts-refuted n 1 atoms copy.facts by fits.lists met);
   }
 
-  -- cases whose ends are met are shown
+  -- cases whose ends meet their obligations are shown
   cases-shown : (section : plain.Section) (atoms : List Atom) (c : Cases)
       → AllByRecursion (IsEndMet section.copies (Some r)) (ends atoms c)
       → AreCasesShown IsRefuted section r atoms (cases_of c)
@@ -101,7 +101,7 @@ module _ (r : Rule) (prepared : IsPreparable r) where
       )
 
 module _ (p : Program) (s : Section) (valid : IsValid p) (accepted : IsAccepted p s) where
-  -- a branch that is due is one of its rule at its copy
+  -- a required branch is one of its rule at its copy
   pub branch-of : (b : Branch) → Contains s.branches b
       → (c : annotated.Copy) × (r : Rule) × IsBranchOf p (section_of s) (branch_of b) (copy_of c) r
   branch-of b member =
@@ -130,12 +130,12 @@ module _ (p : Program) (s : Section) (valid : IsValid p) (accepted : IsAccepted 
         },
       )
 
-  -- all ends are met
+  -- all ends meet their obligations
   all-met : AllByRecursion (IsBranchEndMet (map copy_of s.copies)) (ends_of p s s.branches)
   all-met = ends-met (map copy_of s.copies) 1 (ends_of p s s.branches) accepted.1.1.1.1.0
       accepted.1.1.1.1.1.1.0 accepted.1.1.1.1.1.1.1
 
-  -- so each branch is shown
+  -- each branch is shown
   branch-shown : (b : Branch) → Contains s.branches b → IsBranchShown IsRefuted p (section_of s) (branch_of b)
   branch-shown b member =
       let (c, r, fits) = branch-of b member in
@@ -151,7 +151,7 @@ module _ (p : Program) (s : Section) (valid : IsValid p) (accepted : IsAccepted 
             (ap facts_in fits.there) shown;
       }
 
-  -- and none is missing
+  -- no branch is missing
   has-branch : (k : ℕ) (copy : Copy) (t : ℕ) (r : Rule) → slice_get (map copy_of s.copies) k ≡ Some copy
       → rule_at p t ≡ Some r → r.source ≡ copy.over → HasBranch (section_of s) k t
   has-branch k copy zero r there numbered leaves = absurd (none_some r numbered)

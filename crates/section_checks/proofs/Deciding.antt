@@ -8,13 +8,13 @@ use Rattle.section_checks.specs.Laws.{AcceptedSectionsAreCertified, AcceptedSect
 use Rattle.section_checks.proofs.Certifying.{certified}
 use Rattle.section_checks.proofs.Validity.{spelled-valid}
 
--- where a check fails first, not all pass
+-- if some check fails first, not all pass
 not-all : (checks : List (CheckOf Fault)) (x : Fault) → IsFirstAmong checks x → AllPass checks → ⊥
 not-all [] x first pass = first
 not-all (c ∷ cs) x (inl (fails, same)) pass = fails pass.0
 not-all (c ∷ cs) x (inr (holds, first)) pass = not-all cs x first pass.1
 
--- one check at most fails first
+-- at most one check fails first
 one-first : (checks : List (CheckOf Fault)) (x y : Fault) → IsFirstAmong checks x → IsFirstAmong checks y → x ≡ y
 one-first [] x y first second = absurd first
 one-first (c ∷ cs) x y (inl (fails, same)) (inl (fails', same')) = sym same ∙ same'
@@ -22,7 +22,7 @@ one-first (c ∷ cs) x y (inl (fails, same)) (inr (holds, other)) = absurd (fail
 one-first (c ∷ cs) x y (inr (holds, first)) (inl (fails, same)) = absurd (fails holds)
 one-first (c ∷ cs) x y (inr (holds, first)) (inr (holds', second)) = one-first cs x y first second
 
--- so it is over stages
+-- if some check fails first over all stages, not all stages pass
 not-all-stages : (ss : List (List (CheckOf Fault))) (x : Fault) → IsFirstInStages ss x → AllStagesPass ss → ⊥
 not-all-stages [] x first pass = first
 not-all-stages (cs ∷ ss) x (inl first) pass = not-all cs x first pass.0

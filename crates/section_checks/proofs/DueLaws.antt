@@ -1,4 +1,4 @@
--- The branches that are due: one for each copy and each rule that leaves the symbol below it.
+-- The branches that are required: one for each copy and each rule that leaves the symbol below it.
 use Rattle.std.proofs.Common.{◌≡◌, ◌⊎◌, inl, inr, ℕ, zero, suc, ◌+◌, true, false, List, [], ◌∷◌}
 use Rattle.std.proofs.Common.{Some, refl, sym, ◌∙◌, ap, subst, arith}
 use Rattle.std.specs.Prelude.{slice_get, nat_eq, if◌then◌else◌}
@@ -12,11 +12,11 @@ use Rattle.refined_programs.specs.Annotated.{Branch}
 use Rattle.cert_rules.specs.Reasons.{AllPass}
 use Rattle.section_checks.specs.Faults.{Due, due_at, due, branch_checks}
 
--- what is due of one rule at a copy of a symbol
+-- the branches that one rule requires at a copy of a symbol
 abbrev pub due_of : ℕ → ℕ → ℕ → Rule → List Due
 due_of k symbol t r = if nat_eq r.source symbol then record { source = k; rule = t } ∷ [] else []
 
--- of a rule that leaves the symbol it is one branch
+-- a rule that leaves the symbol requires one branch
 leaves-due : (k symbol t : ℕ) (r : Rule) → r.source ≡ symbol
     → Contains (due_of k symbol t r) (record { source = k; rule = t })
 leaves-due k symbol t r e = go (eqb_tells r.source symbol)
@@ -26,7 +26,7 @@ leaves-due k symbol t r e = go (eqb_tells r.source symbol)
     go (inl (test, same)) = rw test (0, omega arith, refl)
     go (inr (test, other)) = absurd (other e)
 
--- and what is due is of a rule that leaves it
+-- a rule that requires a branch leaves the symbol
 due-leaves : (k symbol t : ℕ) (r : Rule) (d : Due) → Contains (due_of k symbol t r) d
     → (d.source ≡ k) × (d.rule ≡ t) × (r.source ≡ symbol)
 due-leaves k symbol t r d h = go (eqb_tells r.source symbol)
@@ -43,7 +43,7 @@ due-leaves k symbol t r d h = go (eqb_tells r.source symbol)
     go (inl (test, same)) = let k' = one (rw test at h) in (k'.0, k'.1, same)
     go (inr (test, other)) = absurd (none (rw test at h))
 
--- each rule that leaves the symbol is due at its copy
+-- each rule that leaves the symbol requires a branch at its copy
 has-due_at : (k symbol t : ℕ) (rules : List Rule) (i : ℕ) (r : Rule) → slice_get rules i ≡ Some r → r.source ≡ symbol
     → Contains (due_at k symbol t rules) (record { source = k; rule = t + i })
 has-due_at k symbol t [] i r e leaves = absurd (none_some r e)
@@ -57,7 +57,7 @@ has-due_at k symbol t (q ∷ rules) (suc i) r e leaves =
     (Contains-append_right (due_of k symbol t q) (due_at k symbol (suc t) rules) (record { source = k; rule = suc t + i })
     (has-due_at k symbol (suc t) rules i r e leaves))
 
--- so at each copy
+-- each rule requires a branch at each copy of its source
 pub has-due : (p : Program) (k : ℕ) (copies : List annotated.Copy) (j : ℕ) (c : annotated.Copy) (i : ℕ) (r : Rule)
     → slice_get copies j ≡ Some c → slice_get p.rules i ≡ Some r → r.source ≡ c.over
     → Contains (due p k copies) (record { source = k + j; rule = suc i })
@@ -74,7 +74,7 @@ has-due p k (a ∷ copies) (suc j) c i r e at leaves =
     (Contains-append_right (due_at k a.over 1 p.rules) (due p (suc k) copies) (record { source = suc k + j; rule = suc i })
     (has-due p (suc k) copies j c i r e at leaves))
 
--- what is due at a copy: a rule that leaves its symbol
+-- a branch that is required at a copy is of a rule that leaves its symbol
 pub record IsDueAt (k symbol t : ℕ) (rules : List Rule) (d : Due) : Type 0 where
   pub source : d.source ≡ k
   pub position : ℕ
@@ -108,7 +108,7 @@ due_at-is k symbol t (q ∷ rules) d h =
         record { source = found.0; position = 0; number = omega (arith, found.1); rule = q; there = refl; leaves = found.2 }
     go (inr other) rest = later (rest other)
 
--- what is due: at a copy a rule that leaves the symbol below it
+-- a required branch is at a copy, of a rule that leaves the symbol below it
 pub record IsDue (p : Program) (k : ℕ) (copies : List annotated.Copy) (d : Due) : Type 0 where
   pub position : ℕ
   pub source : d.source ≡ k + position
@@ -153,7 +153,7 @@ due-is p k (a ∷ copies) d h =
     go (inl one) rest = first (due_at-is k a.over 1 p.rules d one)
     go (inr other) rest = later (rest other)
 
--- a branch is the one that is due
+-- a branch of the list is the required one at its position
 pub record IsBranchDue (branches : List Branch) (dues : List Due) (b : Branch) (d : Due) : Type 0 where
   pub branch : Contains branches b
   pub listed : Contains dues d
@@ -169,7 +169,7 @@ later-due a branches e dues b d h = record {
   rule = h.rule;
 }
 
--- where the checks of branches pass, each branch is due
+-- if the checks of branches pass, each branch is a required one
 pub branch-due : (k : ℕ) (branches : List Branch) (dues : List Due) → AllPass (branch_checks k branches dues) → (b : Branch)
     → Contains branches b → (d : Due) × IsBranchDue branches dues b d
 branch-due k [] dues pass b (i, low, at) = absurd (omega (arith, low))
@@ -189,7 +189,7 @@ branch-due k (a ∷ branches) (e ∷ dues) pass b (suc i, low, at) =
     later : ((d : Due) × IsBranchDue branches dues b d) → (d : Due) × IsBranchDue (a ∷ branches) (e ∷ dues) b d
     later (d, h) = (d, later-due a branches e dues b d h)
 
--- and what is due has a branch
+-- if the checks of branches pass, each required branch is there
 pub due-branch : (k : ℕ) (branches : List Branch) (dues : List Due) → AllPass (branch_checks k branches dues) → (d : Due)
     → Contains dues d → (b : Branch) × IsBranchDue branches dues b d
 due-branch k branches [] pass d (i, low, at) = absurd (omega (arith, low))

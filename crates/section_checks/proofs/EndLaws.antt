@@ -1,4 +1,4 @@
--- What the checks of ends say of each end.
+-- The checks of ends, for each end.
 use Rattle.std.proofs.Common.{◌≡◌, ℕ, zero, suc, List, [], ◌∷◌, ◌++◌, map, Option, Some}
 use Rattle.std.proofs.Common.{subst, arith}
 use Rattle.std.specs.List.{AllByRecursion, Contains}
@@ -18,13 +18,13 @@ pub record IsMet (o : Obligation) : Type 0 where
   pub within : IsWithinLimits o.rule
   pub shows : Implies (rows_of o.rule) o.by minus_one
 
--- an end has its shape, and its obligations, at whatever number, are met
+-- an end has its shape, and its obligations, whatever its number, are met
 pub record IsEndMet (copies : List Copy) (r : Option Rule) (e : End) : Type 0 where
   pub fits : GoalFits copies r e.goal
   pub number : ℕ
   pub met : AllByRecursion IsMet (obligations_of copies number r e)
 
--- an end of a branch is
+-- an end of a branch has its shape, and its obligations are met
 abbrev pub IsBranchEndMet : List Copy → BranchEnd → Type 0
 IsBranchEndMet copies e = IsEndMet copies e.rule e.end
 
@@ -34,7 +34,7 @@ obligations-met n [] within pass = tt
 obligations-met n (o ∷ os) within pass =
     (record { within = within.0; shows = (pass.1).0 }, obligations-met n os within.1 (pass.1).1)
 
--- where the checks of shapes, limits and certificates pass, all ends are met
+-- if the checks of shapes, limits and certificates pass, all ends are met
 pub ends-met : (copies : List Copy) (n : ℕ) (es : List BranchEnd) → AllPass (shape_checks copies n es)
     → AllPass (limit_checks copies n es) → AllStagesPass (certificate_stages copies n es)
     → AllByRecursion (IsBranchEndMet copies) es
@@ -48,7 +48,7 @@ ends-met copies n (e ∷ es) shape limits certificates = (
   ends-met copies (suc n) es shape.1 limits.1 certificates.1,
 )
 
--- what holds of each element of two lists holds of each of the first, and of each of the second
+-- a property of all elements of two lists joined is one of all of the first, and of all of the second
 pub front-all : {X : Type 0} (P : X → Type 0) (xs ys : List X) → AllByRecursion P (xs ++ ys) → AllByRecursion P xs
 front-all P [] ys h = tt
 front-all P (x ∷ xs) ys h = (h.0, front-all P xs ys h.1)
@@ -57,13 +57,13 @@ pub rest-all : {X : Type 0} (P : X → Type 0) (xs ys : List X) → AllByRecursi
 rest-all P [] ys h = h
 rest-all P (x ∷ xs) ys h = rest-all P xs ys h.1
 
--- and of each image, of each element
+-- a property of all images is one of each element's image
 pub image-all : {X Y : Type 0} (P : Y → Type 0) (f : X → Y) (xs : List X) → AllByRecursion P (map f xs)
     → AllByRecursion (λ x. P (f x)) xs
 image-all P f [] h = tt
 image-all P f (x ∷ xs) h = (h.0, image-all P f xs h.1)
 
--- the ends of each branch are met where all are
+-- if all ends are met, those of each branch are
 pub branch-met : (P : BranchEnd → Type 0) (p : Program) (s : Section) (branches : List Branch) (b : Branch)
     → Contains branches b → AllByRecursion P (ends_of p s branches) → AllByRecursion P (ends_of_branch p s b)
 branch-met P p s [] b (i, low, at) h = absurd (omega (arith, low))
@@ -74,7 +74,7 @@ branch-met P p s (a ∷ branches) b (suc i, low, at) h =
     branch-met P p s branches b (i, omega (arith, low), at)
     (rest-all P (ends_of_branch p s a) (ends_of p s branches) h)
 
--- so are those of its cases
+-- if all ends are met, those of a branch's cases are
 pub cases-met : (copies : List Copy) (p : Program) (s : Section) (branches : List Branch) (b : Branch) (r : Rule)
     → Contains branches b → rule_at p b.rule ≡ Some r
     → AllByRecursion (IsBranchEndMet copies) (ends_of p s branches)

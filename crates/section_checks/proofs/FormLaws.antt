@@ -13,7 +13,7 @@ use Rattle.refined_programs.specs.Affine.{number_term, with_product, with_produc
 use Rattle.refined_programs.specs.Annotated.{form_term}
 use Rattle.section_checks.specs.Faults.{IsWide}
 
--- a number reads nothing
+-- a number reads no variable
 number-reads : (n : ℕ) (z : ℤ) → ReadsBelow n (number_term z)
 number-reads n (pos k) = tt
 number-reads n (negsuc k) = tt
@@ -26,7 +26,7 @@ product-reads n i t a low h = go (int_eq a (pos 0)) refl
     go true e = rw e h
     go false e = rw e (h, (number-reads n a, omega (arith, low)))
 
--- products read as many variables as there are
+-- the products of coefficients with the variables from i on read at most the first n, if there are at most that many
 products-read : (n i : ℕ) (t : Term) (coefs : List ℤ) → i + length coefs ≤ n → ReadsBelow n t
     → ReadsBelow n (with_products t i coefs)
 products-read n i t [] low h = h
@@ -34,7 +34,7 @@ products-read n i t (a ∷ coefs) low h =
     products-read n (suc i) (with_product t i a) coefs (omega (arith, low))
     (product-reads n i t a (omega (arith, low)) h)
 
--- so does a form
+-- a form of n coefficients reads at most the first n variables
 pub form-reads : (n : ℕ) (a : Form) → IsWide n a → ReadsFirst n (form_term a)
 form-reads n a wide = record {
   each = λ values more len. value-append_right (form_term a) values more

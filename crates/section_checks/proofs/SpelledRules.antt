@@ -1,4 +1,4 @@
--- The rules that a section spells are those of the ends at copies: how many there are, and what holds of each.
+-- The rules that a section spells are those of the ends at copies: their number, and properties of each.
 use Rattle.std.proofs.Common.{◌≡◌, ◌⊎◌, inl, inr, ℕ, zero, suc, ◌+◌, ◌≤◌, ◌||◌, Bool, true, false, List, [], ◌∷◌, ◌++◌}
 use Rattle.std.proofs.Common.{length, map, Option, Some, None, refl, sym, ◌∙◌, ap, subst, arith, length-append}
 use Rattle.std.specs.Prelude.{nat_eq, slice_get}
@@ -14,7 +14,7 @@ use Rattle.refined_programs.specs.Ends.{Goal, AtCopy, Nowhere, End, path_of, pat
 use Rattle.refined_programs.proofs.EndLaws.{paths-ends, rules-along}
 use Rattle.section_checks.specs.Faults.{BranchEnd, ends_of_branch, ends_of, rules_at, leaves_by, rules_among, leaves_start}
 
--- a test is passed among the elements of two lists where it is among those of one
+-- if some element of one of two lists passes a test, some element of both joined does
 any-left : {X : Type 0} (test : X → Bool) (xs ys : List X) → list_any test xs ≡ true → list_any test (xs ++ ys) ≡ true
 any-left test [] ys h = absurd (false_true h)
   where
@@ -35,13 +35,13 @@ any-right test (x ∷ xs) ys h = go (test x) refl (any-right test xs ys h)
     go true e later = ap (λ (v : Bool). v || list_any test (xs ++ ys)) e
     go false e later = ap (λ (v : Bool). v || list_any test (xs ++ ys)) e ∙ later
 
--- what holds of each element of two lists holds of each of both
+-- if all elements of each of two lists have a property, so have those of both joined
 both-all : {X : Type 0} (P : X → Type 0) (xs ys : List X) → AllByRecursion P xs → AllByRecursion P ys
     → AllByRecursion P (xs ++ ys)
 both-all P [] ys h k = k
 both-all P (x ∷ xs) ys h k = (h.0, both-all P xs ys h.1 k)
 
--- ends are counted, and leave the start, list by list
+-- the number of ends at copies in two lists joined is the sum, and an end leaves the start if one of either list does
 among-append : (xs ys : List BranchEnd) → rules_among (xs ++ ys) ≡ rules_among xs + rules_among ys
 among-append [] ys = omega arith
 among-append (e ∷ xs) ys = omega (arith, among-append xs ys)
@@ -65,7 +65,7 @@ start-append (e ∷ xs) ys h = go (leaves_by e.source e.end.goal) refl h (start-
 abbrev pub rules_by : Program → Section → List Branch → List Rule
 rules_by p s branches = map (λ c. c.rule) (rule_copies p (section_of s) (map branch_of branches))
 
--- those of one branch: along the paths of its ends
+-- laws for the rules of one branch: those along the paths of its ends
 module _ (p : Program) (s : Section) (b : Branch) where
   abbrev pub own_ends : List End
   own_ends = ends (map passes (facts_of (section_of s) b.source)) b.cases
@@ -73,7 +73,7 @@ module _ (p : Program) (s : Section) (b : Branch) where
   abbrev pub own_rules : List Rule
   own_rules = map (λ c. c.rule) (copies_by p (section_of s) (branch_of b))
 
-  -- of a branch without a rule there are none
+  -- a branch without a rule has no rules
   pub no-rules : rule_at p b.rule ≡ None → own_rules ≡ []
   no-rules e =
       ap (λ (o : Option Rule). map (λ c. c.rule) (copies_along (branch_of b) o
@@ -109,7 +109,7 @@ branch-count p s b = go (rule_at p b.rule) refl
     go (Some r) e =
         omega (arith, ap (length {A = Rule}) (some-rules p s b r e), paths-count b.source (rule_at p b.rule) r (own_ends p s b))
 
--- so the section spells at most as many rules as ends are at copies
+-- a section spells at most as many rules as there are ends at copies
 pub rules-count : (p : Program) (s : Section) (branches : List Branch)
     → length (rules_by p s branches) ≤ rules_among (ends_of p s branches)
 rules-count p s [] = omega arith
@@ -133,7 +133,7 @@ or_right : (v w : Bool) → w ≡ true → (v || w) ≡ true
 or_right true w h = refl
 or_right false w h = h
 
--- ends of one branch, and the rules along their paths
+-- laws for ends of one branch, and the rules along their paths
 module _ (source : ℕ) (o : Option Rule) (r : Rule) where
   abbrev placed : List End → List BranchEnd
   placed es = map (λ e. record { source = source; rule = o; end = e }) es
@@ -141,7 +141,7 @@ module _ (source : ℕ) (o : Option Rule) (r : Rule) where
   abbrev along : List End → List Rule
   along es = map (rule_along source r) (paths_of es)
 
-  -- where an end at a copy leaves the first copy, a rule does
+  -- if an end at a copy leaves the first copy, a rule does
   paths-start : (es : List End) → leaves_start (placed es) ≡ true → any_start (along es) ≡ true
   paths-start [] h = absurd (false_true h)
     where
@@ -162,12 +162,12 @@ module _ (source : ℕ) (o : Option Rule) (r : Rule) where
               or_right (nat_eq 0 source) (any_start (along es))
               (ih (subst (λ (v : Bool). (v || leaves_start (placed es)) ≡ true) test k))
 
-  -- what holds of the rule of each end at a copy
+  -- the rule of an end at a copy has the property
   abbrev pub HoldsOfGoal : (Rule → Type 0) → List Atom → Goal → Type 0
   HoldsOfGoal P atoms (AtCopy k by) = P (rule_along source r (record { atoms = atoms; copy = k }))
   HoldsOfGoal P atoms (Nowhere by) = Unit {0}
 
-  -- holds of each rule along the paths
+  -- if the rule of each end at a copy has a property, so has each rule along the paths
   pub paths-all : (P : Rule → Type 0) (es : List End) → AllByRecursion (λ e. HoldsOfGoal P e.atoms e.goal) es
       → AllByRecursion P (along es)
   paths-all P [] h = tt
@@ -194,7 +194,7 @@ module _ (p : Program) (s : Section) where
       (both-all P (own_rules p s b) (rules_by p s branches) (each b (0, omega arith, refl))
       (rules-all P branches (λ x h. each x (suc h.0, omega (arith, h.1), h.2))))
 
-  -- where an end at a copy leaves the first copy, one leaves the first symbol
+  -- if an end at a copy leaves the first copy, a spelled rule leaves the first symbol
   pub rules-start : (branches : List Branch) → ((b : Branch) → Contains branches b → (r : Rule) × (rule_at p b.rule ≡ Some r))
       → leaves_start (ends_of p s branches) ≡ true → any_start (rules_by p s branches) ≡ true
   rules-start [] each h = absurd (false_true h)

@@ -1,4 +1,4 @@
--- What an accepted section spells is a valid program, where its copies have names that differ.
+-- The program that an accepted section spells is valid, if its copies have different names.
 use Rattle.std.proofs.Common.{◌≡◌, ℕ, zero, suc, ◌+◌, ◌<◌, ◌≤◌, List, [], ◌∷◌, length, map, Option, Some, None}
 use Rattle.std.proofs.Common.{refl, sym, ◌∙◌, ap, subst, arith}
 use Rattle.std.specs.Prelude.{slice_get, option_map}
@@ -29,7 +29,7 @@ use Rattle.section_checks.proofs.SpelledRules.{rules-all, rules-start}
 abbrev IsEndGood : List plain.Copy → BranchEnd → Type 0
 IsEndGood copies e = GoalFits copies e.rule e.end.goal × IsEndWithin e.rule e.end
 
--- so have all where the checks pass
+-- if the checks pass, each end has its shape, and its rule is within the limits
 ends-good : (copies : List plain.Copy) (n : ℕ) (es : List BranchEnd) → AllPass (shape_checks copies n es)
     → AllPass (limit_checks copies n es) → AllByRecursion (IsEndGood copies) es
 ends-good copies n [] shapes limits = tt
@@ -44,7 +44,7 @@ few-places p valid k = go (slice_get p.symbols k) refl
     go None e = omega arith
     go (Some x) e = (holds-at IsValidSymbol p.symbols k x valid.symbols e).arity
 
--- the symbols that copies become
+-- the symbols of the spelled program are valid
 symbols-valid : (p : Program) → IsValid p → (cs : List annotated.Copy) → AllByRecursion (λ c. IsName c.name) cs
     → AllByRecursion IsValidSymbol (map (symbol_by p) (map copy_of cs))
 symbols-valid p valid [] names = tt
@@ -57,7 +57,7 @@ names-same p [] = refl
 names-same p (c ∷ cs) = ap (λ (names : List Name). c.name ∷ names) (names-same p cs)
 
 module _ (p : Program) (s : Section) (valid : IsValid p) (named : HasDistinctNames s) (accepted : IsAccepted p s) where
-  -- the symbol of a copy, and its places
+  -- the symbol of a copy has the places of the symbol below
   symbol-at : (k : ℕ) (copy : plain.Copy) → slice_get (section_of s).copies k ≡ Some copy
       → slice_get (spelled p (section_of s)).symbols k ≡ Some (symbol_by p copy)
   symbol-at k copy e =
@@ -95,7 +95,7 @@ module _ (p : Program) (s : Section) (valid : IsValid p) (named : HasDistinctNam
         cost = base.cost;
       }
 
-  -- so are those of a branch
+  -- the rules of a branch are valid
   own-valid : (b : Branch) → Contains s.branches b → AllByRecursion (IsValidRule (spelled p (section_of s))) (own_rules p s b)
   own-valid b member =
       let (c, r, fits) = branch-of p s valid accepted b member in

@@ -41,13 +41,13 @@ use Rattle.section_decide.specs.Laws.{FaultsAreComputed}
 use Rattle.section_decide.proofs.StageTests.{AllStagesDecide, first-in-stages, stages-first, stages-pass, stages-none}
 use Rattle.section_decide.proofs.StageTests.{numbered-decide}
 
--- what holds of each element of a list
+-- the test of each element of a list decides a property of each
 pub decides-each : {X : Type 0} (p : X → Bool) (P : X → Type 0) → ((x : X) → Decides (p x) (P x)) → (xs : List X)
     → Decides (list_all p xs) (AllByRecursion P xs)
 decides-each p P each xs =
     Decides-like (list_all p xs) (recursion_from_All P xs) (All-from_recursion P xs) (decides-all p P each xs)
 
--- the start
+-- the test of the start decides its check
 decides-start : (p : Program) (s : Section) (copies : List annotated.Copy) → s.copies ≡ copies
     → Decides (starts_right p copies) (HasFirstCopy p (section_of s))
 decides-start p s [] e =
@@ -74,11 +74,11 @@ decides-start p s (c ∷ copies) e =
     none-left [] l = refl
     none-left (f ∷ fs) l = absurd (omega (arith, ap (length {A = Term}) l))
 
--- forms
+-- the test of a form's number of coefficients decides it
 decides-wide : (n : ℕ) (f : Form) → Decides (is_wide n f) (IsWide n f)
 decides-wide n f = Decides-eqb (length f.coefs) n
 
--- branches
+-- the tests of branches decide their checks
 decides-branches : (k : ℕ) (branches : List Branch) (dues : List Due)
     → AllDecide (branch_checks k branches dues) (branch_tests k branches dues)
 decides-branches k [] [] = tt
@@ -92,7 +92,7 @@ decides-branches k (b ∷ branches) (d ∷ ds) = (
   ),
 )
 
--- tests among cases
+-- the test of the tests among cases decides their number of coefficients
 decides-tests : (n : ℕ) (c : Cases) → Decides (are_tests_wide n c) (AreTestsWide n c)
 decides-tests n (To copy by) = decides-yes tt
 decides-tests n (Never by) = decides-yes tt
@@ -100,7 +100,7 @@ decides-tests n (If form yes_cases no_cases) =
     Decides-like _ (λ h. (h.0, h.1.0, h.1.1)) (λ h. (h.0, (h.1, h.2)))
     (Decides-and _ _ (decides-wide n form) (Decides-and _ _ (decides-tests n yes_cases) (decides-tests n no_cases)))
 
--- the shape of an end
+-- the test whether a copy and a rule fit decides it
 decides-fits : (copy : Option Copy) (r : Option Rule) (by : List (List ℕ)) → Decides (fits_at copy r by) (FitsAt copy r by)
 decides-fits (Some copy) (Some r) by =
     Decides-like _ (λ h. record { target = h.0; lists = h.1 }) (λ h. (h.target, h.lists))
@@ -113,12 +113,12 @@ decides-goal : (copies : List Copy) (r : Option Rule) (g : Goal) → Decides (go
 decides-goal copies r (Nowhere by) = decides-yes tt
 decides-goal copies r (AtCopy k by) = decides-fits (slice_get copies k) r by
 
--- how many rules there are
+-- the test of the number of rules decides its check
 decides-rules : (es : List BranchEnd)
     → Decides (are_rules_right es) ((rules_among es ≤ rule_limit) × (leaves_start es ≡ true))
 decides-rules es = Decides-and _ _ (decides-le (rules_among es) rule_limit) ((λ e. e), (λ e. e))
 
--- limits
+-- the test of the variables that an expression reads decides them
 decides-reads : (n : ℕ) (t : Term) → Decides (reads_below n t) (ReadsBelow n t)
 decides-reads n (Literal z) = decides-yes tt
 decides-reads n (Variable i) = Decides-ltb i n
@@ -149,7 +149,7 @@ decides-end : (r : Option Rule) (e : End) → Decides (is_end_within r e) (IsEnd
 decides-end None e = decides-yes tt
 decides-end (Some r) e = decides-within (with_guard r (guard_along r e.atoms))
 
--- multipliers
+-- the test whether multipliers fit the rows decides it
 pub decides-rows : (o : Obligation) → Decides (fits_rows o) (FitsRows o)
 decides-rows o =
     Decides-like _ (λ h. record { long = h.0; small = h.1 }) (λ h. (h.long, h.small))
@@ -166,7 +166,7 @@ decides-certificates copies n [] = tt
 decides-certificates copies n (e ∷ es) =
     (decides-obligations n (obligations_of copies n e.rule e.end), decides-certificates copies (suc n) es)
 
--- all stages
+-- laws for the tests of all stages
 module _ (p : Program) (s : Section) where
   tests-decide : AllStagesDecide (stages p s) (tests p s)
   tests-decide =

@@ -42,7 +42,7 @@ stages-first (cs ∷ checks) (ts ∷ tests) h fault (inr (before, k)) =
     ap (λ (o : Option Fault). or_then o (first_in_stages tests)) (passes-none cs ts h.0 before)
     ∙ stages-first checks tests h.1 fault k
 
--- where the tests give none all checks pass
+-- if the tests give no fault, all checks pass
 pub stages-pass : (checks : List (List (CheckOf Fault))) (tests : List (List Test)) → AllStagesDecide checks tests
     → first_in_stages tests ≡ None → AllStagesPass checks
 stages-pass [] [] h e = tt
@@ -55,7 +55,7 @@ stages-pass (cs ∷ checks) (ts ∷ tests) h e = go (first_failing ts) refl (sta
     go (Some found) f later k = absurd (none_some found (sym k))
     go None f later k = (none-passes cs ts h.0 f, later k)
 
--- and where all pass the tests give none
+-- if all checks pass, the tests give no fault
 pub stages-none : (checks : List (List (CheckOf Fault))) (tests : List (List Test)) → AllStagesDecide checks tests
     → AllStagesPass checks → first_in_stages tests ≡ None
 stages-none [] [] h k = refl
@@ -65,7 +65,7 @@ stages-none (cs ∷ checks) (ts ∷ tests) h k =
     ap (λ (o : Option Fault). or_then o (first_in_stages tests)) (passes-none cs ts h.0 k.0)
     ∙ stages-none checks tests h.1 k.1
 
--- tests of the elements of a list decide the checks of these
+-- laws for tests of the elements of a list, which decide the checks of these elements
 module _ {A : Type 0} (f : ℕ → A → CheckOf Fault) (g : ℕ → A → Test) (same : (k : ℕ) (x : A) → (f k x).reason ≡ (g k x).reason)
     (decides : (k : ℕ) (x : A) → Decides (g k x).passes (f k x).holds) where
   pub numbered-decide : (k : ℕ) (xs : List A) → AllDecide (numbered f k xs) (numbered_tests g k xs)

@@ -1,4 +1,4 @@
--- The worked sections are accepted, or have the faults that were worked out.
+-- The worked sections are accepted, or have the stated faults.
 use Rattle.std.proofs.Common.{refl}
 use Rattle.section_checks.specs.refinement_rows.guard_prep.Tightening.{divisor_of}
 use Rattle.section_decide.specs.Worked.{SectionsAreJudged, ShapesAreRefused, CertificatesAreRefused, LimitsAreMet}

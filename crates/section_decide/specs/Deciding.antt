@@ -1,4 +1,4 @@
--- Decides by computation what is wrong first with a section: a test for each check, stage by stage.
+-- Decides by computation which fault of a section is the first: a test for each check, stage by stage.
 use Rattle.std.specs.Prelude.{ℕ, suc, ◌+◌, ◌==◌, ◌&&◌, nat_lt, nat_le, Bool, true, false, List, [], ◌∷◌, length, map}
 use Rattle.std.specs.Prelude.{Option, Some, None, slice_get, is_none}
 use Rattle.std.specs.List.{list_all}
@@ -29,7 +29,7 @@ use Rattle.section_checks.specs.Faults.{Obligation, obligations_of}
 abbrev pub Test : Type 0
 Test = TestOf Fault
 
--- a test of each element of a list, the first of which has number k
+-- a test for each element of a list, the first of which has number k
 abbrev pub numbered_tests : {A : Type 0} → (ℕ → A → Test) → ℕ → List A → List Test
 numbered_tests f k [] = []
 numbered_tests f k (x ∷ xs) = f k x ∷ numbered_tests f (suc k) xs
@@ -39,44 +39,44 @@ abbrev pub starts_right : Program → List annotated.Copy → Bool
 starts_right p [] = false
 starts_right p (c ∷ copies) = (c.over == p.start) && (length c.facts == 0)
 
--- a form has so many coefficients
+-- a form has n coefficients
 abbrev pub is_wide : ℕ → Form → Bool
 is_wide n f = length f.coefs == n
 
--- each fact of a copy has a coefficient for each place of the symbol below
+-- the test that each fact of a copy has a coefficient for each place of the symbol below
 abbrev pub fact_test : Program → ℕ → annotated.Copy → Test
 fact_test p k c = test (WrongFacts k) (list_all (is_wide (arity_of p c.over)) c.facts)
 
 abbrev pub fact_tests : Program → ℕ → List annotated.Copy → List Test
 fact_tests p k copies = numbered_tests (fact_test p) k copies
 
--- a branch is the one that is due
+-- the branch is the required one
 abbrev pub is_due : Branch → Due → Bool
 is_due b d = (b.source == d.source) && (b.rule == d.rule)
 
--- each branch is, and none is missing behind the last
+-- the tests that each branch is the required one, and that none is missing at the end
 abbrev pub branch_tests : ℕ → List Branch → List Due → List Test
 branch_tests k [] [] = []
 branch_tests k [] (d ∷ ds) = test (WrongBranch k) false ∷ []
 branch_tests k (b ∷ branches) [] = test (WrongBranch k) false ∷ []
 branch_tests k (b ∷ branches) (d ∷ ds) = test (WrongBranch k) (is_due b d) ∷ branch_tests (suc k) branches ds
 
--- each test among cases has so many coefficients
+-- each test among cases has n coefficients
 abbrev pub are_tests_wide : ℕ → Cases → Bool
 are_tests_wide n (To copy by) = true
 are_tests_wide n (Never by) = true
 are_tests_wide n (If form yes_cases no_cases) =
     is_wide n form && (are_tests_wide n yes_cases && are_tests_wide n no_cases)
 
--- each test of a branch has a coefficient for each variable of its rule
+-- the test that each test of a branch has a coefficient for each variable of its rule
 abbrev pub width_test : Program → ℕ → Branch → Test
 width_test p k b = test (WrongTest k) (are_tests_wide (variables_in (rule_at p b.rule)) b.cases)
 
 abbrev pub width_tests : Program → ℕ → List Branch → List Test
 width_tests p k branches = numbered_tests (width_test p) k branches
 
--- where there are the copy and the rule, the copy is one of the rule's target, and there are as many lists of
--- multipliers as facts
+-- the copy and the rule exist, the copy is one of the rule's target, and there are as many lists of multipliers as
+-- facts
 abbrev pub fits_at : Option Copy → Option Rule → List (List ℕ) → Bool
 fits_at (Some copy) (Some r) by = (copy.over == r.target) && (length by == length copy.facts)
 fits_at (Some copy) None by = false
@@ -88,7 +88,7 @@ abbrev pub goal_fits : List Copy → Option Rule → Goal → Bool
 goal_fits copies r (Nowhere by) = true
 goal_fits copies r (AtCopy k by) = fits_at (slice_get copies k) r by
 
--- each end has its shape
+-- the test that an end has its shape
 abbrev pub shape_test : List Copy → ℕ → BranchEnd → Test
 shape_test copies n e = test (WrongShape n) (goal_fits copies e.rule e.end.goal)
 
@@ -125,7 +125,7 @@ abbrev pub is_end_within : Option Rule → End → Bool
 is_end_within None e = true
 is_end_within (Some r) e = is_within_limits (with_guard r (guard_along r e.atoms))
 
--- the rule of an end and those of its obligations are
+-- the test that the rule of an end and those of its obligations are within the limits
 abbrev pub limit_test : List Copy → ℕ → BranchEnd → Test
 limit_test copies n e =
     test (OverLimit n) (is_end_within e.rule e.end
@@ -138,14 +138,14 @@ limit_tests copies n es = numbered_tests (limit_test copies) n es
 abbrev pub fits_rows : Obligation → Bool
 fits_rows o = (length o.by == length (rows_of o.rule)) && are_in_limit o.by
 
--- the multipliers of obligations of end n fit, and show that -1 follows from the rows
+-- the tests that the multipliers of the obligations of end n fit, and show that -1 follows from the rows
 abbrev pub obligation_tests : ℕ → List Obligation → List Test
 obligation_tests n [] = []
 obligation_tests n (o ∷ os) =
     test (WrongShape n) (fits_rows o) ∷ test o.fault (implies (rows_of o.rule) o.by minus_one)
     ∷ obligation_tests n os
 
--- the obligations of each end are met, stage by stage
+-- the tests of the obligations of each end, stage by stage
 abbrev pub certificate_tests : List Copy → ℕ → List BranchEnd → List (List Test)
 certificate_tests copies n [] = []
 certificate_tests copies n (e ∷ es) =
@@ -163,16 +163,16 @@ tests p s =
     ∷ limit_tests (map copy_of s.copies) 1 (ends_of p s s.branches)
     ∷ certificate_tests (map copy_of s.copies) 1 (ends_of p s s.branches)
 
--- the first fault, or else the second
+-- the first fault if there is one, or else the second
 abbrev pub or_then : Option Fault → Option Fault → Option Fault
 or_then (Some fault) later = Some fault
 or_then None later = later
 
--- the fault of the first test that fails, stage by stage, where one does
+-- the fault of the first test that fails, stage by stage, if one does
 abbrev pub first_in_stages : List (List Test) → Option Fault
 first_in_stages [] = None
 first_in_stages (ts ∷ stages) = or_then (first_failing ts) (first_in_stages stages)
 
--- what is wrong first with a section, if anything is
+-- the first fault of a section, if it has one
 abbrev pub section_fault : Program → Section → Option Fault
 section_fault p s = first_in_stages (tests p s)

@@ -1,6 +1,6 @@
--- what the contracts of this crate, and of those above it, cite
+-- The definitions that the contracts of this crate, and of crates above it, cite.
 pub mod Deciding
--- laws, and values that were worked out by hand
+-- laws and worked values
 pub mod Laws
 pub mod Worked
 -- the crate below, which callers name through this one

@@ -1,5 +1,4 @@
--- A section of a small program that is accepted, and what is wrong first with its variants, as it was worked out by
--- hand.
+-- Worked values: a section of a small program that is accepted, and the first faults of its variants.
 use Rattle.std.specs.Prelude.{◌≡◌, ℕ, zero, suc, true, false, List, [], ◌∷◌, pos, negsuc, Some, None}
 use Rattle.section_checks.specs.refined_programs.model.Terms.{Term, Literal, Variable, Negation, Subtraction}
 use Rattle.section_checks.specs.refined_programs.model.Programs.{AtLeast, AtMost, Atom, Always, Compare, Rule, Program}
@@ -36,18 +35,18 @@ counting = record {
       ∷ over_a 1 2 (Variable 0) (Compare (Variable 0) AtMost (Negation (Literal (pos 1)))) ∷ [];
 }
 
--- the form A, and A - n
+-- the forms A, and A - n
 abbrev pub just_a : Form
 just_a = record { coefs = pos 1 ∷ []; constant = pos 0 }
 
 abbrev pub a_less_2 : Form
 a_less_2 = record { coefs = pos 1 ∷ []; constant = negsuc 1 }
 
--- A + 0*B, which is too wide
+-- the form A + 0*B, which has a coefficient too many
 abbrev pub wide : Form
 wide = record { coefs = pos 1 ∷ pos 0 ∷ []; constant = pos 0 }
 
--- `a` of the symbol with a number, with facts; two copies of b, `b.1` with facts and `b.2` with facts
+-- the copy `a` of the symbol with a number, with facts; and two copies of b, `b.1` and `b.2`, with facts
 abbrev pub first_copy : ℕ → List Form → Copy
 first_copy over facts = record { name = 97 ∷ []; over = over; facts = facts }
 
@@ -56,37 +55,37 @@ copies first second =
     first_copy 0 [] ∷ record { name = 98 ∷ 46 ∷ 49 ∷ []; over = 1; facts = first }
     ∷ record { name = 98 ∷ 46 ∷ 50 ∷ []; over = 1; facts = second } ∷ []
 
--- where A is at least 2 the loop is left by the yes path, and else by the no path
+-- cases of the loop by a form: both paths lead to `b.2`, with multipliers for its fact
 abbrev pub loop_by : Form → Cases
 loop_by test = If test (To 2 ((1 ∷ 0 ∷ 0 ∷ 1 ∷ []) ∷ [])) (To 2 ((1 ∷ 0 ∷ 0 ∷ 1 ∷ []) ∷ []))
 
--- a branch
+-- a branch of a rule at a copy
 abbrev pub at : ℕ → ℕ → Cases → Branch
 at source rule cases = record { source = source; rule = rule; cases = cases }
 
--- rule 1 enters by these cases; at b.1 rule 2 goes on by these, and rule 3 is never enabled by these multipliers; nor
--- is it at b.2, where rule 2 stays by these
+-- the branches: rule 1 enters by these cases; at `b.1` rule 2 leads on by these cases, and rule 3 is never enabled, by
+-- these multipliers; at `b.2` rule 2 leads to `b.2` by these multipliers, and rule 3 is never enabled
 abbrev pub branches : Cases → Cases → List ℕ → List ℕ → List Branch
 branches enters loops never stays =
     at 0 1 enters ∷ at 1 2 loops ∷ at 1 3 (Never never) ∷ at 2 2 (To 2 (stays ∷ [])) ∷ at 2 3 (Never (1 ∷ 1 ∷ [])) ∷ []
 
--- the way in, the loop and the certificates as they are right
+-- the cases of entering, of the loop, and the certificates, all correct
 abbrev pub enters : Cases
 enters = To 1 ((1 ∷ 1 ∷ []) ∷ [])
 
 abbrev pub right : List Branch
 right = branches enters (loop_by a_less_2) (1 ∷ 1 ∷ []) (1 ∷ 0 ∷ 1 ∷ [])
 
--- a section
+-- a section of these copies and branches
 abbrev pub section : List Copy → List Branch → Section
 section cs bs = record { copies = cs; branches = bs }
 
--- both copies of b have the fact that A is at least 0
+-- the copies where both copies of b have the fact that A is at least 0
 abbrev pub natural : List Copy
 natural = copies (just_a ∷ []) (just_a ∷ [])
 
--- the section by whether A is at least 2 is accepted; so is one whose copies have no facts and no certificates, but for
--- the rule that is never enabled, which then leads to a copy of c
+-- the section that splits by whether A is at least 2 is accepted; and so is one whose copies have no facts,
+-- without certificates, in which rule 3, though never enabled, leads to a copy of c
 abbrev pub plain_branches : List Branch
 plain_branches = at 0 1 (To 1 []) ∷ at 1 2 (To 1 []) ∷ at 1 3 (To 2 []) ∷ []
 
@@ -99,20 +98,20 @@ pub record SectionsAreJudged : Type 0 where
   pub by_two : section_fault counting (section natural right) ≡ None
   pub plain : section_fault counting (section plain_copies plain_branches) ≡ None
 
--- what is wrong with shapes: the start, facts, branches, tests, ends, and how many rules there are
+-- faults of shape: the start, facts, branches, tests, ends, and the number of rules
 pub record ShapesAreRefused : Type 0 where
-  -- no copy; a fact at the first one; or another symbol below it
+  -- there is no copy; the first copy has a fact; or it is of another symbol
   pub no_copy : section_fault counting (section [] []) ≡ Some WrongStart
   pub start_fact : section_fault counting
       (section (first_copy 0 (just_a ∷ []) ∷ record { name = 98 ∷ []; over = 1; facts = [] } ∷ []) right)
       ≡ Some WrongStart
   pub start_symbol : section_fault counting
       (section (first_copy 1 [] ∷ record { name = 98 ∷ []; over = 1; facts = [] } ∷ []) right) ≡ Some WrongStart
-  -- a fact that is too wide, at b.1 or at b.2
+  -- a fact of `b.1`, or of `b.2`, has a coefficient too many
   pub wide_fact : section_fault counting (section (copies (wide ∷ []) (just_a ∷ [])) right) ≡ Some (WrongFacts 2)
   pub wide_second : section_fault counting (section (copies (just_a ∷ []) (just_a ∷ wide ∷ [])) right)
       ≡ Some (WrongFacts 3)
-  -- the branch of rule 3 at b.1 is missing, or all are behind the second; one stands twice; or two are exchanged
+  -- the branch of rule 3 at `b.1` is missing, or all after the second one are; one occurs twice; or two are exchanged
   pub missing : section_fault counting
       (section natural (at 0 1 enters ∷ at 1 2 (loop_by a_less_2) ∷ at 2 2 (To 2 ((1 ∷ 0 ∷ 1 ∷ []) ∷ []))
       ∷ at 2 3 (Never (1 ∷ 1 ∷ [])) ∷ [])) ≡ Some (WrongBranch 3)
@@ -125,10 +124,10 @@ pub record ShapesAreRefused : Type 0 where
   pub exchanged : section_fault counting
       (section natural (at 1 2 (loop_by a_less_2) ∷ at 0 1 enters ∷ at 1 3 (Never (1 ∷ 1 ∷ []))
       ∷ at 2 2 (To 2 ((1 ∷ 0 ∷ 1 ∷ []) ∷ [])) ∷ at 2 3 (Never (1 ∷ 1 ∷ [])) ∷ [])) ≡ Some (WrongBranch 1)
-  -- a test that is too wide
+  -- a test has a coefficient too many
   pub wide_test : section_fault counting
       (section natural (branches enters (loop_by wide) (1 ∷ 1 ∷ []) (1 ∷ 0 ∷ 1 ∷ []))) ≡ Some (WrongTest 2)
-  -- rule 1 leads to a copy of another symbol than its target; to one that there isn't; or has no list for its fact
+  -- rule 1 leads to a copy of another symbol than its target; to a copy that doesn't exist; or has no list for its fact
   pub other_symbol : section_fault counting
       (section natural (branches (To 0 []) (loop_by a_less_2) (1 ∷ 1 ∷ []) (1 ∷ 0 ∷ 1 ∷ []))) ≡ Some (WrongShape 1)
   pub no_such_copy : section_fault counting
@@ -139,21 +138,21 @@ pub record ShapesAreRefused : Type 0 where
   pub no_rule : section_fault counting
       (section natural (branches (Never (1 ∷ [])) (loop_by a_less_2) (1 ∷ 1 ∷ []) (1 ∷ 0 ∷ 1 ∷ []))) ≡ Some WrongRules
 
--- what is wrong with multipliers: how many there are, and what they show. The third end is that of the path where A is
--- below 2, the fourth that of rule 3 at b.1
+-- faults of multipliers: their number, and what they show. The third end is that of the path where A is below 2, the
+-- fourth that of rule 3 at `b.1`
 pub record CertificatesAreRefused : Type 0 where
-  -- three multipliers of two rows, and multipliers that don't show that A >= 0 and A <= -1 have no point
+  -- three multipliers for two rows; and multipliers that don't show that A >= 0 and A <= -1 have no point
   pub long : section_fault counting
       (section natural (branches enters (loop_by a_less_2) (1 ∷ 1 ∷ 0 ∷ []) (1 ∷ 0 ∷ 1 ∷ []))) ≡ Some (WrongShape 4)
   pub never : section_fault counting
       (section natural (branches enters (loop_by a_less_2) (1 ∷ 0 ∷ []) (1 ∷ 0 ∷ 1 ∷ []))) ≡ Some (NotNever 4)
-  -- a multiplier over 2^56
+  -- a multiplier is over 2^56
   pub large : section_fault counting
       (section natural
       (branches enters (loop_by a_less_2) (72057594037927937 ∷ 72057594037927937 ∷ []) (1 ∷ 0 ∷ 1 ∷ [])))
       ≡ Some (WrongShape 4)
-  -- multipliers that don't show the fact of b.2 behind rule 2 at b.2, and a fact there that is too strong by 1 behind
-  -- rule 2 at b.1
+  -- multipliers don't show the fact of `b.2` after rule 2 at `b.2`; and a fact of `b.2` is too strong by 1 after rule 2
+  -- at `b.1`
   pub fact : section_fault counting
       (section natural (branches enters (loop_by a_less_2) (1 ∷ 1 ∷ []) (1 ∷ 0 ∷ 0 ∷ []))) ≡ Some (NotFact 5 1)
   pub too_strong : section_fault counting
@@ -164,7 +163,7 @@ pub record CertificatesAreRefused : Type 0 where
 abbrev pub huge : Form
 huge = record { coefs = pos 9223372036854775808 ∷ []; constant = pos 0 }
 
--- a rule over A with so many atoms that always hold, and with a cost besides
+-- n atoms that always hold; a rule over A with n such atoms; and one with a cost besides
 abbrev pub always : ℕ → List Atom
 always zero = []
 always (suc n) = Always ∷ always n
@@ -175,19 +174,19 @@ with_atoms n = record (over_a 1 1 (Variable 0) Always) { guard = always n }
 abbrev pub costly_with_atoms : ℕ → Rule
 costly_with_atoms n = record (with_atoms n) { cost = Some (Variable 0) }
 
--- what is over the limits of rules
+-- rules over the limits, and rules within them
 pub record LimitsAreMet : Type 0 where
-  -- a fact at b.1 whose denial can't be expanded; one at b.2, which counts before multipliers of the first end that
-  -- don't show the fact of b.1
+  -- a fact of `b.1` whose denial can't be expanded; and such a fact of `b.2`, which is reported before multipliers of
+  -- the first end that don't show the fact of `b.1`
   pub huge_fact : section_fault counting (section (copies (huge ∷ []) (just_a ∷ [])) right) ≡ Some (OverLimit 1)
   pub before_multipliers : section_fault counting
       (section (copies (just_a ∷ []) (huge ∷ []))
       (branches (To 1 ((1 ∷ 0 ∷ []) ∷ [])) (loop_by a_less_2) (1 ∷ 1 ∷ []) (1 ∷ 0 ∷ 1 ∷ []))) ≡ Some (OverLimit 2)
-  -- 64 atoms are within the limits, and 63 beside a cost
+  -- 64 atoms are within the limits, and so are 63 beside a cost
   pub full : is_within_limits (with_atoms 64) ≡ true
   pub over : is_within_limits (with_atoms 65) ≡ false
   pub full_beside_cost : is_within_limits (costly_with_atoms 63) ≡ true
   pub over_beside_cost : is_within_limits (costly_with_atoms 64) ≡ false
-  -- and an atom that reads a variable that there isn't is not
+  -- an atom that reads a variable that doesn't exist is not within the limits
   pub other_variable : is_within_limits (over_a 1 1 (Variable 0) (Compare (Variable 1) AtLeast (Literal (pos 0))))
       ≡ false

@@ -11,7 +11,7 @@ use Rattle.refinement.proofs.Keeping.{weaker_guards_keep_bounds}
 use Rattle.section_makers.specs.Lighter.{is_small_atom, lighter_rule, lighter}
 use Rattle.section_makers.specs.Laws.{LighterProgramsKeepBounds}
 
--- what holds of each element holds of those that pass a test
+-- a property of all elements is one of those that pass a test
 kept-all : {X : Type 0} (P : X → Type 0) (test : X → Bool) (xs : List X) → AllByRecursion P xs
     → AllByRecursion P (filter test xs)
 kept-all P test [] h = tt

@@ -1,4 +1,4 @@
--- what the contracts of this crate, and of those above it, cite
+-- The definitions that the contracts of this crate, and of crates above it, cite.
 pub mod Lighter
 -- laws
 pub mod Laws

@@ -14,12 +14,12 @@ has_small_numbers n (Subtraction d e) = has_small_numbers n d && has_small_numbe
 has_small_numbers n (Multiplication d e) = has_small_numbers n d && has_small_numbers n e
 has_small_numbers n (Exponentiation e k) = has_small_numbers n e
 
--- and each of an atom
+-- each number of an atom is at most this in absolute value
 abbrev pub is_small_atom : ℕ → Atom → Bool
 is_small_atom n Always = true
 is_small_atom n (Compare d r e) = has_small_numbers n d && has_small_numbers n e
 
--- the rule with these atoms alone
+-- the rule with only the atoms of its guard whose numbers are small
 abbrev pub lighter_rule : ℕ → Rule → Rule
 lighter_rule n r = record {
   source = r.source;
@@ -32,7 +32,7 @@ lighter_rule n r = record {
   cost = r.cost;
 }
 
--- the program of these rules
+-- the program with these rules
 abbrev pub lighter : ℕ → Program → Program
 lighter n p = record {
   symbols = p.symbols;

@@ -11,8 +11,8 @@ use poly_terms::{Expr, Memory};
 use program_copies::{copied_atom, copied_cost, copied_exprs, copied_names, copied_symbols};
 use std::alloc::Global;
 
-/// The program whose guards have just those atoms of the program's in which each number is at most a limit. It has the
-/// same rules with weaker guards, so its bounds are bounds of the program.
+/// The program with only those atoms in its guards in which each number is at most a limit. It has the same rules with
+/// weaker guards, so its bounds are bounds of the program.
 ///
 /// # Errors
 ///
@@ -59,7 +59,7 @@ fn small_atoms(alloc: Global, atoms: &[Atom], limit: u64) -> Result<Vec<Atom>, M
     Ok(kept)
 }
 
-// Appends an atom, where each of its numbers is at most the limit.
+// Appends a copy of an atom, if each of its numbers is at most the limit.
 fn push_if_small(alloc: Global, kept: &mut Vec<Atom>, atom: &Atom, limit: u64) -> Result<(), Memory>
     ensures { OnOk result (map atom_of kept.new.items ≡ map atom_of kept.old.items
         ++ (if is_small_atom limit (atom_of atom.now) then atom_of atom.now ∷ [] else [])) }
@@ -99,8 +99,8 @@ fn has_small(e: &Expr, limit: u64) -> bool
     }
 }
 
-/// A program without its atoms that have large numbers keeps the bounds of the program: each run of the program is one of
-/// its runs. It has no code: its contract is the law.
+/// A program without its atoms that have large numbers keeps the bounds of the program: each run of the program is one
+/// of its runs. It has no code: its contract is the law.
 pub fn lighter_programs_keep_bounds()
     ensures { LighterProgramsKeepBounds }
 {}

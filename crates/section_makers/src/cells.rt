@@ -9,10 +9,11 @@ use poly_terms::{Memory, Row};
 use refined_programs::{Affine, Branch, Cases, Section, SymbolCopy};
 use std::alloc::Global;
 
-/// A copy of the start symbol, and one of each other symbol for each choice of signs of at most two of the forms that
-/// the guards of the rules that leave it compare with 0 (`prepared_rules` has the rows of the rules, in order). Facts of
-/// a copy are that its forms have its signs. A rule leads to a copy of its target by whether its forms are at least 0 at
-/// the new values, and nowhere from a copy that has a fact against one of its rows.
+/// The section with a copy of the start symbol, and of each other symbol one for each choice of signs of at most two
+/// forms, which the guards of the rules that leave the symbol compare with 0 (`prepared_rules` has the rows of the
+/// rules, in order). The facts of a copy say that its forms have its signs. A rule leads to the copy of its target by
+/// whether the target's forms are at least 0 at the new values, and nowhere from a copy that has a fact against one of
+/// its rows.
 ///
 /// # Errors
 ///
@@ -64,7 +65,7 @@ fn first_copies(alloc: Global, p: &Program, forms: &[SymbolForms]) -> Result<Vec
     Ok(firsts)
 }
 
-// How many choices of signs of these forms there are.
+// The number of choices of signs of these forms.
 fn cells_of(forms: &[Affine]) -> u32 {
     let mut count: u32 = 1;
     for _ in forms {
@@ -140,7 +141,7 @@ fn push_branches(
     Ok(())
 }
 
-// Where a rule leads from a copy.
+// The cases by which a rule leads from a copy.
 fn cases_of(
     alloc: Global,
     split: Split<'_>,
@@ -165,7 +166,7 @@ fn cases_of(
     cases_along(alloc, way)
 }
 
-// The rows of a guard, and those of facts.
+// The rows of a guard, and rows for the facts.
 fn known_rows(alloc: Global, rows: &[Row], facts: &[Affine]) -> Result<Vec<Row>, Memory> {
     let mut known = Vec::new(alloc);
     for row in rows {

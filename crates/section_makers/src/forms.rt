@@ -7,7 +7,7 @@ use poly_terms::{Memory, Row};
 use refined_programs::Affine;
 use std::alloc::Global;
 
-// A symbol is split by at most so many forms.
+// The maximum number of forms by which a symbol is split.
 const FORM_LIMIT: usize = 2;
 
 /// Forms over the places of a symbol.
@@ -23,10 +23,10 @@ pub(crate) struct Prepared<'a> {
     pub rows: &'a [RuleRows],
 }
 
-/// The forms by whose signs symbols are split, for each symbol in order. At a symbol that isn't the start they are the
-/// first two of the rows over places alone of the rules that leave it. Left out are a row that each of these rules has,
-/// one that is the same as an earlier one or its negation, and one whose value behind some rule that leads to the symbol
-/// isn't affine.
+/// The forms by whose signs symbols are split, for each symbol in order. For a symbol other than the start symbol they
+/// are the first two rows over places alone among the rows of the rules that leave it. Left out are a row that each of
+/// these rules has, one that is the same as an earlier one or its negation, and one whose value after some rule that
+/// leads to the symbol isn't affine.
 ///
 /// # Errors
 ///
@@ -43,7 +43,7 @@ pub(crate) fn forms_of_symbols(
     Ok(found)
 }
 
-// Those of a symbol.
+// The forms by whose signs a symbol is split.
 fn forms_at(alloc: Global, prepared: Prepared<'_>, symbol: u32) -> Result<Vec<Affine>, Memory> {
     let mut forms = Vec::new(alloc);
     if symbol == prepared.program.start {
@@ -59,7 +59,7 @@ fn forms_at(alloc: Global, prepared: Prepared<'_>, symbol: u32) -> Result<Vec<Af
     Ok(forms)
 }
 
-// Appends those of the rows of a rule.
+// Appends the forms of the rows of a rule.
 fn push_rows(
     alloc: Global,
     forms: &mut Vec<Affine>,
@@ -78,7 +78,7 @@ fn push_rows(
     Ok(())
 }
 
-// A row as a form over the places, where it reads some of these and nothing else, and its numbers have 64 bits.
+// A row as a form over the places, if it reads at least one place and nothing else, and its numbers have 64 bits.
 fn form_of(alloc: Global, places: u32, row: &Row) -> Result<Option<Affine>, Memory> {
     let mut coefs = Vec::new(alloc);
     let mut is_constant = true;
@@ -112,7 +112,7 @@ fn is_listed(forms: &[Affine], form: &Affine) -> bool {
     false
 }
 
-// Whether one form is at least 0 exactly where the other is below 0.
+// Whether one form is at least 0 exactly if the other is below 0.
 fn is_negation(form: &Affine, other: &Affine) -> bool {
     form.constant.saturating_add(other.constant) == -1 && are_opposite(&form.coefs, &other.coefs)
 }
@@ -128,7 +128,7 @@ fn are_opposite(coefs: &[i64], others: &[i64]) -> bool {
     coefs.len() == others.len()
 }
 
-// Whether a form tells rules that leave a symbol apart, and has an affine value behind each rule that leads there.
+// Whether a form tells apart rules that leave a symbol, and has an affine value after each rule that leads there.
 fn splits(
     alloc: Global,
     prepared: Prepared<'_>,
@@ -160,7 +160,7 @@ fn has_row(rows: &[Row], form: &Affine) -> bool {
     false
 }
 
-// Whether a row has these coefficients, and 0 for the variables behind them.
+// Whether a row has these coefficients, and 0 for the variables after them.
 fn has_coefs(row: &Row, coefs: &[i64]) -> bool {
     for (i, coef) in row.coefs.iter().enumerate() {
         let wanted = match coefs.get(i) {
@@ -174,8 +174,8 @@ fn has_coefs(row: &Row, coefs: &[i64]) -> bool {
     true
 }
 
-/// A form at the values behind a rule, over the rule's variables; none where it isn't affine, or has a number of more
-/// than 64 bits.
+/// A form at the values after a rule, over the rule's variables; none if it isn't affine, or has a number of more than
+/// 64 bits.
 ///
 /// # Errors
 ///

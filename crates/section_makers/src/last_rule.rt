@@ -1,4 +1,4 @@
-//! Splits symbols by the rule that led to them.
+//! Makes the section that splits symbols by the rule that led to them.
 
 use crate::names::{copy_name, short};
 use its_model::Program;
@@ -6,8 +6,8 @@ use poly_terms::Memory;
 use refined_programs::{Branch, Cases, Section, SymbolCopy};
 use std::alloc::Global;
 
-/// A copy of the start symbol, and a copy of the target of each rule, to which the rule leads. Copies have no facts, so
-/// nothing has to be certified.
+/// The section with a copy of the start symbol, and a copy of the target of each rule, to which the rule leads. Copies
+/// have no facts, so no certificates are needed.
 ///
 /// # Errors
 ///

@@ -1,6 +1,7 @@
-//! Makers of sections of a program, and of a program with fewer atoms: an ordinary search, whose answers are only checked.
+//! Makers of sections of a program, and of a program with fewer atoms. They search without proof: a section is checked
+//! before it is used.
 //!
-//! Builds on `refined_programs` and `guard_prep`. No clause says that a maker finds anything: what it makes counts where
+//! Builds on `refined_programs` and `guard_prep`. No contract says that a maker finds anything: a section counts if
 //! `refinement_check::accept` accepts it. Of `without_large_atoms` it is proved that the program that it makes has the
 //! rules of the program with weaker guards, so that bounds carry over.
 #![tactic(auto)]

@@ -1,4 +1,5 @@
-//! Peels and unrolls loops: splits symbols by how often a rule that leads back to its own symbol was used.
+//! Makes the sections that peel and unroll loops: symbols are split by how often a rule that leads back to its own
+//! symbol was used.
 
 use crate::names::{copy_name, short};
 use its_model::{Program, Rule};
@@ -6,7 +7,7 @@ use poly_terms::Memory;
 use refined_programs::{Branch, Cases, Section, SymbolCopy};
 use std::alloc::Global;
 
-// Where a rule that leads back to its own symbol leads from the second copy of that symbol.
+// The copy to which a rule that leads back to its own symbol leads from the second copy of that symbol.
 #[derive(Clone, Copy)]
 enum Back {
     // To the first copy, so that the copies alternate.
@@ -15,9 +16,9 @@ enum Back {
     ToSecond,
 }
 
-/// Peels the first turn of loops: a copy of the start symbol, and two copies of each symbol. A rule that leads from a
-/// symbol to itself leads to the second copy, and any other rule to the first copy of its target; so at the second copy
-/// such a rule was the last one. Copies have no facts, so nothing has to be certified.
+/// Peels the first turn of loops: the section with a copy of the start symbol, and two copies of each symbol. A rule
+/// that leads from a symbol to itself leads to the second copy, and any other rule to the first copy of its target; so
+/// at the second copy such a rule was the last one. Copies have no facts, so no certificates are needed.
 ///
 /// # Errors
 ///
@@ -26,9 +27,10 @@ pub fn peeled(alloc: Global, p: &Program) -> Result<Section, Memory> {
     section_by(alloc, p, Back::ToSecond)
 }
 
-/// Unrolls loops by two: a copy of the start symbol, and two copies of each symbol. A rule that leads from a symbol to
-/// itself leads from the second copy to the first, and from any other copy to the second; any other rule leads to the
-/// first copy of its target. So the copies alternate in a loop. Copies have no facts, so nothing has to be certified.
+/// Unrolls loops by two: the section with a copy of the start symbol, and two copies of each symbol. A rule that leads
+/// from a symbol to itself leads from the second copy to the first, and from any other copy to the second; any other
+/// rule leads to the first copy of its target. So the copies alternate in a loop. Copies have no facts, so no
+/// certificates are needed.
 ///
 /// # Errors
 ///
@@ -37,7 +39,7 @@ pub fn unrolled(alloc: Global, p: &Program) -> Result<Section, Memory> {
     section_by(alloc, p, Back::ToFirst)
 }
 
-// The section with two copies of each symbol behind that of the start symbol.
+// The section with two copies of each symbol after that of the start symbol.
 fn section_by(alloc: Global, p: &Program, back: Back) -> Result<Section, Memory> {
     let mut copies = Vec::new(alloc);
     copies.push(copy(alloc, p, p.start, 0)?)?;
@@ -70,7 +72,7 @@ fn copy(alloc: Global, p: &Program, over: u32, number: usize) -> Result<SymbolCo
     })
 }
 
-// A copy that rules leave, with its symbol, and where a loop leads back.
+// A copy that rules leave, with its symbol, and the copy to which a loop leads back.
 #[derive(Clone, Copy)]
 struct Leaving {
     source: u32,

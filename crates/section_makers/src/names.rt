@@ -4,8 +4,8 @@ use its_model::{Name, Program};
 use poly_terms::Memory;
 use std::alloc::Global;
 
-/// The name of a copy: that of its symbol, a full stop and a number. Copies with numbers that differ have names that
-/// differ.
+/// The name of a copy: that of its symbol, a full stop and a number. Copies with different numbers have different
+/// names.
 ///
 /// # Errors
 ///
@@ -25,7 +25,7 @@ pub(crate) fn copy_name(
     Ok(Name { bytes })
 }
 
-/// A number as one of 32 bits, and the greatest of these where it has more.
+/// A number as a `u32`, or the greatest number that a `u32` holds.
 pub(crate) fn short(number: usize) -> u32 {
     u32::try_from(number).unwrap_or(u32::MAX)
 }

@@ -1,10 +1,10 @@
-//! Cases by which a rule leads to the cells of its target, and multipliers that certify them.
+//! Makes the cases by which a rule leads to the cells of its target, and multipliers that certify them.
 
 use poly_terms::{Memory, Row};
 use refined_programs::{Affine, Cases, Multipliers};
 use std::alloc::Global;
 
-/// How a rule leads to the cells of its target.
+/// The data from which the cases of a rule at a copy are made.
 #[derive(Clone, Copy)]
 pub(crate) struct Way<'a> {
     /// The number of the target's first copy.
@@ -15,8 +15,8 @@ pub(crate) struct Way<'a> {
     pub tests: &'a [Affine],
 }
 
-/// The cases by the signs of all forms in order: a form that is constant is no test, and a sign that a known row excludes
-/// leads nowhere.
+/// The cases by the signs of all forms in order. A form that is constant is no test, and a sign that a known row
+/// excludes leads nowhere.
 ///
 /// # Errors
 ///
@@ -30,8 +30,8 @@ pub(crate) fn cases_along(alloc: Global, way: Way<'_>) -> Result<Cases, Memory> 
     split_on(alloc, way, way.tests, cell)
 }
 
-// The signs chosen so far, as a number with a binary digit for each, 1 for below 0; the value of the next digit; and how
-// many of the forms were tests.
+// The signs chosen so far, as a number with a binary digit for each, 1 for below 0; the value of the next digit; and
+// the number of forms that were tests.
 #[derive(Clone, Copy)]
 struct Cell {
     number: u32,
@@ -40,7 +40,7 @@ struct Cell {
 }
 
 impl Cell {
-    // The cell with one more sign, by so many tests.
+    // The cell with one more sign, which `tests` tests chose (0 or 1).
     fn with(self, is_below: bool, tests: usize) -> Cell {
         let digit = if is_below { self.weight } else { 0 };
         Cell {
@@ -51,7 +51,7 @@ impl Cell {
     }
 }
 
-// The cases by the signs of the forms that are left.
+// The cases by the signs of the remaining forms.
 fn split_on(alloc: Global, way: Way<'_>, forms: &[Affine], cell: Cell) -> Result<Cases, Memory> {
     let Some((form, rest)) = forms.split_first() else {
         return end_at(alloc, way, cell);
@@ -84,7 +84,7 @@ fn is_constant(form: &Affine) -> bool {
     true
 }
 
-/// A form, in memory of its own.
+/// A copy of a form.
 ///
 /// # Errors
 ///
@@ -96,7 +96,7 @@ pub(crate) fn copied(alloc: Global, form: &Affine) -> Result<Affine, Memory> {
     })
 }
 
-/// The form that is at least 0 exactly where another one is below 0, over whole numbers.
+/// The form that is at least 0 exactly if another one is below 0, over integers.
 ///
 /// # Errors
 ///
@@ -112,8 +112,8 @@ pub(crate) fn negated(alloc: Global, form: &Affine) -> Result<Affine, Memory> {
     })
 }
 
-// The end at a cell. A fact of its copy that fails behind the rule has one row, which adds up to -1 with that of its
-// test, or is -1 by itself where the form is constant.
+// The end of a path at a cell. For each fact of its copy the row that the fact fails after the rule adds up to -1 with
+// that of its test, or is -1 by itself if the form is constant.
 fn end_at(alloc: Global, way: Way<'_>, cell: Cell) -> Result<Cases, Memory> {
     let mut by = Vec::new(alloc);
     for (i, _) in way.tests.iter().enumerate() {
@@ -125,7 +125,8 @@ fn end_at(alloc: Global, way: Way<'_>, cell: Cell) -> Result<Cases, Memory> {
     })
 }
 
-// The multipliers for the fact with a position: 1 for the row of its test, where it is one, and for the fact that fails.
+// The multipliers for the fact at a position: 1 for the row of its test, if it is one, and 1 for the row that the fact
+// fails.
 fn multipliers_of(alloc: Global, way: Way<'_>, fact: usize) -> Result<Multipliers, Memory> {
     let mut numbers = Vec::new(alloc);
     for _ in way.known {
@@ -140,8 +141,8 @@ fn multipliers_of(alloc: Global, way: Way<'_>, fact: usize) -> Result<Multiplier
     Ok(Multipliers { numbers })
 }
 
-// Multipliers by which rows, so many others and a form have no point, where one of the rows and the form add up to a
-// constant below 0.
+// Multipliers by which rows, `others` further rows and a form have no point, if one of the rows and the form add up to
+// a constant below 0.
 fn excluding(
     alloc: Global,
     rows: &[Row],
@@ -178,8 +179,8 @@ fn are_apart(row: &Row, form: &Affine) -> bool {
     row.constant.saturating_add(i128::from(form.constant)) < 0
 }
 
-/// Multipliers by which the rows of a guard and facts have no point, where one row and one fact add up to a constant
-/// below 0.
+/// Multipliers by which the rows of a guard and facts have no point, if one row and one fact add up to a constant below
+/// 0.
 ///
 /// # Errors
 ///

@@ -1,4 +1,4 @@
--- Reading a section piece by piece gives the answer to all of it.
+-- Reading a section piece by piece gives the answer to the whole text.
 use Rattle.std.proofs.Common.{◌≡◌, ℕ, ◌+◌, Bool, true, false, ◌||◌, List, ◌∷◌, length, Option, Some, None, refl, ap}
 use Rattle.std.proofs.Common.{sym, subst, ◌∙◌, arith}
 use Rattle.std.specs.Prelude.{Result, Ok, Err, IfSome, is_some}
@@ -27,7 +27,7 @@ use Rattle.section_text.specs.declared.error.SectionTextError.{SectionTextError}
 use Rattle.section_text.specs.declared.kind.SectionKind.{SectionKind}
 use Rattle.section_text.specs.declared.piece.Piece.{Piece}
 use Rattle.section_text.specs.Drafts.{Draft, read_in}
-use Rattle.section_text.specs.Faults.{against_piece, kind_at, shown_at}
+use Rattle.section_text.specs.Faults.{fault_of_piece, kind_at, shown_at}
 use Rattle.section_text.specs.Lexing.{lexeme_at, tokens}
 use Rattle.section_text.specs.Reading.{Progress, against, section_fold, sections_of}
 use Rattle.section_text.specs.Refusals.{refusal_in}
@@ -35,7 +35,7 @@ use Rattle.section_text.specs.Results.{Answers}
 use Rattle.section_text.specs.Within.{lexes_within}
 use Rattle.section_text.proofs.Lawful.{lawful}
 
--- the tokens of a section are in order
+-- the tokens of a section are in order of their positions
 pub tokens_in_order : (bytes : List ℕ) → AreInOrder 0 (tokens bytes) (length bytes)
 tokens_in_order bytes =
     let o = in_order_in (lexer_of (lexeme_at (length bytes))) (λ mode. lexes_within (length bytes)) bytes Plain 0 0
@@ -44,10 +44,10 @@ tokens_in_order bytes =
     (subst (λ (n : ℕ). AreInOrder n (tokens bytes) (0 + length bytes)) (let e : 0 + 0 ≡ 0 = omega arith in e) o)
 
 -- a result that agrees with the answer is right
-pub tells_answers : (q : Program) (bytes : List ℕ) (result : Result Section SectionTextError)
+pub agreeing_answers : (q : Program) (bytes : List ℕ) (result : Result Section SectionTextError)
     → Tells annotated_of refusal_in (answer (reader (sections_of q bytes)) (length bytes) (tokens bytes)) result
     → Answers q bytes result
-tells_answers q bytes result h =
+agreeing_answers q bytes result h =
     go (answer (reader (sections_of q bytes)) (length bytes) (tokens bytes))
     (answer_is (reader (sections_of q bytes)) (reader_laws (sections_of q bytes) (lawful q bytes)) (length bytes)
     (tokens bytes)) result h
@@ -69,7 +69,7 @@ tells_answers q bytes result h =
     go (Refused y) i (Ok made) s = absurd s
     go (Refused y) i (Err error) s = first y i (refusal_in error) s
 
--- how far reading has come
+-- the progress with this state, and whether there was a fault
 abbrev pub progress : Draft → Bool → Progress
 progress d broken = record { draft = d; broken = broken }
 
@@ -79,24 +79,24 @@ shown_kind : (q : Program) (text : List ℕ) (o : Option SectionKind) (at : ℕ)
 shown_kind q text None at = refl
 shown_kind q text (Some k) at = refl
 
--- after a refusal no other one is shown
+-- after a fault no other one is shown
 pub shown_behind : (q : Program) (text : List ℕ) (es : List (Event Piece)) (d : Draft) (broken : Bool) (piece : Piece)
     (at : ℕ) → progress d broken ≡ state (section_fold q text) es
-    → shown_at broken (against_piece q text piece d) at
+    → shown_at broken (fault_of_piece q text piece d) at
     ≡ first_shown (sections_of q text) None (refusals (against q text (state (section_fold q text) es) piece) at)
 shown_behind q text es d broken piece at e =
     go broken
     ∙ ap (λ (t : Progress). first_shown (sections_of q text) None (refusals (against q text t piece) at)) e
   where
-    go : (v : Bool) → shown_at v (against_piece q text piece d) at
+    go : (v : Bool) → shown_at v (fault_of_piece q text piece d) at
         ≡ first_shown (sections_of q text) None (refusals (against q text (progress d v) piece) at)
     go true = refl
-    go false = sym (shown_kind q text (against_piece q text piece d) at)
+    go false = sym (shown_kind q text (fault_of_piece q text piece d) at)
 
--- a piece is read
+-- the code's progress after one more piece
 pub progressed : (q : Program) (text : List ℕ) (es : List (Event Piece)) (piece : Piece) (old new : Draft)
     (broken behind : Bool) → progress old broken ≡ state (section_fold q text) es
-    → new ≡ read_in old.role q text piece old → behind ≡ (broken || is_some (against_piece q text piece old))
+    → new ≡ read_in old.role q text piece old → behind ≡ (broken || is_some (fault_of_piece q text piece old))
     → progress new behind ≡ state (section_fold q text) (Read piece ∷ es)
 progressed q text es piece old new broken behind k m b =
     ap (λ (d : Draft). progress d behind) m ∙ ap (progress (read_in old.role q text piece old)) b

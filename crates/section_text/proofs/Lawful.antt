@@ -1,4 +1,4 @@
--- The sections of a program are lawful texts.
+-- The texts of a program's sections are lawful.
 use Rattle.std.proofs.Common.{◌≡◌, ℕ, ◌<◌, ◌≤◌, Bool, true, false, cond, ◌||◌, List, Option, None, refl, arith, lit<}
 use Rattle.std.specs.Prelude.{is_some, ◌==◌}
 use Rattle.its_model.specs.model.Programs.{Program}
@@ -14,12 +14,12 @@ use Rattle.section_text.specs.declared.piece.Sign.{Sign as SignOf}
 use Rattle.section_text.specs.declared.piece.Sign.TheVariants as signs
 use Rattle.section_text.specs.declared.piece.Sort.{Sort}
 use Rattle.section_text.specs.declared.piece.Sort.TheVariants.{Name, Number, Sign, Wrong}
-use Rattle.section_text.specs.Faults.{against_piece, number_of}
+use Rattle.section_text.specs.Faults.{fault_of_piece, number_of}
 use Rattle.section_text.specs.Grammar.{class_of_sort, class_of_word, class_of_sign}
 use Rattle.section_text.specs.Reading.{section_fold, sections_of}
 use Rattle.section_text.proofs.ReadableGrammar.{readable}
 
--- each word, each sign and each number has one of the classes
+-- the class of each word, sign and number is below 23
 word_classed : (w : Word) → class_of_word w < 23
 word_classed words.Copy = lit< tt
 word_classed words.Of = lit< tt
@@ -54,7 +54,7 @@ sort_classed (Number n) = number_classed (n == 0)
 sort_classed (Sign s) = sign_classed s
 sort_classed Wrong = lit< tt
 
--- kinds with one number are one
+-- kinds with the same number are the same
 differ : (a b : SectionKind) → number_of a ≡ number_of b → a ≡ b
 differ Syntax Syntax h = refl
 differ NumberTooLarge NumberTooLarge h = refl
@@ -63,18 +63,18 @@ differ BadReference BadReference h = refl
 differ Limit Limit h = refl
 differ a b h = absurd (omega (arith, h))
 
--- the floor, by whether there was a fault, is no further than the next token
+-- the floor, whether there was a fault or not, is no further than the next token
 floor_near : (v : Bool) (at : ℕ) → cond v at 0 ≤ at
 floor_near true at = omega arith
 floor_near false at = omega arith
 
--- after a refusal no fault is shown, and else none before the first byte
+-- after a fault no further one is shown; else none is shown before the first byte
 shown_behind : (v : Bool) (o : Option SectionKind) (at place : ℕ) (y : Fault SectionKind)
     → Among y (refusals (cond v None o) place) → cond v at 0 ≤ y.at
 shown_behind true o at place y a = absurd a
 shown_behind false o at place y a = omega arith
 
--- the floor stays, and rises with a refusal
+-- the floor is unchanged without a fault, and rises to a fault's position
 floor_stays : (v : Bool) (at : ℕ) → cond v at 0 ≤ cond v at 0
 floor_stays v at = omega arith
 
@@ -90,8 +90,8 @@ lawful q text = record {
   differ = differ;
   floor_next = λ es at. floor_near (state (section_fold q text) es).broken at;
   floor_shown = λ es t y a. shown_behind (state (section_fold q text) es).broken
-      (against_piece q text t.piece (state (section_fold q text) es).draft) t.at t.at y a;
+      (fault_of_piece q text t.piece (state (section_fold q text) es).draft) t.at t.at y a;
   floor_did = λ es m at. floor_stays (state (section_fold q text) es).broken at;
   floor_read = λ es t at some behind. floor_rises (state (section_fold q text) es).broken
-      (is_some (against_piece q text t.piece (state (section_fold q text) es).draft)) t.at at (omega (arith, some, behind));
+      (is_some (fault_of_piece q text t.piece (state (section_fold q text) es).draft)) t.at at (omega (arith, some, behind));
 }

@@ -1,4 +1,4 @@
--- A set of names once a name is inserted.
+-- A set of names after a name is inserted.
 use Rattle.std.proofs.Common.{◌≡◌, Bool, true, false, cond, List, [], ◌∷◌, ◌++◌, map, ap, ◌∙◌, refl}
 use Rattle.std.specs.List.{list_any}
 use Rattle.indexmap.specs.IndexSet.{insert_key}
@@ -7,7 +7,7 @@ use Rattle.text_grammar.specs.text_core.Names.{is_same}
 use Rattle.text_core.proofs.KeyLaws.{key_among, names-push}
 use Rattle.section_text.specs.Drafts.{with_name}
 
--- the names of a set that takes a key
+-- the names of a set with one more key
 pub with_key : {X : Type 0} (view : X → Name) (eq : X → X → Bool) (ks new : List X) (k : X)
     → ((j : X) → eq k j ≡ is_same (view k) (view j)) → new ≡ insert_key eq ks k
     → map view new ≡ with_name (view k) (map view ks)

@@ -1,4 +1,4 @@
--- The sections and the refusals of small texts.
+-- The worked sections and refusals of small texts hold.
 use Rattle.std.proofs.Common.{refl}
 use Rattle.section_text.specs.Worked.{BytesAreCut, TextsAreRead, TextsAreRefused, LimitsAreKept, WorkedSections}
 

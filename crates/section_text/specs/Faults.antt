@@ -13,7 +13,7 @@ use Rattle.section_text.specs.declared.kind.SectionKind.TheVariants.{Syntax, Num
 use Rattle.section_text.specs.declared.piece.Piece.{Piece}
 use Rattle.section_text.specs.Drafts.{Draft, name_bytes, number_in}
 
--- at most so many copies, so many branches, and so many levels of cases, those of a line being at level 1
+-- the maximum numbers of copies and of branches, and the maximum level of cases; those of a line are at level 1
 abbrev pub copy_limit : ℕ
 copy_limit = 2000
 
@@ -31,7 +31,7 @@ number_of TooDeep = 3
 number_of BadReference = 4
 number_of Limit = 5
 
--- the first of two faults, where there are both
+-- the first fault if there is one, else the other
 abbrev pub or_else : Option SectionKind → Option SectionKind → Option SectionKind
 or_else None other = other
 or_else (Some kind) other = Some kind
@@ -41,44 +41,44 @@ abbrev pub against_number : ℕ → Option SectionKind
 against_number n = when (nat_lt certificate_limit n) NumberTooLarge
 
 -- the fault of the number of a rule: it is over the limit, or no rule has it
-abbrev pub against_rule : Program → ℕ → Option SectionKind
-against_rule q n = or_else (against_number n) (when (not (is_some (rule_at q n))) BadReference)
+abbrev pub fault_of_rule : Program → ℕ → Option SectionKind
+fault_of_rule q n = or_else (against_number n) (when (not (is_some (rule_at q n))) BadReference)
 
 -- the fault of the name of a new copy: an earlier one has it, or it is too long
-abbrev pub against_new_name : Name → Draft → Option SectionKind
-against_new_name name d =
+abbrev pub fault_of_new_name : Name → Draft → Option SectionKind
+fault_of_new_name name d =
     or_else (when (is_among name d.names) BadReference) (when (nat_lt name_limit (length name)) Limit)
 
--- the fault of the name of a copy, and of a symbol: none has it
-abbrev pub against_copy : Name → Draft → Option SectionKind
-against_copy name d = when (not (is_among name d.names)) BadReference
+-- the fault of the name of a copy, and that of the name of a symbol: none has it
+abbrev pub fault_of_copy : Name → Draft → Option SectionKind
+fault_of_copy name d = when (not (is_among name d.names)) BadReference
 
-abbrev pub against_symbol : Name → Program → Option SectionKind
-against_symbol name q = when (not (is_among name (map (λ s. s.name) q.symbols))) BadReference
+abbrev pub fault_of_symbol : Name → Program → Option SectionKind
+fault_of_symbol name q = when (not (is_among name (map (λ s. s.name) q.symbols))) BadReference
 
--- the fault of a piece, in a role
+-- the fault of a piece, by its role
 abbrev pub against_in : Role → Program → List ℕ → Piece → Draft → Option SectionKind
 against_in roles.Plain q text p d = None
 against_in roles.CopyWord q text p d = when (nat_le copy_limit (length d.copies)) Limit
-against_in roles.NewName q text p d = against_new_name (name_bytes text p) d
-against_in roles.Symbol q text p d = against_symbol (name_bytes text p) q
+against_in roles.NewName q text p d = fault_of_new_name (name_bytes text p) d
+against_in roles.Symbol q text p d = fault_of_symbol (name_bytes text p) q
 against_in roles.BranchWord q text p d = when (nat_le branch_limit (length d.branches)) Limit
-against_in roles.Source q text p d = against_copy (name_bytes text p) d
-against_in roles.Rule q text p d = against_rule q (number_in p.sort)
+against_in roles.Source q text p d = fault_of_copy (name_bytes text p) d
+against_in roles.Rule q text p d = fault_of_rule q (number_in p.sort)
 against_in roles.CaseWord q text p d = when (nat_le level_limit (length d.tests)) TooDeep
-against_in roles.Target q text p d = against_copy (name_bytes text p) d
+against_in roles.Target q text p d = fault_of_copy (name_bytes text p) d
 against_in roles.Integer q text p d = against_number (number_in p.sort)
 against_in roles.Multiplier q text p d = against_number (number_in p.sort)
 
 -- the fault of a piece
-abbrev pub against_piece : Program → List ℕ → Piece → Draft → Option SectionKind
-against_piece q text p d = against_in d.role q text p d
+abbrev pub fault_of_piece : Program → List ℕ → Piece → Draft → Option SectionKind
+fault_of_piece q text p d = against_in d.role q text p d
 
 -- a refusal of a kind at a position, if there is one
 abbrev pub kind_at : Option SectionKind → ℕ → Option (Fault SectionKind)
 kind_at None at = None
 kind_at (Some kind) at = Some (record { kind = kind; at = at })
 
--- a refusal, unless there was one before
+-- the refusal of a kind at a position, if there was no fault before
 abbrev pub shown_at : Bool → Option SectionKind → ℕ → Option (Fault SectionKind)
 shown_at broken kind at = if broken then None else kind_at kind at

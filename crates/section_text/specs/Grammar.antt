@@ -36,7 +36,7 @@ class_of_sign signs.Close = 19
 class_of_sign signs.Semicolon = 20
 class_of_sign signs.Minus = 21
 
--- the class of a sort of pieces: 0 is of another class than the numbers over it
+-- the class of a sort of pieces: the number 0 has a class of its own
 abbrev pub class_of_sort : Sort → ℕ
 class_of_sort (Name word) = class_of_word word
 class_of_sort (Number n) = if n == 0 then 12 else 13
@@ -47,7 +47,7 @@ class_of_sort Wrong = 22
 abbrev pub class_of : Piece → ℕ
 class_of p = class_of_sort p.sort
 
--- a sort of each class, in their order
+-- a sample sort of each class, in their order
 abbrev pub sample_sorts : List Sort
 sample_sorts =
     map Name (words.Copy ∷ words.Of ∷ words.Facts ∷ words.From ∷ words.Rule ∷ words.To ∷ words.By ∷ words.Never

@@ -36,7 +36,7 @@ word_of name =
     else if is_same name (codes "rule") then words.Rule
     else case_word name
 
--- a byte that begins neither a name nor a number
+-- the sort of a byte that begins neither a name nor a number
 abbrev pub sign_at : ℕ → Sort
 sign_at b =
     if b == 32 then Sign signs.Blank
@@ -49,16 +49,16 @@ sign_at b =
     else if b == 45 then Sign signs.Minus
     else Wrong
 
--- a number, which counts up to 2^56+1; digits with a leading zero are none
+-- the sort of digits: a number, capped at 2^56+1; digits with a leading zero are wrong
 abbrev pub sort_of_digits : List ℕ → Sort
 sort_of_digits digits =
     if has_leading_zero digits then Wrong else Number (value_up_to (certificate_limit + 1) digits)
 
--- a sort of piece, of this many bytes
+-- a lexeme of this sort with this many bytes
 abbrev pub lexeme : Sort → ℕ → Lexeme Sort
 lexeme sort len = record { piece = sort; len = len }
 
--- the longest name, and the longest row of digits
+-- the lexeme of the longest name, and that of the longest row of digits
 abbrev pub name_at : ℕ → List ℕ → Lexeme Sort
 name_at b bytes =
     lexeme (Name (word_of (b ∷ prefix continues_name bytes))) (length (b ∷ prefix continues_name bytes))
@@ -67,7 +67,7 @@ abbrev pub digits_at : ℕ → List ℕ → Lexeme Sort
 digits_at b bytes =
     lexeme (sort_of_digits (b ∷ prefix is_ascii_digit bytes)) (length (b ∷ prefix is_ascii_digit bytes))
 
--- what bytes begin with
+-- the lexeme that bytes begin with
 abbrev pub sorted_at : ℕ → List ℕ → Lexeme Sort
 sorted_at b bytes =
     if begins_name b then name_at b bytes
@@ -78,7 +78,7 @@ sorted_at b bytes =
 abbrev pub sorted_of : Sorted → Lexeme Sort
 sorted_of s = record { piece = s.sort; len = s.len }
 
--- the piece that bytes begin with, with which a text of n bytes ends
+-- the piece that bytes begin with, which are the last bytes of a text of n bytes
 abbrev pub pieced : ℕ → List ℕ → Lexeme Sort → Lexeme (Option Piece)
 pieced n bytes l = record {
   piece = Some (record { sort = l.piece; at = n - length bytes; len = l.len });

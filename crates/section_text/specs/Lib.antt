@@ -1,4 +1,4 @@
--- what the contracts of this crate, and of those above it, cite
+-- The definitions that the contracts of this crate, and of crates above it, cite.
 pub mod Lexing
 pub mod Within
 pub mod Grammar
@@ -9,5 +9,5 @@ pub mod CopyNames
 pub mod Views
 pub mod Refusals
 pub mod Results
--- values that were worked out by hand
+-- worked values
 pub mod Worked

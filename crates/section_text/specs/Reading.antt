@@ -1,4 +1,4 @@
--- Sections of a program as texts of their grammar.
+-- The reader of a program's sections.
 use Rattle.std.specs.Prelude.{ℕ, Bool, false, ◌||◌, is_some, if◌then◌else◌, List, Option, None}
 use Rattle.its_model.specs.model.Programs.{Program}
 use Rattle.refined_programs.specs.Annotated.{Section}
@@ -9,29 +9,29 @@ use Rattle.section_text.specs.declared.kind.SectionKind.TheVariants.{Syntax}
 use Rattle.section_text.specs.declared.piece.Piece.{Piece}
 use Rattle.section_text.specs.Grammar.{section_grammar}
 use Rattle.section_text.specs.Drafts.{Draft, begun, done, read_in}
-use Rattle.section_text.specs.Faults.{against_piece, number_of}
+use Rattle.section_text.specs.Faults.{fault_of_piece, number_of}
 
--- the progress of reading: what has been made, and whether there was a fault
+-- the progress of reading: the state, and whether there was a fault
 pub record Progress : Type 0 where
   pub draft : Draft
   pub broken : Bool
 
--- a piece is read
+-- the progress after a piece
 abbrev pub read_piece : Program → List ℕ → Piece → Progress → Progress
 read_piece q text p s = record {
   draft = read_in s.draft.role q text p s.draft;
-  broken = s.broken || is_some (against_piece q text p s.draft);
+  broken = s.broken || is_some (fault_of_piece q text p s.draft);
 }
 
--- after a refusal no other fault is reported
+-- the fault of a piece that is reported: none after the first one
 abbrev pub against : Program → List ℕ → Progress → Piece → Option SectionKind
-against q text s p = if s.broken then None else against_piece q text p s.draft
+against q text s p = if s.broken then None else fault_of_piece q text p s.draft
 
 -- the section that was read
 abbrev pub section_in : Draft → Section
 section_in d = record { copies = d.copies; branches = d.branches }
 
--- the sections of a program, folded piece by piece
+-- the reading of a program's sections, piece by piece
 abbrev pub section_fold : Program → List ℕ → Fold Piece Progress Section SectionKind
 section_fold q text = record {
   begun = record { draft = begun; broken = false };

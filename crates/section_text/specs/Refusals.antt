@@ -1,4 +1,4 @@
--- The refusals of errors.
+-- The refusal that an error reports.
 use Rattle.std.specs.Prelude.{Option, Some, None}
 use Rattle.text_grammar.specs.text_core.Readers.{Fault}
 use Rattle.section_text.specs.declared.kind.SectionKind.{SectionKind}
@@ -7,7 +7,7 @@ use Rattle.section_text.specs.declared.error.SectionTextError.{SectionTextError}
 use Rattle.section_text.specs.declared.error.SectionTextError.TheVariants.{Syntax, NumberTooLarge, TooDeep, BadReference}
 use Rattle.section_text.specs.declared.error.SectionTextError.TheVariants.{Limit, Memory}
 
--- the refusal of an error; want of memory has none
+-- the refusal of an error; running out of memory has none
 abbrev pub refusal_in : SectionTextError → Option (Fault SectionKind)
 refusal_in (Syntax at) = Some (record { kind = kinds.Syntax; at = at })
 refusal_in (NumberTooLarge at) = Some (record { kind = kinds.NumberTooLarge; at = at })

@@ -1,4 +1,4 @@
--- What the result of reading a section says.
+-- When the result of reading a section is right.
 use Rattle.std.specs.Prelude.{ℕ, List, length, Result, Ok, Err, IfSome}
 use Rattle.its_model.specs.model.Programs.{Program}
 use Rattle.text_grammar.specs.text_core.Faults.{IsFirst}
@@ -11,7 +11,7 @@ use Rattle.section_text.specs.Lexing.{tokens}
 use Rattle.section_text.specs.Reading.{sections_of}
 use Rattle.section_text.specs.Refusals.{refusal_in}
 
--- the section, where the text is written so, has no fault and is that of no other section; or else exactly its first
+-- the result is the section, if the text spells it, has no fault and spells no other section; or else exactly the first
 -- fault, unless memory ran out
 abbrev pub Answers : Program → List ℕ → Result Section SectionTextError → Type 0
 Answers q bytes (Ok section) =

@@ -1,4 +1,4 @@
--- What the code remembers of a section as plain data.
+-- The code's state of reading as plain data.
 use Rattle.std.specs.Prelude.{map}
 use Rattle.refined_programs.specs.Ends.{lists_of}
 use Rattle.refined_programs.specs.Views.{annotated_branch, annotated_cases, annotated_copy, affine_form}
@@ -10,12 +10,12 @@ use Rattle.section_text.specs.Drafts.{OpenTest, InYes, InNo, Draft}
 use Rattle.section_text.specs.Reading.{Progress}
 use Rattle.section_text.specs.CopyNames.{names_in}
 
--- a test whose cases are being read
+-- a test whose cases are being read, as plain data
 abbrev pub open_of : test.OpenTest → OpenTest
 open_of (tests.InYes form) = InYes (affine_form form)
 open_of (tests.InNo form yes_cases) = InNo (affine_form form) (annotated_cases yes_cases)
 
--- what has been made
+-- the state of reading as plain data
 abbrev pub draft_of : draft.Draft → Draft
 draft_of d = record {
   role = d.role;
@@ -37,6 +37,6 @@ draft_of d = record {
   branches = map annotated_branch d.branches.items;
 }
 
--- how far reading has come
+-- the progress of reading as plain data
 abbrev pub progress_of : SectionReading → Progress
 progress_of s = record { draft = draft_of s.draft; broken = s.broken }

@@ -1,4 +1,4 @@
--- Each piece of a section has at least one byte, and no more than there are.
+-- Each piece of a section has at least one byte, and no more than remain.
 use Rattle.std.proofs.Common.{ℕ, ◌<◌, ◌≤◌, Bool, true, false, cond, List, ◌∷◌, length, length-append, ap, arith}
 use Rattle.std.specs.Char.{is_ascii_digit}
 use Rattle.text_core.proofs.PrefixLaws.{prefix-rest}
@@ -8,7 +8,7 @@ use Rattle.text_grammar.specs.text_core.Tokens.{Lexeme, LexesWithin}
 use Rattle.section_text.specs.declared.piece.Sort.{Sort}
 use Rattle.section_text.specs.Lexing.{sorted_at, lexeme_at}
 
--- a lexeme has a byte at least, and no more than this many
+-- a lexeme has at least one byte, and at most this many
 abbrev Fits : ℕ → Lexeme Sort → Type 0
 Fits most l = (0 < l.len) × (l.len ≤ most)
 

@@ -1,4 +1,4 @@
--- Sections and refusals of small texts, as they were worked out by hand.
+-- Worked values of sections and refusals of small texts.
 use Rattle.std.specs.Prelude.{◌≡◌, ℕ, zero, suc, List, [], ◌∷◌, map, length, codes, pos, negsuc, Option, Some, None}
 use Rattle.text_grammar.specs.text_core.Tokens.{pieces}
 use Rattle.text_grammar.specs.text_core.Reading.{Answer, Stands, Refused, answer}
@@ -19,7 +19,7 @@ use Rattle.section_text.specs.Grammar.{piece_of}
 use Rattle.section_text.specs.Lexing.{tokens}
 use Rattle.section_text.specs.Reading.{sections_of}
 
--- a rule that leads from a symbol to a symbol, and changes nothing
+-- a rule that leads from one symbol to another and changes nothing
 abbrev pub plain_rule : ℕ → ℕ → Rule
 plain_rule source target = record {
   source = source;
@@ -46,11 +46,12 @@ three_rules = record {
 abbrev pub cut : List ℕ → List Sort
 cut bytes = map (λ p. p.sort) (pieces (tokens bytes))
 
--- the answer to bytes as a section of the program
+-- the answer to reading bytes as a section of the program
 abbrev pub answer_to : List ℕ → Answer Section SectionKind
 answer_to bytes = answer (reader (sections_of three_rules bytes)) (length bytes) (tokens bytes)
 
--- how bytes are cut: into names, the longest ones, which may be words; numbers; and all other bytes one by one
+-- worked values of how bytes are cut: into names, the longest ones, which may be words; numbers; and all other bytes
+-- one by one
 pub record BytesAreCut : Type 0 where
   pub line_words : cut (codes "copy of facts from rule") ≡ Name words.Copy ∷ Sign signs.Blank ∷ Name words.Of ∷ Sign signs.Blank
       ∷ Name words.Facts ∷ Sign signs.Blank ∷ Name words.From ∷ Sign signs.Blank ∷ Name words.Rule ∷ []
@@ -61,7 +62,7 @@ pub record BytesAreCut : Type 0 where
   pub numbers : cut (codes "[0 -12]") ≡ Sign signs.OpenSquare ∷ Number 0 ∷ Sign signs.Blank ∷ Sign signs.Minus ∷ Number 12
       ∷ Sign signs.CloseSquare ∷ []
   pub brackets : cut (codes "(;)\n") ≡ Sign signs.Open ∷ Sign signs.Semicolon ∷ Sign signs.Close ∷ Sign signs.LineFeed ∷ []
-  -- digits with a leading zero are no number, and a byte over 127 or a tab is no blank
+  -- digits with a leading zero are wrong, and so are a byte over 127 and a tab
   pub leading_zero : cut (codes "01") ≡ Wrong ∷ []
   pub others : cut (9 ∷ 200 ∷ []) ≡ Wrong ∷ Wrong ∷ []
   -- a number over 2^56 counts as 2^56+1
@@ -72,12 +73,12 @@ pub record BytesAreCut : Type 0 where
 abbrev pub form : ℕ → Form
 form n = record { coefs = pos n ∷ []; constant = pos 0 }
 
--- texts and the sections that they spell
+-- small texts and the sections that they spell
 pub record TextsAreRead : Type 0 where
-  -- one copy, without facts and branches
+  -- one copy without facts, and no branches
   pub one : answer_to (codes "copy a of a facts []\n")
       ≡ Stands (record { copies = record { name = codes "a"; over = 0; facts = [] } ∷ []; branches = [] })
-  -- two copies, of which one is named by a word, with two facts; and a branch with two ends
+  -- two copies, one of which has a word as its name, and one two facts; and a branch with two ends
   pub two : answer_to (codes "copy a of a facts []\ncopy to of b facts [[1 -2]; [0]]\nfrom a rule 1 if [1 0] then (to to by [[1 2]; []]) else (never [3])\n")
       ≡ Stands (record {
         copies = record { name = codes "a"; over = 0; facts = [] }
@@ -108,24 +109,25 @@ pub record TextsAreRead : Type 0 where
 abbrev pub refused : SectionKind → ℕ → Answer Section SectionKind
 refused kind at = Refused (record { kind = kind; at = at })
 
--- bytes that are no section, and their first refusal
+-- small texts that spell no section, and their first refusal
 pub record TextsAreRefused : Type 0 where
-  -- no line at all, a branch without a copy, and a line that ends too early
+  -- no line at all, a branch without a copy, and a line that ends too early are refused
   pub nothing : answer_to [] ≡ refused Syntax 0
   pub no_copy : answer_to (codes "from a rule 1 never []\n") ≡ refused Syntax 0
   pub early : answer_to (codes "copy a of a facts []") ≡ refused Syntax 20
-  -- two blanks, an empty form, `-0`, a leading zero, a copy behind a branch
+  -- two blanks, an empty form, `-0`, a leading zero, and a copy after a branch are refused
   pub blanks : answer_to (codes "copy  a of a facts []\n") ≡ refused Syntax 5
   pub empty_form : answer_to (codes "copy a of a facts [[]]\n") ≡ refused Syntax 20
   pub minus_zero : answer_to (codes "copy a of a facts [[-0]]\n") ≡ refused Syntax 21
   pub zero_first : answer_to (codes "copy a of a facts [[01]]\n") ≡ refused Syntax 20
   pub copy_behind : answer_to (codes "copy a of a facts []\nfrom a rule 1 never []\ncopy b of b facts []\n") ≡ refused Syntax 44
-  -- names that no symbol and no copy has, and the name of an earlier copy
+  -- names that no symbol or no copy has, and the name of an earlier copy, are refused
   pub no_symbol : answer_to (codes "copy a of d facts []\n") ≡ refused BadReference 10
   pub same_name : answer_to (codes "copy a of a facts []\ncopy a of b facts []\n") ≡ refused BadReference 26
   pub no_source : answer_to (codes "copy x of a facts []\nfrom a rule 1 never []\n") ≡ refused BadReference 26
   pub no_target : answer_to (codes "copy a of a facts []\nfrom a rule 1 to b by []\n") ≡ refused BadReference 38
-  -- rule 0, a rule too many, and a number over 2^56, which isn't looked up; 2^56 itself is none too large
+  -- rule 0, a rule number too great, and a number over 2^56, which isn't looked up, are refused; 2^56 itself isn't too
+  -- large
   pub rule_zero : answer_to (codes "copy a of a facts []\nfrom a rule 0 never []\n") ≡ refused BadReference 33
   pub rule_four : answer_to (codes "copy a of a facts []\nfrom a rule 4 never []\n") ≡ refused BadReference 33
   pub large_rule : answer_to (codes "copy a of a facts []\nfrom a rule 72057594037927937 never []\n")
@@ -141,34 +143,35 @@ pub record TextsAreRefused : Type 0 where
     } ∷ [];
     branches = [];
   })
-  -- of two faults the first
+  -- of two faults the first is reported
   pub first : answer_to (codes "copy a of d facts [\n") ≡ refused BadReference 10
 
--- so many times the same
+-- a list of n equal elements
 abbrev pub times : {X : Type 0} → ℕ → X → List X
 times zero x = []
 times (suc n) x = x ∷ times n x
 
--- what has been made, with so many open tests, copies or branches
+-- states with this many open tests, copies or branches
 abbrev pub within_tests : ℕ → Draft
 within_tests n = record begun { tests = times n (InYes (form 1)) }
 
 abbrev pub behind_copies : ℕ → Draft
 behind_copies n = record begun { copies = times n (record { name = codes "a"; over = 0; facts = [] }) }
 
--- the fault of a piece in a role, whatever the text
+-- the fault of the name of a new copy with these bytes
 abbrev pub fault_of : Draft → List ℕ → Option SectionKind
 fault_of d name = against_in roles.NewName three_rules name (record { sort = Name words.Other; at = 0; len = length name }) d
 
--- which limits are kept
+-- worked values of limits
 pub record LimitsAreKept : Type 0 where
-  -- cases at level 64, and at level 65
+  -- cases at level 64 are read, and at level 65 refused
   pub level_64 : against_in roles.CaseWord three_rules [] (piece_of (Name words.To)) (within_tests 63) ≡ None
   pub level_65 : against_in roles.CaseWord three_rules [] (piece_of (Name words.To)) (within_tests 64) ≡ Some TooDeep
-  -- copy 2,000, and copy 2,001
+  -- copy 2,000 is read, and copy 2,001 refused
   pub copy_2000 : against_in roles.CopyWord three_rules [] (piece_of (Name words.Copy)) (behind_copies 1999) ≡ None
   pub copy_2001 : against_in roles.CopyWord three_rules [] (piece_of (Name words.Copy)) (behind_copies 2000) ≡ Some Limit
-  -- names of 256 and of 257 bytes; a name that an earlier copy has is a bad reference, also where it is too long
+  -- a name of 256 bytes is read, and one of 257 refused; a name that an earlier copy has is a bad reference, even if it
+  -- is too long
   pub name_256 : fault_of begun (times 256 97) ≡ None
   pub name_257 : fault_of begun (times 257 97) ≡ Some Limit
   pub old_name : fault_of (record begun { names = times 257 97 ∷ [] }) (times 257 97) ≡ Some BadReference

@@ -1,15 +1,15 @@
-//! The actions of the marks of the grammar.
+//! The actions of a parse, for the marks of the grammar.
 
-/// What the next piece is, where it says more than its class.
+/// The role of the next piece, if it has one beyond its class.
 #[derive(Clone, Copy, Debug, PartialEq, Eq)]
 pub enum Role {
-    /// Its class alone.
+    /// No role beyond the class.
     Plain,
     /// The word that begins the line of a copy.
     CopyWord,
     /// The name of a new copy.
     NewName,
-    /// The symbol that it is a copy of.
+    /// The symbol of the new copy.
     Symbol,
     /// The word that begins the line of a branch.
     BranchWord,
@@ -32,7 +32,7 @@ pub enum Role {
 pub enum Action {
     /// A piece of this role comes next.
     Comes(Role),
-    /// A form was read, which is a fact of the copy.
+    /// A form was read as a fact of the copy.
     FactRead,
     /// The line of a copy was read.
     CopyRead,
@@ -42,11 +42,11 @@ pub enum Action {
     ToRead,
     /// Cases that lead nowhere were read.
     NeverRead,
-    /// A form was read by which cases are told apart.
+    /// The form of a test was read.
     TestRead,
-    /// The cases where it is at least 0 were read.
+    /// The cases in which the form of a test is at least 0 were read.
     YesRead,
-    /// The other cases were read.
+    /// The other cases of a test were read.
     NoRead,
     /// The line of a branch was read.
     BranchRead,

@@ -1,4 +1,4 @@
-//! What has been made of a section up to a piece.
+//! The state of reading a section: what has been made of the pieces so far.
 
 ghost use Rattle.std.specs.Prelude.{◌≡◌, [], IfOk, OnOk};
 ghost use Rattle.refined_programs.specs.Views.{annotated_cases, affine_form};
@@ -19,20 +19,20 @@ use std::mem::replace;
 /// A test whose cases are being read.
 #[derive(Drop)]
 pub enum OpenTest {
-    /// The cases where the form is at least 0.
+    /// The cases in which the form is at least 0 are being read.
     InYes(Affine),
-    /// The other cases, behind the first ones.
+    /// The other cases are being read, after the first ones.
     InNo(Affine, Cases),
 }
 
-/// What has been made up to a piece.
+/// The parts of a section that have been made of the pieces so far.
 #[derive(Drop)]
 pub struct Draft<'a> {
-    /// What the next piece is.
+    /// The role of the next piece.
     pub role: Role,
     /// Whether a `-` was read last.
     pub negative: bool,
-    /// The form that is being read: its last number, and those before it.
+    /// The form that is being read: its last number, and the numbers before it.
     pub coefs: Vec<i64>,
     pub constant: Option<i64>,
     /// The multipliers that are being read, and the lists before them.
@@ -49,7 +49,7 @@ pub struct Draft<'a> {
     pub source: u32,
     pub rule: u32,
     pub target: u32,
-    /// The tests around the cases that are being read, the innermost last, and the cases that were read last.
+    /// The tests whose cases are being read, the innermost last, and the cases that were read last.
     pub tests: Vec<OpenTest>,
     pub cases: Cases,
     /// The branches that were read.
@@ -77,7 +77,7 @@ fn if_cases(alloc: Global, test: Affine, yes: Cases, no: Cases) -> Result<Cases,
     Ok(Cases::If { test, yes, no })
 }
 
-/// The number of a piece, 0 for what is none.
+/// The number of a piece, 0 if it is no number.
 pub fn number_in(sort: Sort) -> u128
     ensures { result ≡ drafts.number_in sort }
 {
@@ -87,7 +87,7 @@ pub fn number_in(sort: Sort) -> u128
     }
 }
 
-// The constant of a form, by its last number.
+// The constant of a form: its last number, 0 if there is none.
 fn constant_in(constant: Option<i64>) -> i64
     ensures { result ≡ drafts.constant_in constant }
 {
@@ -98,7 +98,7 @@ fn constant_in(constant: Option<i64>) -> i64
 }
 
 impl<'a> Draft<'a> {
-    /// Nothing has been read.
+    /// The state in which nothing has been read.
     pub fn new(alloc: Global) -> Draft<'a>
         ensures { draft_of result ≡ drafts.begun }
     {
@@ -165,7 +165,7 @@ impl<'a> Draft<'a> {
         }
     }
 
-    // A piece that is the name of a symbol.
+    // Takes a piece that is the name of a symbol.
     fn take_symbol(&mut self, program: &Program, text: &[u8], piece: Piece)
         ensures { draft_of self.new
             ≡ drafts.symbol_read (program_of program.now) text.now piece (draft_of self.old) }
@@ -174,7 +174,7 @@ impl<'a> Draft<'a> {
         self.role = Role::Plain;
     }
 
-    // A piece that is the name of the copy that a branch leaves.
+    // Takes a piece that is the name of the copy that a branch leaves.
     fn take_source(&mut self, text: &[u8], piece: Piece)
         ensures { draft_of self.new ≡ drafts.source_read text.now piece (draft_of self.old) }
     {
@@ -182,7 +182,7 @@ impl<'a> Draft<'a> {
         self.role = Role::Plain;
     }
 
-    // A piece that is the name of the copy that a path leads to.
+    // Takes a piece that is the name of the copy that a path leads to.
     fn take_target(&mut self, text: &[u8], piece: Piece)
         ensures { draft_of self.new ≡ drafts.target_read text.now piece (draft_of self.old) }
     {
@@ -190,7 +190,7 @@ impl<'a> Draft<'a> {
         self.role = Role::Plain;
     }
 
-    // A piece that is the number of a rule.
+    // Takes a piece that is the number of a rule.
     fn take_rule(&mut self, sort: Sort)
         ensures { draft_of self.new ≡ drafts.rule_read sort (draft_of self.old) }
     {
@@ -198,7 +198,7 @@ impl<'a> Draft<'a> {
         self.role = Role::Plain;
     }
 
-    // A piece that is a multiplier.
+    // Takes a piece that is a multiplier.
     fn take_multiplier(&mut self, sort: Sort) -> Result<(), Memory>
         ensures { OnOk result (draft_of self.new ≡ drafts.multiplier_read sort (draft_of self.old)) }
     {
@@ -207,7 +207,7 @@ impl<'a> Draft<'a> {
         Ok(())
     }
 
-    // A piece that is the name of a new copy.
+    // Takes a piece that is the name of a new copy.
     fn take_new_name(&mut self, alloc: Global, text: &'a [u8], piece: Piece) -> Result<(), Memory>
         ensures { OnOk result (draft_of self.new ≡ drafts.with_new_name text.now piece (draft_of self.old)) }
     {
@@ -218,7 +218,7 @@ impl<'a> Draft<'a> {
         Ok(())
     }
 
-    // A piece that is a number of a form, or its sign.
+    // Takes a piece that is a number of a form, or its sign.
     fn take_integer(&mut self, sort: Sort) -> Result<(), Memory>
         ensures { OnOk result (draft_of self.new ≡ drafts.read_integer sort (draft_of self.old)) }
     {
@@ -231,7 +231,7 @@ impl<'a> Draft<'a> {
         }
     }
 
-    // One number more of a form.
+    // Adds a number to the form.
     fn push_integer(&mut self, number: i64) -> Result<(), Memory>
         ensures { OnOk result (draft_of self.new ≡ drafts.with_integer number (draft_of self.old)) }
     {
@@ -242,7 +242,7 @@ impl<'a> Draft<'a> {
         Ok(())
     }
 
-    // The last number of a form is a coefficient, as another one follows.
+    // Makes the last number of the form a coefficient, as another number follows.
     fn push_constant(&mut self) -> Result<(), Memory>
         ensures { OnOk result (draft_of self.new ≡ drafts.constant_kept (draft_of self.old)) }
     {
@@ -290,7 +290,7 @@ impl<'a> Draft<'a> {
         }
     }
 
-    // The form that was read; the next one begins.
+    // Ends the form and returns it; the next form begins.
     fn end_form(&mut self, alloc: Global) -> Affine
         ensures form { affine_form result ≡ drafts.form_in (draft_of self.old) }
         ensures left { draft_of self.new ≡ drafts.without_form (draft_of self.old) }
@@ -301,7 +301,7 @@ impl<'a> Draft<'a> {
         Affine { coefs, constant }
     }
 
-    // The multipliers that were read; the next ones begin.
+    // Ends the list of multipliers and returns it; the next list begins.
     fn end_numbers(&mut self, alloc: Global) -> Multipliers
         ensures numbers { result.numbers.items ≡ (draft_of self.old).numbers }
         ensures left { draft_of self.new ≡ record (draft_of self.old) { numbers = [] } }
@@ -310,7 +310,7 @@ impl<'a> Draft<'a> {
         Multipliers { numbers }
     }
 
-    // A fact of the copy.
+    // Adds the form that was read as a fact of the copy.
     fn end_fact(&mut self, alloc: Global) -> Result<(), Memory>
         ensures { OnOk result (draft_of self.new ≡ drafts.fact_read (draft_of self.old)) }
     {
@@ -319,7 +319,7 @@ impl<'a> Draft<'a> {
         Ok(())
     }
 
-    // The line of a copy ends.
+    // Ends the line of a copy.
     fn end_copy(&mut self, alloc: Global) -> Result<(), Memory>
         ensures { OnOk result (draft_of self.new ≡ drafts.copy_read (draft_of self.old)) }
     {
@@ -331,7 +331,7 @@ impl<'a> Draft<'a> {
         Ok(())
     }
 
-    // A list of multipliers for a fact ends.
+    // Ends a list of multipliers for a fact.
     fn end_list(&mut self, alloc: Global) -> Result<(), Memory>
         ensures { OnOk result (draft_of self.new ≡ drafts.list_read (draft_of self.old)) }
     {
@@ -340,7 +340,7 @@ impl<'a> Draft<'a> {
         Ok(())
     }
 
-    // Cases that lead to a copy end.
+    // Ends cases that lead to a copy.
     fn end_to(&mut self, alloc: Global) -> Result<(), Memory>
         ensures { OnOk result (draft_of self.new ≡ drafts.to_read (draft_of self.old)) }
     {
@@ -350,7 +350,7 @@ impl<'a> Draft<'a> {
         Ok(())
     }
 
-    // Cases that lead nowhere end.
+    // Ends cases that lead nowhere.
     fn end_never(&mut self, alloc: Global) -> Result<(), Memory>
         ensures { OnOk result (draft_of self.new ≡ drafts.never_read (draft_of self.old)) }
     {
@@ -359,7 +359,7 @@ impl<'a> Draft<'a> {
         Ok(())
     }
 
-    // The cases of a test begin.
+    // Begins the cases of a test.
     fn begin_test(&mut self, alloc: Global) -> Result<(), Memory>
         ensures { OnOk result (draft_of self.new ≡ drafts.test_read (draft_of self.old)) }
     {
@@ -368,7 +368,7 @@ impl<'a> Draft<'a> {
         Ok(())
     }
 
-    // The cases that were read.
+    // Takes the cases that were read.
     fn end_cases(&mut self, alloc: Global) -> Cases
         ensures cases { annotated_cases result ≡ (draft_of self.old).cases }
         ensures left { draft_of self.new ≡ record (draft_of self.old) { cases = drafts.no_cases } }
@@ -376,7 +376,7 @@ impl<'a> Draft<'a> {
         replace(&mut self.cases, no_cases(alloc))
     }
 
-    // The first cases of a test end.
+    // Ends the first cases of the innermost test.
     fn end_yes(&mut self, alloc: Global) -> Result<(), Memory>
         ensures { OnOk result (draft_of self.new
             ≡ drafts.yes_read (drafts.last_of (draft_of self.old).tests) (draft_of self.old)) }
@@ -387,7 +387,7 @@ impl<'a> Draft<'a> {
         Ok(())
     }
 
-    // The other cases of a test begin, behind its first ones.
+    // Begins the other cases of a test, after its first ones.
     fn begin_no(&mut self, alloc: Global, test: OpenTest) -> Result<(), Memory>
         ensures { OnOk result (draft_of self.new ≡ drafts.no_begun (open_of test) (draft_of self.old)) }
     {
@@ -401,7 +401,7 @@ impl<'a> Draft<'a> {
         Ok(())
     }
 
-    // The other cases of a test end.
+    // Ends the other cases of the innermost test.
     fn end_no(&mut self, alloc: Global) -> Result<(), Memory>
         ensures { OnOk result (draft_of self.new
             ≡ drafts.no_read (drafts.last_of (draft_of self.old).tests) (draft_of self.old)) }
@@ -412,7 +412,7 @@ impl<'a> Draft<'a> {
         Ok(())
     }
 
-    // A test ends.
+    // Ends a test.
     fn end_test(&mut self, alloc: Global, test: OpenTest) -> Result<(), Memory>
         ensures { OnOk result (draft_of self.new ≡ drafts.test_ended (open_of test) (draft_of self.old)) }
     {
@@ -426,7 +426,7 @@ impl<'a> Draft<'a> {
         Ok(())
     }
 
-    // The line of a branch ends.
+    // Ends the line of a branch.
     fn end_branch(&mut self, alloc: Global) -> Result<(), Memory>
         ensures { OnOk result (draft_of self.new ≡ drafts.branch_read (draft_of self.old)) }
     {

@@ -22,12 +22,12 @@ pub enum SectionTextError {
     /// The cases that begin at this position are at level 65.
     #[error("too deep at {at}")]
     TooDeep { at: u64 },
-    /// The name or the number at this position is that of no symbol, copy or rule, or the name of a new copy is that of
+    /// The name or the number at this position is that of no symbol, copy or rule; or the name of a new copy is that of
     /// an earlier one.
     #[error("bad reference at {at}")]
     BadReference { at: u64 },
-    /// The line that begins at this position is that of one copy or branch too many, or the name of the copy at this
-    /// position has more than 256 bytes.
+    /// The line that begins at this position has one copy or branch too many, or the name of the copy at this position
+    /// has more than 256 bytes.
     #[error("limit at {at}")]
     Limit { at: u64 },
     /// Memory ran out.

@@ -18,14 +18,14 @@ use linear_forms::CERTIFICATE_LIMIT;
 use model::NAME_LIMIT;
 use text_grammar::Fault;
 
-/// A section has at most this many copies, ..
+/// The maximum number of copies of a section.
 pub const COPY_LIMIT: usize = 2_000;
-/// .. at most this many branches, ..
+/// The maximum number of branches of a section.
 pub const BRANCH_LIMIT: usize = 100_000;
-/// .. and cases at most this many levels deep, those of a line being at level 1.
+/// The maximum level of cases; those of a line are at level 1.
 pub const LEVEL_LIMIT: usize = 64;
 
-// A kind, where a test passes.
+// The kind, if a test passes.
 fn when(test: bool, kind: SectionKind) -> Option<SectionKind>
     ensures { result ≡ when_at test kind }
 {
@@ -43,8 +43,8 @@ fn against_number(number: u128) -> Option<SectionKind>
 }
 
 // The fault of the number of a rule: it is over the limit, or no rule has it.
-fn against_rule(program: &Program, number: u128) -> Option<SectionKind>
-    ensures { result ≡ faults.against_rule (program_of program.now) number }
+fn fault_of_rule(program: &Program, number: u128) -> Option<SectionKind>
+    ensures { result ≡ faults.fault_of_rule (program_of program.now) number }
 {
     match against_number(number) {
         Some(kind) => Some(kind),
@@ -60,8 +60,8 @@ fn has_rule(program: &Program, number: u128) -> bool
 }
 
 // The fault of the name of a new copy: an earlier one has it, or it is too long.
-fn against_new_name(draft: &Draft<'_>, name: &[u8]) -> Option<SectionKind>
-    ensures { result ≡ faults.against_new_name name.now (draft_of draft.now) }
+fn fault_of_new_name(draft: &Draft<'_>, name: &[u8]) -> Option<SectionKind>
+    ensures { result ≡ faults.fault_of_new_name name.now (draft_of draft.now) }
 {
     if draft.names.has(name) {
         Some(SectionKind::BadReference)
@@ -71,15 +71,15 @@ fn against_new_name(draft: &Draft<'_>, name: &[u8]) -> Option<SectionKind>
 }
 
 // The fault of the name of a copy: none has it.
-fn against_copy(draft: &Draft<'_>, name: &[u8]) -> Option<SectionKind>
-    ensures { result ≡ faults.against_copy name.now (draft_of draft.now) }
+fn fault_of_copy(draft: &Draft<'_>, name: &[u8]) -> Option<SectionKind>
+    ensures { result ≡ faults.fault_of_copy name.now (draft_of draft.now) }
 {
     when(!draft.names.has(name), SectionKind::BadReference)
 }
 
 // The fault of the name of a symbol: none has it.
-fn against_symbol(program: &Program, name: &[u8]) -> Option<SectionKind>
-    ensures { result ≡ faults.against_symbol name.now (program_of program.now) }
+fn fault_of_symbol(program: &Program, name: &[u8]) -> Option<SectionKind>
+    ensures { result ≡ faults.fault_of_symbol name.now (program_of program.now) }
 {
     when(
         !has_symbol(&program.symbols, name),
@@ -88,23 +88,23 @@ fn against_symbol(program: &Program, name: &[u8]) -> Option<SectionKind>
 }
 
 /// The fault of a piece in its role.
-pub fn against_piece(
+pub fn fault_of_piece(
     draft: &Draft<'_>,
     program: &Program,
     text: &[u8],
     piece: Piece,
 ) -> Option<SectionKind>
-    ensures { result ≡ faults.against_piece (program_of program.now) text.now piece (draft_of draft.now) }
+    ensures { result ≡ faults.fault_of_piece (program_of program.now) text.now piece (draft_of draft.now) }
 {
     match draft.role {
         Role::Plain => None,
         Role::CopyWord => when(COPY_LIMIT <= draft.copies.len(), SectionKind::Limit),
         Role::BranchWord => when(BRANCH_LIMIT <= draft.branches.len(), SectionKind::Limit),
         Role::CaseWord => when(LEVEL_LIMIT <= draft.tests.len(), SectionKind::TooDeep),
-        Role::NewName => against_new_name(draft, bytes_of(text, piece)),
-        Role::Symbol => against_symbol(program, bytes_of(text, piece)),
-        Role::Source | Role::Target => against_copy(draft, bytes_of(text, piece)),
-        Role::Rule => against_rule(program, number_in(piece.sort)),
+        Role::NewName => fault_of_new_name(draft, bytes_of(text, piece)),
+        Role::Symbol => fault_of_symbol(program, bytes_of(text, piece)),
+        Role::Source | Role::Target => fault_of_copy(draft, bytes_of(text, piece)),
+        Role::Rule => fault_of_rule(program, number_in(piece.sort)),
         Role::Integer | Role::Multiplier => against_number(number_in(piece.sort)),
     }
 }

@@ -11,7 +11,7 @@ use mark::{
 };
 use text_grammar::Item::{self, AMade, AMark, APiece, End, Or};
 
-/// The classes of pieces; what is no piece of any section is of the class after these.
+/// The classes of pieces. Bytes that are no piece of any section have the class after these.
 #[rattlefmt::skip]
 pub mod class {
     pub const COPY: u32 = 0; pub const OF: u32 = 1; pub const FACTS: u32 = 2; pub const FROM: u32 = 3;
@@ -77,7 +77,7 @@ const MORE_NUMBERS: u32 = 17;
 /// The rules.
 #[rattlefmt::skip]
 pub const SECTION_GRAMMAR: [Item; 174] = [
-    // text, copies, branches
+    // the text, the lines of copies, the lines of branches
     AMade(COPY_LINE), AMade(COPIES), AMade(BRANCHES), End,
     AMade(COPY_LINE), AMade(COPIES), Or, End,
     AMade(BRANCH_LINE), AMade(BRANCHES), Or, End,
@@ -89,11 +89,11 @@ pub const SECTION_GRAMMAR: [Item; 174] = [
     AMark(BRANCH_WORD), APiece(FROM), APiece(BLANK), AMark(SOURCE), AMade(A_NAME), APiece(BLANK), APiece(RULE),
     APiece(BLANK), AMark(RULE_NUMBER), AMade(NATURAL), APiece(BLANK), AMade(CASES), AMark(BRANCH_READ),
     APiece(LINE_FEED), End,
-    // a name, a natural number
+    // names, natural numbers
     APiece(COPY), Or, APiece(OF), Or, APiece(FACTS), Or, APiece(FROM), Or, APiece(RULE), Or, APiece(TO), Or,
     APiece(BY), Or, APiece(NEVER), Or, APiece(IF), Or, APiece(THEN), Or, APiece(ELSE), Or, APiece(NAME), End,
     APiece(ZERO), Or, APiece(POSITIVE), End,
-    // forms behind `[`, more forms, a form, a number with its sign, more of them
+    // forms after `[`, further forms, a form, a number with its sign, further numbers
     APiece(CLOSE_SQUARE), Or, AMade(FORM), AMark(FACT_READ), AMade(MORE_FORMS), End,
     APiece(CLOSE_SQUARE), Or,
     APiece(SEMICOLON), APiece(BLANK), AMade(FORM), AMark(FACT_READ), AMade(MORE_FORMS), End,
@@ -107,7 +107,7 @@ pub const SECTION_GRAMMAR: [Item; 174] = [
     AMark(CASE_WORD), APiece(IF), APiece(BLANK), AMade(FORM), AMark(TEST_READ), APiece(BLANK), APiece(THEN),
     APiece(BLANK), APiece(OPEN), AMade(CASES), AMark(YES_READ), APiece(CLOSE), APiece(BLANK), APiece(ELSE),
     APiece(BLANK), APiece(OPEN), AMade(CASES), APiece(CLOSE), AMark(NO_READ), End,
-    // lists of multipliers behind `[`, more lists, multipliers, those behind `[`, more multipliers
+    // lists of multipliers after `[`, further lists, multipliers, multipliers after `[`, further multipliers
     APiece(CLOSE_SQUARE), Or, AMade(NUMBERS), AMark(LIST_READ), AMade(MORE_LISTS), End,
     APiece(CLOSE_SQUARE), Or,
     APiece(SEMICOLON), APiece(BLANK), AMade(NUMBERS), AMark(LIST_READ), AMade(MORE_LISTS), End,

@@ -1,6 +1,6 @@
 //! Kinds of refusals of sections.
 
-/// Kinds of refusals, without their positions, in the order in which they are reported at one position.
+/// The kinds of refusals, without their positions, in the order in which they are reported at one position.
 #[derive(Clone, Copy, Debug, PartialEq, Eq)]
 pub enum SectionKind {
     Syntax,

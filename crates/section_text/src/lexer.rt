@@ -27,7 +27,7 @@ pub struct Sorted {
     pub len: usize,
 }
 
-// Which word a name is, if it is one.
+// The word that a name is.
 fn word_of(name: &[u8]) -> Word
     ensures { result ≡ lexing.word_of name.now }
 {
@@ -46,7 +46,7 @@ fn word_of(name: &[u8]) -> Word
     }
 }
 
-// Which word of cases a name is, if it is one.
+// The word that a name is, among the words of cases.
 fn case_word(name: &[u8]) -> Word
     ensures { result ≡ lexing.case_word name.now }
 {
@@ -85,7 +85,7 @@ fn sign_at(byte: u8) -> Sort
 }
 
 // The name that bytes begin with.
-fn front_name<'b>(bytes: &'b [u8], first: u8, others: &[u8]) -> &'b [u8]
+fn leading_name<'b>(bytes: &'b [u8], first: u8, others: &[u8]) -> &'b [u8]
     requires { bytes.now ≡ first ∷ others.now }
     ensures { result.now ≡ first ∷ prefix continues_name others.now }
 {
@@ -98,7 +98,7 @@ fn sorted_name(bytes: &[u8], first: u8, others: &[u8]) -> Sorted
     requires { bytes.now ≡ first ∷ others.now }
     ensures { lexing.sorted_of result ≡ lexing.name_at first others.now }
 {
-    let name = front_name(bytes, first, others);
+    let name = leading_name(bytes, first, others);
     Sorted {
         sort: Sort::Name(word_of(name)),
         len: name.len(),
@@ -106,7 +106,7 @@ fn sorted_name(bytes: &[u8], first: u8, others: &[u8]) -> Sorted
 }
 
 // The digits that bytes begin with.
-fn front_digits<'b>(bytes: &'b [u8], first: u8, others: &[u8]) -> &'b [u8]
+fn leading_digits<'b>(bytes: &'b [u8], first: u8, others: &[u8]) -> &'b [u8]
     requires begins { bytes.now ≡ first ∷ others.now }
     requires digit { IsTrue (is_ascii_digit first) }
     ensures digits { result.now ≡ first ∷ prefix is_ascii_digit others.now }
@@ -136,7 +136,7 @@ fn sorted_at(bytes: &[u8], first: u8, others: &[u8]) -> Sorted
     if begins_name(first) {
         sorted_name(bytes, first, others)
     } else if first.is_ascii_digit() {
-        let digits = front_digits(bytes, first, others);
+        let digits = leading_digits(bytes, first, others);
         Sorted {
             sort: sort_of_digits(digits),
             len: digits.len(),
@@ -150,7 +150,7 @@ fn sorted_at(bytes: &[u8], first: u8, others: &[u8]) -> Sorted
 }
 
 impl SectionLexer {
-    // The lexeme of bytes with which the text ends.
+    // The lexeme that begins with these bytes, which are the last bytes of the text.
     fn pieced(&self, bytes: &[u8], sorted: Sorted) -> Lexeme<Piece>
         ensures { lexeme_of result ≡ lexing.pieced self.now.len bytes.now (lexing.sorted_of sorted) }
     {

@@ -13,14 +13,14 @@ use its_model::Symbol;
 use model::Memory;
 use std::alloc::Global;
 
-/// The names of copies, in their order, each found by its bytes in time nearly independent of their number.
+/// The names of copies, in their order, with a table from names to positions; a look-up takes nearly constant time.
 #[derive(Drop)]
 pub struct CopyNames<'a> {
     names: IndexSet<&'a [u8]>,
 }
 
 impl<'a> CopyNames<'a> {
-    /// No name.
+    /// No names.
     pub fn new(alloc: Global) -> CopyNames<'a>
         ensures { names_in result ≡ [] }
     {
@@ -29,7 +29,7 @@ impl<'a> CopyNames<'a> {
         }
     }
 
-    /// One name more, unless it is among them.
+    /// Adds a name, unless it is listed.
     ///
     /// # Errors
     ///
@@ -41,7 +41,7 @@ impl<'a> CopyNames<'a> {
         Ok(())
     }
 
-    /// The position of a name, or the number of names where it isn't among them.
+    /// The position of a name, or the number of names if it isn't listed.
     pub fn position_or_count(&self, name: &[u8]) -> usize
         ensures { result ≡ position_of name.now (names_in self.now) }
     {
@@ -51,7 +51,7 @@ impl<'a> CopyNames<'a> {
         }
     }
 
-    /// Whether a name is among them.
+    /// Whether a name is listed.
     pub fn has(&self, name: &[u8]) -> bool
         ensures { result ≡ is_among_names name.now (names_in self.now) }
     {
@@ -69,7 +69,7 @@ pub fn bytes_of<'t>(text: &'t [u8], piece: Piece) -> &'t [u8]
     bytes
 }
 
-/// The position of the symbol with a name, or the number of symbols where none has it.
+/// The position of the symbol with a name, or the number of symbols if none has it.
 pub fn symbol_position(symbols: &[Symbol], name: &[u8]) -> usize
     ensures { result ≡ position_of name.now (map (λ s. s.name) (map symbol_of symbols.now)) }
 {
@@ -95,21 +95,21 @@ pub fn has_symbol(symbols: &[Symbol], name: &[u8]) -> bool
     false
 }
 
-/// A number as 32 bits hold it, or the greatest that they hold.
+/// A number as a `u32`, or the greatest number that a `u32` holds.
 pub fn in_32(number: u128) -> u32
     ensures { result ≡ in_32_of number }
 {
     number.min(u128::from(u32::MAX)) as u32
 }
 
-/// A position as 32 bits hold it, or the greatest that they hold.
+/// A position as a `u32`, or the greatest number that a `u32` holds.
 pub fn position_in_32(position: usize) -> u32
     ensures { result ≡ in_32_of position }
 {
     position.min(u32::MAX as usize) as u32
 }
 
-/// A number as 64 bits hold it, or the greatest that they hold.
+/// A number as a `u64`, or the greatest number that a `u64` holds.
 pub fn in_64(number: u128) -> u64
     ensures { result ≡ in_64_of number }
 {

@@ -1,6 +1,6 @@
 //! The pieces of a section.
 
-/// The word that a name is. Where a name can stand, each word is a name.
+/// The word that a name is. Where a name is allowed, each word is a name.
 #[derive(Clone, Copy, Debug, PartialEq, Eq)]
 pub enum Word {
     Copy,
@@ -14,7 +14,7 @@ pub enum Word {
     If,
     Then,
     Else,
-    /// No word of sections.
+    /// A name that is no word of sections.
     Other,
 }
 
@@ -39,7 +39,7 @@ pub enum Sign {
     Minus,
 }
 
-/// What a piece is.
+/// The sort of a piece.
 #[derive(Clone, Copy, Debug, PartialEq, Eq)]
 pub enum Sort {
     /// A name, and which word it is.

@@ -24,11 +24,11 @@ use text_grammar::{OneMode, Tables, TokenStream, read as read_tokens};
 ///
 /// # Errors
 ///
-/// The refusal at the least position is the answer, and of those at one position the one that comes first here.
-/// `Syntax` is at the first token that can't follow, or at the text's length if it ends too early. `NumberTooLarge` is
-/// at a number over 2^56. `TooDeep` is at the word that begins cases at level 65. `BadReference` is at a name that no
-/// symbol or no copy has, at the name of a copy that an earlier one has, and at a number that no rule has. `Limit` is at
-/// the word that begins copy 2,001 or branch 100,001, and at the name of a copy that has more than 256 bytes. `Memory`
+/// The refusal at the least position is reported, and of those at one position the one that comes first here. `Syntax`
+/// is at the first token that can't follow, or at the text's length if it ends too early. `NumberTooLarge` is at a
+/// number over 2^56. `TooDeep` is at the word that begins cases at level 65. `BadReference` is at a name that no symbol
+/// or no copy has, at the name of a copy that an earlier one has, and at a number that no rule has. `Limit` is at the
+/// word that begins copy 2,001 or branch 100,001, and at the name of a copy that has more than 256 bytes. `Memory`
 /// comes where memory ran out.
 pub fn read_section(
     alloc: Global,
@@ -40,7 +40,7 @@ pub fn read_section(
     judge(alloc, program, bytes)
 }
 
-// The answer to a text.
+// The answer of reading a text.
 fn judge(alloc: Global, program: &Program, bytes: &[u8]) -> Result<Section, SectionTextError>
     ensures { Tells annotated_of refusal_in (answer (reader (sections_of (program_of program.now) bytes.now))
         (length bytes.now) (tokens bytes.now)) result }

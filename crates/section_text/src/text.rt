@@ -1,4 +1,4 @@
-//! Sections as texts of their grammar.
+//! Reads a section piece by piece, as a text of its grammar.
 
 ghost use Rattle.std.specs.Prelude.{◌≡◌, ◌||◌, is_some, List, ◌∷◌, None, IfOk, OnOk};
 ghost use Rattle.its_model.specs.Views.{program_of};
@@ -14,7 +14,7 @@ ghost use Rattle.section_text.specs.Views.{progress_of};
 
 use crate::classes::class_of;
 use crate::draft::Draft;
-use crate::faults::{against_piece, fault_at, number_of};
+use crate::faults::{fault_at, fault_of_piece, number_of};
 use crate::kind::SectionKind;
 use crate::piece::Piece;
 use its_model::Program;
@@ -32,7 +32,7 @@ pub struct SectionReading<'a> {
     pub(crate) broken: bool,
 }
 
-// The fault of a kind at a position, unless there was one before.
+// The fault of a kind at a position, if there was no fault before.
 fn shown_fault(broken: bool, kind: Option<SectionKind>, at: u64) -> Option<Fault<SectionKind>>
     ensures { fault_of result ≡ faults.shown_at broken kind at }
 {
@@ -47,7 +47,7 @@ fn breaks(broken: bool, kind: Option<SectionKind>) -> bool
 }
 
 impl<'a> SectionReading<'a> {
-    /// Nothing was read.
+    /// The progress in which nothing was read.
     pub fn new(alloc: Global, program: &'a Program, text: &'a [u8]) -> SectionReading<'a>
         ensures program { result.program.now ≡ program.now }
         ensures text { result.text.now ≡ text.now }
@@ -98,7 +98,7 @@ impl<'a> Text for SectionReading<'a> {
             → fault_of shown ≡ first_shown (sections_of (program_of self.old.program.now) self.old.text.now) None
             ((sections_of (program_of self.old.program.now) self.old.text.now).faults es (token_of token))) }
     {
-        let kind = against_piece(&self.draft, self.program, self.text, token.piece);
+        let kind = fault_of_piece(&self.draft, self.program, self.text, token.piece);
         let shown = shown_fault(self.broken, kind, token.at);
         self.draft
             .take(self.alloc, self.program, self.text, token.piece)?;

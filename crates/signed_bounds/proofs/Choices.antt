@@ -1,4 +1,4 @@
--- Choices by a test, and tests that can't be true.
+-- Choices by a test, and contradictions.
 use Rattle.std.proofs.Common.{◌≡◌, Bool, true, false, refl, Option, Some, None}
 use Rattle.std.specs.Prelude.{if◌then◌else◌, option_map}
 
@@ -8,15 +8,15 @@ pub chosen : {A : Type 0} (P : A → Type 0) (test : Bool) (a b : A) → (test �
 chosen P true a b passes fails = passes refl
 chosen P false a b passes fails = fails refl
 
--- a test that fails doesn't pass
+-- false isn't true
 pub contradiction : {A : Type 0} → false ≡ true → A
 contradiction e = cc
 
--- nothing is no value
+-- `None` isn't `Some` of a value
 pub none_is_no_value : {A B : Type 0} {a : A} → None ≡ Some a → B
 none_is_no_value e = cc
 
--- what is mapped to a value is a value
+-- if an option is mapped to a value, it has one
 pub option_map-Some : {A B : Type 0} (f : A → B) (o : Option A) (b : B) → option_map f o ≡ Some b
     → (a : A) × (o ≡ Some a) × (f a ≡ b)
 option_map-Some f None b e = none_is_no_value e

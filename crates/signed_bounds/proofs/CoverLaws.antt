@@ -14,7 +14,7 @@ use Rattle.signed_bounds.specs.Fits.{is_equal, factor_fits, maximum_parts}
 use Rattle.signed_bounds.specs.Covers.{without_first, or_else, without_equal, without_fitting, are_matched}
 use Rattle.signed_bounds.specs.Covers.{factors_equal, factors_fit, missing_times, used_up, missing_products, all_used_up}
 use Rattle.signed_bounds.specs.Covers.{whole_polynomial, fits_polynomial, fits_maximum}
-use Rattle.signed_bounds.specs.Covers.{is_below_constant, fits_whole, emptied, used_whole, without_product, dominated}
+use Rattle.signed_bounds.specs.Covers.{is_below_constant, fits_whole, occurs_never, used_whole, without_product, dominated}
 use Rattle.signed_bounds.specs.Covers.{covers}
 use Rattle.signed_bounds.proofs.Choices.{contradiction, none_is_no_value, option_map-Some}
 use Rattle.signed_bounds.proofs.PolynomialTerms.{weighted-le}
@@ -43,7 +43,8 @@ without_first-le test a sound (b ∷ bs) rest e x =
         subst (λ (r : List Signed). signed_val a x * factors_val r x ≤ signed_val b x * factors_val bs x) found.2
         (let h = mul-le-mul_left (signed_val b x) (later found.0 found.1) in omega arith)
 
--- matched factors have at most the product of those that they take, where each taken one and the rest are enough
+-- factors that take others one by one have at most their product, if each factor times the factors left is at most
+-- those that it takes from
 pub are_matched-le : (without : Signed → List Signed → Option (List Signed))
     → ((a : Signed) (bs rest : List Signed) → without a bs ≡ Some rest
     → (x : List ℤ) → signed_val a x * factors_val rest x ≤ factors_val bs x)
@@ -63,7 +64,7 @@ are_matched-le without sound (f ∷ fs) gs e x =
         let taken = sound f gs rest t x in
         le_trans h taken
 
--- copies that are taken from so many greater ones, and from more
+-- arithmetic for taking copies: copies of a number that is at most another one
 taken : (f g n m used more missing : ℕ) → f ≤ g → (n - m) * f + used ≤ more + missing
     → n * f + ((m - n) * g + used) ≤ (m * g + more) + missing
 taken f g n m used more missing h k = go (cases_lt m n)
@@ -80,7 +81,8 @@ taken f g n m used more missing h k = go (cases_lt m n)
         let none : n - m ≡ 0 = omega arith in
         omega (arith, ap (λ (v : ℕ). v * g) whole, ap (λ (v : ℕ). v * f) none)
 
--- a number of copies is at most those that are used up, where the factors that pass the test are enough
+-- n times the factors and the products left are at most the products before and the missing times the factors, if
+-- factors that pass the test have at least that product
 pub used_up-le : (test : List Signed → List Signed → Bool) (fs : List Signed) (x : List ℤ)
     → ((gs : List Signed) → test fs gs ≡ true → factors_val fs x ≤ factors_val gs x)
     → (n : ℕ) (qs : List Product)
@@ -102,7 +104,7 @@ used_up-le test fs x sound n (q ∷ qs) = go (test fs q.factors) refl (λ m. use
         (missing_times test (n - q.times) fs qs * factors_val fs x) (sound q.factors t) (later (n - q.times))
     go false t later = let h = later n in omega arith
 
--- n is at most m times the maximum of parts with a constant that is large enough
+-- n is at most m times the maximum of parts of which one is a constant that is large enough
 pub is_below_constant-le : (n m : ℕ) (bs : SignedParts) → is_below_constant n m bs ≡ true → (x : List ℤ)
     → n ≤ m * signed_maximum bs x
 is_below_constant-le n m NoParts e x = contradiction e
@@ -122,7 +124,7 @@ is_below_constant-le n m (Part b bs) e x =
     let h : signed_maximum bs x ≤ max (signed_val b x) (signed_maximum bs x) = omega arith in
     le_trans (is_below_constant-le n m bs e x) (mul-le-mul_left m h)
 
--- the positive part of a polynomial, and 1 where there is none
+-- the positive part of a polynomial, or 1 if there is none
 abbrev part_at : List ℤ → Option Polynomial → ℕ
 part_at x None = 1
 part_at x (Some q) = positive_part (polynomial_value q x)
@@ -153,17 +155,17 @@ module _ (is_safe : Term → Bool) (safe : IsSafe is_safe) where
       go None t k = without_first-le (factor_fits is_safe a) a (factor_fits-le is_safe safe a) bs rest k x
       go (Some first) t k = without_equal-le a bs rest (t ∙ k) x
 
-  -- equal factors have at most each other's product
+  -- the product of factors that are equal to others is at most theirs
   pub factors_equal-le : (fs gs : List Signed) → factors_equal is_safe fs gs ≡ true → (x : List ℤ)
       → factors_val fs x ≤ factors_val gs x
   factors_equal-le = are_matched-le (without_equal is_safe) without_equal-le
 
-  -- factors that fit others have at most their product
+  -- the product of factors that fit others is at most theirs
   pub factors_fit-le : (fs gs : List Signed) → factors_fit is_safe fs gs ≡ true → (x : List ℤ)
       → factors_val fs x ≤ factors_val gs x
   factors_fit-le = are_matched-le (without_fitting is_safe) without_fitting-le
 
-  -- n times one polynomial that fits m times another is at most it
+  -- if n times one polynomial fits m times another, the products are at most each other
   fits_polynomial-le : (n m : ℕ) (f g : Option Polynomial) (u v : ℕ) (x : List ℤ)
       → ((p : Polynomial) → f ≡ Some p → u ≡ positive_part (polynomial_value p x))
       → ((p : Polynomial) → g ≡ Some p → v ≡ positive_part (polynomial_value p x))
@@ -195,7 +197,7 @@ module _ (is_safe : Term → Bool) (safe : IsSafe is_safe) where
           (factors_val gs x) x (λ p h. whole_polynomial-value fs p h x) (λ p h. whole_polynomial-value gs p h x) k
       go (inr k) = fits_maximum-le n fs m gs k x
 
-  -- a product and the products once one that it fits as a whole is used up are at most all products
+  -- a product and the products left after it was taken from one as a whole are at most all products
   pub used_whole-le : (p : Product) (qs rest : List Product) → used_whole is_safe p qs ≡ Some rest
       → (x : List ℤ) → p.times * factors_val p.factors x + products_val rest x ≤ products_val qs x
   used_whole-le p [] rest e x = none_is_no_value e
@@ -203,14 +205,14 @@ module _ (is_safe : Term → Bool) (safe : IsSafe is_safe) where
       go (fits_whole is_safe p.times p.factors q.times q.factors) refl e (λ r k. used_whole-le p qs r k x)
     where
       go : (t : Bool) → fits_whole is_safe p.times p.factors q.times q.factors ≡ t
-          → (if t then Some (emptied q ∷ qs)
+          → (if t then Some (occurs_never q ∷ qs)
           else option_map (λ r. q ∷ r) (used_whole is_safe p qs)) ≡ Some rest
           → ((r : List Product) → used_whole is_safe p qs ≡ Some r
           → p.times * factors_val p.factors x + products_val r x ≤ products_val qs x)
           → p.times * factors_val p.factors x + products_val rest x
           ≤ q.times * factors_val q.factors x + products_val qs x
       go true t k later =
-          let same : emptied q ∷ qs ≡ rest = cc in
+          let same : occurs_never q ∷ qs ≡ rest = cc in
           omega (
             arith,
             fits_whole-le p.times p.factors q.times q.factors t x,
@@ -220,7 +222,7 @@ module _ (is_safe : Term → Bool) (safe : IsSafe is_safe) where
           let found = option_map-Some (λ r. q ∷ r) (used_whole is_safe p qs) rest k in
           omega (arith, later found.0 found.1, ap (λ (r : List Product). products_val r x) found.2)
 
-  -- a product and the products once it is taken from them are at most all products
+  -- a product and the products left after it was taken from them are at most all products
   pub without_product-le : (p : Product) (qs rest : List Product) → without_product is_safe p qs ≡ Some rest
       → (x : List ℤ) → p.times * factors_val p.factors x + products_val rest x ≤ products_val qs x
   without_product-le p qs rest e x = go (missing_times (factors_fit is_safe) p.times p.factors qs == 0) refl e
@@ -253,7 +255,8 @@ module _ (is_safe : Term → Bool) (safe : IsSafe is_safe) where
       go None u k later = contradiction k
       go (Some rest) u k later = omega (arith, without_product-le p qs rest u x, later rest k)
 
-  -- all products that a list uses up of another, and what is left there, are at most all of it and what is missing
+  -- the products that a list takes from another, and the products left there, are at most the other and the products
+  -- missing
   pub all_used_up-le : (ps qs : List Product) (x : List ℤ)
       → products_val ps x + products_val (all_used_up (factors_equal is_safe) ps qs) x
       ≤ products_val qs x + products_val (missing_products (factors_equal is_safe) ps qs) x

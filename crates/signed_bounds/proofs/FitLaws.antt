@@ -19,11 +19,11 @@ quotient-grows : (a b d : ℕ) → a ≤ b → a / d ≤ b / d
 quotient-grows a b zero h = omega arith
 quotient-grows a b (suc d) h = le-div (a / suc d) b (suc d) (omega arith) (le_trans (div-mul-le_self a (suc d)) h)
 
--- a quotient is at most one of a greater numerator by the same divisor
+-- a quotient is at most the quotient of a greater numerator by the same divisor
 quotient-le : (a b m n : ℕ) → m ≡ n → a ≤ b → a / m ≤ b / n
 quotient-le a b m n e h = subst (λ (d : ℕ). a / m ≤ b / d) e (quotient-grows a b m h)
 
--- a power grows with its base and, where that is at least 1, with its exponent
+-- a power grows with its base and, if the base is at least 1, with its exponent
 power-le : (m n a b : ℕ) → 1 ≤ m → m ≤ n → a ≤ b → m ^ a ≤ n ^ b
 power-le m n a b based h k = le_trans (pow-le-pow_right based k) (pow-le-pow_left h b)
 

@@ -41,7 +41,7 @@ greater_part (negsuc n) = parts n
         ≡ suc n
     parts n = omega (arith, ap positive_part (plus n), ap positive_part (minus n))
 
--- the absolute value at a place
+-- the absolute value of the start argument at a position is the size at that position
 size_at : (start : List ℤ) (i : ℕ) → nat_abs (slice_index_or start i (pos 0)) ≡ slice_index (sizes_of_start start) i
 size_at [] i = refl
 size_at (z ∷ start) zero = refl
@@ -76,6 +76,6 @@ mutual
   signed_of_parts-maximum (plain.Part b bs) start =
       ap₂ (λ (v w : ℕ). max v w) (signed_of_bound-value b start) (signed_of_parts-maximum bs start)
 
--- the law
+-- bounds over absolute values keep their value as signed bounds
 pub keeps_values : SignedBoundsKeepValues
 keeps_values = record { each = signed_of_bound-value }

@@ -26,7 +26,7 @@ positive_part-grows (pos m) (pos n) h = omega (arith, ints)
 positive_part-grows (pos m) (negsuc n) h = absurd (omega (arith, ints))
 positive_part-grows (negsuc m) b h = omega arith
 
--- n times one positive part is at most m times another where that is so of the integers
+-- n times one positive part is at most m times another if n times the one integer is at most m times the other
 pub positive_part-weighted : (n m : ℕ) (a b : ℤ) → (pos n *ℤ a) ≤ℤ (pos m *ℤ b) → n * positive_part a ≤ m * positive_part b
 positive_part-weighted n m (pos a) (pos b) h = omega (arith, ints)
 positive_part-weighted n m (pos a) (negsuc b) h = omega (arith, ints)
@@ -42,7 +42,7 @@ module _ (is_safe : Term → Bool) (safe : IsSafe is_safe) where
       positive_part-grows (polynomial_value f x) (polynomial_value h x)
       (omega (arith, ints, polynomial_term-value f x, polynomial_term-value h x))
 
-  -- n times the one is at most m times the other where the weighted difference is never negative
+  -- n times one positive part is at most m times another if the weighted difference is never negative
   pub weighted-le : (n m : ℕ) (f h : Polynomial) → is_safe (weighted_difference n f m h) ≡ true → (x : List ℤ)
       → n * positive_part (polynomial_value f x) ≤ m * positive_part (polynomial_value h x)
   weighted-le n m f h e x =

@@ -10,19 +10,19 @@ use Rattle.signed_bounds.specs.Products.{Product, factors_val, products_val, joi
 use Rattle.signed_bounds.specs.Products.{constant_part_of, part_or_number, part_product}
 use Rattle.signed_bounds.specs.Products.{number, products_of, products_of_sum, multiplied_by_parts}
 
--- the factors of two lists multiply
+-- the product of the factors of two lists is the product of their products
 pub factors_val-append : (fs gs : List Signed) (x : List ℤ)
     → factors_val (fs ++ gs) x ≡ factors_val fs x * factors_val gs x
 factors_val-append [] gs x = omega arith
 factors_val-append (f ∷ fs) gs x = omega (arith, ap (λ (v : ℕ). signed_val f x * v) (factors_val-append fs gs x))
 
--- the products of two lists add up
+-- the sum of the products of two lists is the sum of their sums
 pub products_val-append : (ps qs : List Product) (x : List ℤ)
     → products_val (ps ++ qs) x ≡ products_val ps x + products_val qs x
 products_val-append [] qs x = omega arith
 products_val-append (p ∷ ps) qs x = omega (arith, products_val-append ps qs x)
 
--- a product times each of a list multiplies their sum
+-- a product joined with each of a list has the product of its value and the list's sum
 products_val-joined : (p : Product) (qs : List Product) (x : List ℤ)
     → products_val (map (joined p) qs) x ≡ (p.times * factors_val p.factors x) * products_val qs x
 products_val-joined p [] x = omega arith
@@ -33,7 +33,7 @@ products_val-joined p (q ∷ qs) x =
       products_val-joined p qs x,
     )
 
--- multiplied sums have the product of the values
+-- the sum of two multiplied lists is the product of their sums
 pub products_val-multiplied : (ps qs : List Product) (x : List ℤ)
     → products_val (multiplied ps qs) x ≡ products_val ps x * products_val qs x
 products_val-multiplied [] qs x = omega arith
@@ -45,17 +45,17 @@ products_val-multiplied (p ∷ ps) qs x =
       products_val-multiplied ps qs x,
     )
 
--- a scaled sum has the scaled value
+-- the sum of a list scaled by n is n times its sum
 pub products_val-scaled : (n : ℕ) (ps : List Product) (x : List ℤ)
     → products_val (scaled n ps) x ≡ n * products_val ps x
 products_val-scaled n [] x = omega arith
 products_val-scaled n (p ∷ ps) x = omega (arith, products_val-scaled n ps x)
 
--- a product of one factor has its value
+-- a product of one factor, taken once, has the value of the factor
 factor_value : (v : ℕ) → 1 * (v * 1) + 0 ≡ v
 factor_value v = omega arith
 
--- 1, taken once, times a number
+-- the product 1, taken once, times a number is the number
 once : (v : ℕ) → (1 * 1 + 0) * v ≡ v
 once v = omega arith
 
@@ -63,11 +63,11 @@ once v = omega arith
 mul_assoc : (u v w : ℕ) → (u * v) * w ≡ u * (v * w)
 mul_assoc u v w = omega arith
 
--- a number as a product without factors has its value
+-- a number as a product without factors has the value of the number
 number_value : (v : ℕ) → v * 1 + 0 ≡ v
 number_value v = omega arith
 
--- an integer, as a monomial without variables alone
+-- an integer is the value of the polynomial with it as its only monomial
 single_value : (z : ℤ) → z ≡ (z *ℤ pos 1) +ℤ pos 0
 single_value z = omega (arith, ints)
 
@@ -88,7 +88,7 @@ part_product-value (m ∷ []) x = monomial_part-value m m.vars refl x
 part_product-value (m ∷ n ∷ ms) x = factor_value (signed_val (PositivePart (m ∷ n ∷ ms)) x)
 
 mutual
-  -- the products of a bound add up to its value
+  -- the products that a bound is multiplied out into add up to its value
   pub products_of-value : (b : Signed) (x : List ℤ) → products_val (products_of b) x ≡ signed_val b x
   products_of-value (Constant c) x = omega arith
   products_of-value (PositivePart p) x = part_product-value p x

@@ -14,21 +14,22 @@ use Rattle.signed_bounds.specs.Products.{Product, number, factor, joined, multip
 use Rattle.signed_bounds.specs.Products.{constant_part, part_or_number, products_of}
 use Rattle.signed_bounds.specs.Products.{products_of_sum, multiplied_by_parts, is_multipliable}
 use Rattle.signed_bounds.specs.Covers.{without_first, without_equal, are_matched, factors_equal, factors_fit}
-use Rattle.signed_bounds.specs.Covers.{missing_times, used_up, missing_products, all_used_up, emptied, used_whole}
+use Rattle.signed_bounds.specs.Covers.{missing_times, used_up, missing_products, all_used_up, occurs_never, used_whole}
 use Rattle.signed_bounds.specs.Covers.{without_product, dominated, covers}
 use Rattle.signed_bounds.specs.Within.{numerator, once_less, quotient_count, is_covered_with_numerator}
-use Rattle.signed_bounds.specs.Within.{is_covered_by_quotient, is_covered_rounded, is_covered_by_some, within}
+use Rattle.signed_bounds.specs.Within.{is_covered_by_quotient, is_covered_rounded, is_covered_by_some, is_covered}
+use Rattle.signed_bounds.specs.Within.{within}
 use Rattle.signed_bounds.specs.Reflexive.{IsComparedWithItself, BoundsAreWithinThemselves}
 
--- what holds of all elements of two lists holds of all elements of their append
+-- a property of all elements of two lists is one of all elements of their append
 pub all-append : {A : Type 0} (P : A → Type 0) (xs ys : List A) → AllByRecursion P xs → AllByRecursion P ys
     → AllByRecursion P (xs ++ ys)
 all-append P [] ys h k = k
 all-append P (x ∷ xs) ys (first, others) k = (first, all-append P xs ys others k)
 
 -- a product that occurs 0 times
-abbrev IsEmptied : Product → Type 0
-IsEmptied q = q.times ≡ 0
+abbrev OccursNever : Product → Type 0
+OccursNever q = q.times ≡ 0
 
 -- of a product that is needed 0 times nothing is missing
 missing_times-zero : (test : List Signed → List Signed → Bool) (fs : List Signed) (qs : List Product)
@@ -58,12 +59,12 @@ used_up-zero test fs (q ∷ qs) = go (test fs q.factors) (used_up-zero test fs q
         (ap (λ (n : ℕ). used_up test n fs qs) none ∙ ih)
     go false ih = ap (λ (rest : List Product). q ∷ rest) ih
 
--- products that occur 0 times cover nothing
-missing_times-emptied : (test : List Signed → List Signed → Bool) (n : ℕ) (fs : List Signed) (zs qs : List Product)
-    → AllByRecursion IsEmptied zs → missing_times test n fs (zs ++ qs) ≡ missing_times test n fs qs
-missing_times-emptied test n fs [] qs h = refl
-missing_times-emptied test n fs (z ∷ zs) qs (first, others) =
-    go (test fs z.factors) (missing_times-emptied test n fs zs qs others)
+-- products that occur 0 times cover nothing of other factors
+missing_times-occurs_never : (test : List Signed → List Signed → Bool) (n : ℕ) (fs : List Signed) (zs qs : List Product)
+    → AllByRecursion OccursNever zs → missing_times test n fs (zs ++ qs) ≡ missing_times test n fs qs
+missing_times-occurs_never test n fs [] qs h = refl
+missing_times-occurs_never test n fs (z ∷ zs) qs (first, others) =
+    go (test fs z.factors) (missing_times-occurs_never test n fs zs qs others)
   where
     go : (t : Bool) → missing_times test n fs (zs ++ qs) ≡ missing_times test n fs qs
         → missing_times test (if t then n - z.times else n) fs (zs ++ qs) ≡ missing_times test n fs qs
@@ -72,11 +73,11 @@ missing_times-emptied test n fs (z ∷ zs) qs (first, others) =
         ap (λ (m : ℕ). missing_times test m fs (zs ++ qs)) same ∙ ih
     go false ih = ih
 
-used_up-emptied : (test : List Signed → List Signed → Bool) (n : ℕ) (fs : List Signed) (zs qs : List Product)
-    → AllByRecursion IsEmptied zs → used_up test n fs (zs ++ qs) ≡ used_up test n fs zs ++ used_up test n fs qs
-used_up-emptied test n fs [] qs h = refl
-used_up-emptied test n fs (z ∷ zs) qs (first, others) =
-    go (test fs z.factors) (used_up-emptied test n fs zs qs others)
+used_up-occurs_never : (test : List Signed → List Signed → Bool) (n : ℕ) (fs : List Signed) (zs qs : List Product)
+    → AllByRecursion OccursNever zs → used_up test n fs (zs ++ qs) ≡ used_up test n fs zs ++ used_up test n fs qs
+used_up-occurs_never test n fs [] qs h = refl
+used_up-occurs_never test n fs (z ∷ zs) qs (first, others) =
+    go (test fs z.factors) (used_up-occurs_never test n fs zs qs others)
   where
     left : Bool → Product
     left t = record { times = if t then z.times - n else z.times; factors = z.factors }
@@ -93,19 +94,19 @@ used_up-emptied test n fs (z ∷ zs) qs (first, others) =
     go false ih = ap (λ (rest : List Product). left false ∷ rest) ih
 
 -- products that occur 0 times still do after some are taken
-emptied-used_up : (test : List Signed → List Signed → Bool) (n : ℕ) (fs : List Signed) (zs : List Product)
-    → AllByRecursion IsEmptied zs → AllByRecursion IsEmptied (used_up test n fs zs)
-emptied-used_up test n fs [] h = tt
-emptied-used_up test n fs (z ∷ zs) (first, others) =
-    go (test fs z.factors) (λ m. emptied-used_up test m fs zs others)
+occurs_never-used_up : (test : List Signed → List Signed → Bool) (n : ℕ) (fs : List Signed) (zs : List Product)
+    → AllByRecursion OccursNever zs → AllByRecursion OccursNever (used_up test n fs zs)
+occurs_never-used_up test n fs [] h = tt
+occurs_never-used_up test n fs (z ∷ zs) (first, others) =
+    go (test fs z.factors) (λ m. occurs_never-used_up test m fs zs others)
   where
-    go : (t : Bool) → ((m : ℕ) → AllByRecursion IsEmptied (used_up test m fs zs))
+    go : (t : Bool) → ((m : ℕ) → AllByRecursion OccursNever (used_up test m fs zs))
         → ((if t then z.times - n else z.times) ≡ 0)
-        × AllByRecursion IsEmptied (used_up test (if t then n - z.times else n) fs zs)
+        × AllByRecursion OccursNever (used_up test (if t then n - z.times else n) fs zs)
     go true ih = (omega (arith, first), ih (n - z.times))
     go false ih = (first, ih n)
 
--- a product is covered by itself alone, and takes nothing of the products after it
+-- a product covers itself completely, so nothing is taken of the products after it
 missing_times-same : (test : List Signed → List Signed → Bool) (p : Product) (qs : List Product)
     → test p.factors p.factors ≡ true → missing_times test p.times p.factors (p ∷ qs) ≡ 0
 missing_times-same test p qs e =
@@ -115,41 +116,41 @@ missing_times-same test p qs e =
     ∙ missing_times-zero test p.factors qs
 
 used_up-same : (test : List Signed → List Signed → Bool) (p : Product) (qs : List Product)
-    → test p.factors p.factors ≡ true → used_up test p.times p.factors (p ∷ qs) ≡ emptied p ∷ qs
+    → test p.factors p.factors ≡ true → used_up test p.times p.factors (p ∷ qs) ≡ occurs_never p ∷ qs
 used_up-same test p qs e =
     let none : p.times - p.times ≡ 0 = omega arith in
     ap (λ (t : Bool). record { times = if t then p.times - p.times else p.times; factors = p.factors }
     ∷ used_up test (if t then p.times - p.times else p.times) p.factors qs) e
     ∙ ap (λ (n : ℕ). record { times = n; factors = p.factors } ∷ used_up test n p.factors qs) none
-    ∙ ap (λ (rest : List Product). emptied p ∷ rest) (used_up-zero test p.factors qs)
+    ∙ ap (λ (rest : List Product). occurs_never p ∷ rest) (used_up-zero test p.factors qs)
 
 -- the test passes for the factors of a product and themselves
 abbrev PassesWithItself : (List Signed → List Signed → Bool) → Product → Type 0
 PassesWithItself test p = test p.factors p.factors ≡ true
 
--- products are covered by themselves, whatever follows, and if those before occur 0 times
+-- nothing is missing of products in a list that has them, whatever follows, if those before occur 0 times
 missing_products-same : (test : List Signed → List Signed → Bool) (ps zs more : List Product)
-    → AllByRecursion (PassesWithItself test) ps → AllByRecursion IsEmptied zs
-    → AllByRecursion IsEmptied (missing_products test ps (zs ++ (ps ++ more)))
+    → AllByRecursion (PassesWithItself test) ps → AllByRecursion OccursNever zs
+    → AllByRecursion OccursNever (missing_products test ps (zs ++ (ps ++ more)))
 missing_products-same test [] zs more h k = tt
 missing_products-same test (p ∷ ps) zs more (first, others) k =
     let all = p ∷ (ps ++ more) in
-    let before = used_up test p.times p.factors zs ++ emptied p ∷ [] in
+    let before = used_up test p.times p.factors zs ++ occurs_never p ∷ [] in
     let none : missing_times test p.times p.factors (zs ++ all) ≡ 0 =
-    missing_times-emptied test p.times p.factors zs all k ∙ missing_times-same test p (ps ++ more) first in
+    missing_times-occurs_never test p.times p.factors zs all k ∙ missing_times-same test p (ps ++ more) first in
     let left : used_up test p.times p.factors (zs ++ all) ≡ before ++ (ps ++ more) =
-    used_up-emptied test p.times p.factors zs all k
+    used_up-occurs_never test p.times p.factors zs all k
     ∙ ap (λ (rest : List Product). used_up test p.times p.factors zs ++ rest) (used_up-same test p (ps ++ more) first)
-    ∙ sym (append_assoc (used_up test p.times p.factors zs) (emptied p ∷ []) (ps ++ more)) in
-    let emptied_before : AllByRecursion IsEmptied before =
-    all-append IsEmptied (used_up test p.times p.factors zs) (emptied p ∷ [])
-    (emptied-used_up test p.times p.factors zs k) (refl, tt) in (
+    ∙ sym (append_assoc (used_up test p.times p.factors zs) (occurs_never p ∷ []) (ps ++ more)) in
+    let occurs_never_before : AllByRecursion OccursNever before =
+    all-append OccursNever (used_up test p.times p.factors zs) (occurs_never p ∷ [])
+    (occurs_never-used_up test p.times p.factors zs k) (refl, tt) in (
       none,
-      subst (λ (rest : List Product). AllByRecursion IsEmptied (missing_products test ps rest)) (sym left)
-          (missing_products-same test ps before more others emptied_before),
+      subst (λ (rest : List Product). AllByRecursion OccursNever (missing_products test ps rest)) (sym left)
+          (missing_products-same test ps before more others occurs_never_before),
     )
 
--- the sizes of two sums add up; scaling a sum keeps its size
+-- the size of two sums joined is the sum of their sizes; and scaling a sum keeps its size
 factor_total-append : (ps qs : List Product) → factor_total (ps ++ qs) ≡ factor_total ps + factor_total qs
 factor_total-append [] qs = omega arith
 factor_total-append (p ∷ ps) qs = omega (arith, factor_total-append ps qs)
@@ -157,13 +158,6 @@ factor_total-append (p ∷ ps) qs = omega (arith, factor_total-append ps qs)
 factor_total-scaled : (n : ℕ) (ps : List Product) → factor_total (scaled n ps) ≡ factor_total ps
 factor_total-scaled n [] = refl
 factor_total-scaled n (p ∷ ps) = omega (arith, factor_total-scaled n ps)
-
--- a sum taken once is the sum
-scaled-once : (ps : List Product) → scaled 1 ps ≡ ps
-scaled-once [] = refl
-scaled-once (p ∷ ps) =
-    let same : 1 * p.times ≡ p.times = omega arith in
-    ap₂ (λ (n : ℕ) (rest : List Product). record { times = n; factors = p.factors } ∷ rest) same (scaled-once ps)
 
 module _ (is_safe : Term → Bool) where
   -- the factor fits itself
@@ -174,7 +168,7 @@ module _ (is_safe : Term → Bool) where
   abbrev FactorsFitThemselves : Product → Type 0
   FactorsFitThemselves p = AllByRecursion FitsItself p.factors
 
-  -- factors that fit themselves take the same ones
+  -- factors that fit themselves are equal to themselves, by the test
   factors_equal-same : (fs : List Signed) → AllByRecursion FitsItself fs → factors_equal is_safe fs fs ≡ true
   factors_equal-same [] h = refl
   factors_equal-same (f ∷ fs) (first, others) =
@@ -185,18 +179,18 @@ module _ (is_safe : Term → Bool) where
       option_of : Bool → Option (List Signed)
       option_of t = option_map (λ rest. f ∷ rest) (without_first (is_equal is_safe f) fs)
 
-  -- the test passes for all products whose factors fit themselves
+  -- the test of equal factors passes for all products whose factors fit themselves
   products-pass : (ps : List Product) → AllByRecursion FactorsFitThemselves ps
       → AllByRecursion (PassesWithItself (factors_equal is_safe)) ps
   products-pass [] h = tt
   products-pass (p ∷ ps) (first, others) = (factors_equal-same p.factors first, products-pass ps others)
 
-  -- products of which nothing is missing are dominated
-  dominated-emptied : (ps qs : List Product) → AllByRecursion IsEmptied ps → dominated is_safe ps qs ≡ true
-  dominated-emptied [] qs h = refl
-  dominated-emptied (p ∷ ps) qs (first, others) =
+  -- products that occur 0 times are dominated by any products
+  dominated-occurs_never : (ps qs : List Product) → AllByRecursion OccursNever ps → dominated is_safe ps qs ≡ true
+  dominated-occurs_never [] qs h = refl
+  dominated-occurs_never (p ∷ ps) qs (first, others) =
       ap (λ (o : Option (List Product)). elim o [ None ↦ false | Some rest ↦ dominated is_safe ps rest ]) found
-      ∙ dominated-emptied ps (used_up (factors_fit is_safe) p.times p.factors qs) others
+      ∙ dominated-occurs_never ps (used_up (factors_fit is_safe) p.times p.factors qs) others
     where
       nothing : missing_times (factors_fit is_safe) p.times p.factors qs ≡ 0
       nothing =
@@ -208,8 +202,8 @@ module _ (is_safe : Term → Bool) where
           ap (λ (n : ℕ). if n == 0 then Some (used_up (factors_fit is_safe) p.times p.factors qs)
           else used_whole is_safe p qs) nothing
 
-  -- a sum is covered by one that holds all its products
-  covers-same : (ps zs more : List Product) → AllByRecursion FactorsFitThemselves ps → AllByRecursion IsEmptied zs
+  -- a sum is covered by one that has all its products
+  covers-same : (ps zs more : List Product) → AllByRecursion FactorsFitThemselves ps → AllByRecursion OccursNever zs
       → factor_total ps * factor_total (zs ++ (ps ++ more)) ≤ comparison_limit
       → covers is_safe ps (zs ++ (ps ++ more)) ≡ true
   covers-same ps zs more h k size =
@@ -217,7 +211,7 @@ module _ (is_safe : Term → Bool) where
       let missing = missing_products (factors_equal is_safe) ps qs in
       and_from (is_comparable ps qs) (dominated is_safe missing (all_used_up (factors_equal is_safe) ps qs))
       (le-leb (factor_total ps * factor_total qs) comparison_limit size)
-      (dominated-emptied missing (all_used_up (factors_equal is_safe) ps qs)
+      (dominated-occurs_never missing (all_used_up (factors_equal is_safe) ps qs)
       (missing_products-same (factors_equal is_safe) ps zs more (products-pass ps h) k))
 
   -- the factors of multiplied products fit themselves
@@ -268,39 +262,19 @@ module _ (is_safe : Term → Bool) where
         multiplied_by_parts-fit bs (multiplied ps (products_of b)) both.1
         (multiplied-fit ps (products_of b) k (products_of-fit b both.0))
 
-  -- a bound is within itself
-  within-itself : (b : Signed) → IsComparedWithItself is_safe b → within is_safe 1 b b ≡ true
-  within-itself b h =
-      and_from (is_multipliable 1 b && is_multipliable 1 b)
-      (is_covered_rounded is_safe 1 ps ps || is_covered_by_some is_safe 1 ps ps)
-      (and_from (is_multipliable 1 b) (is_multipliable 1 b) h.multiplied h.multiplied)
-      (or_left (is_covered_rounded is_safe 1 ps ps) (is_covered_by_some is_safe 1 ps ps) covered)
-    where
-      ps : List Product
-      ps = products_of b
+  -- a bound that fits itself is within itself
+  within-itself : (b : Signed) → fits is_safe b b ≡ true → within is_safe 1 b b ≡ true
+  within-itself b h = or_left (fits is_safe b b) (is_covered is_safe 1 b b) h
 
-      listed : number 0 ∷ scaled 1 ps ≡ (number 0 ∷ []) ++ (ps ++ [])
-      listed = ap (λ (qs : List Product). number 0 ∷ qs) (scaled-once ps ∙ sym (append-nil ps))
-
-      size : factor_total ps * factor_total ((number 0 ∷ []) ++ (ps ++ [])) ≤ comparison_limit
-      size =
-          let total : factor_total ((number 0 ∷ []) ++ (ps ++ [])) ≡ 1 + factor_total ps =
-          omega (arith, factor_total-append ps []) in
-          omega (arith, h.size, ap (λ (n : ℕ). factor_total ps * n) total)
-
-      covered : is_covered_rounded is_safe 1 ps ps ≡ true
-      covered =
-          ap (λ (qs : List Product). covers is_safe ps qs) listed
-          ∙ covers-same ps (number 0 ∷ []) [] (products_of-fit b h.fits_itself) (refl, tt) size
-
-  -- a bound, with the divisor den, is within its quotient by den
+  -- with the divisor den, a bound is within its quotient by den
   within-quotient : (den : ℕ) (b : Signed) → IsComparedWithItself is_safe b
       → is_multipliable den (Quotient b den) ≡ true → within is_safe den b (Quotient b den) ≡ true
   within-quotient den b h limited =
-      and_from (is_multipliable 1 b && is_multipliable den (Quotient b den))
+      or_right ((den == 1) && fits is_safe b (Quotient b den)) (is_covered is_safe den b (Quotient b den))
+      (and_from (is_multipliable 1 b && is_multipliable den (Quotient b den))
       (is_covered_rounded is_safe den ps qs || is_covered_by_some is_safe den ps qs)
       (and_from (is_multipliable 1 b) (is_multipliable den (Quotient b den)) h.multiplied limited)
-      (or_right (is_covered_rounded is_safe den ps qs) (is_covered_by_some is_safe den ps qs) some)
+      (or_right (is_covered_rounded is_safe den ps qs) (is_covered_by_some is_safe den ps qs) some))
     where
       ps : List Product
       ps = products_of b

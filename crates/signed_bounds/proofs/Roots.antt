@@ -14,7 +14,7 @@ root_up_to-square (suc m) n =
     (λ e. root_up_to-square m n)
     (λ e. ltb-false n (suc m * suc m) e)
 
--- the square of the next number is greater, where that of the number behind the last one tried is
+-- the square of the next number after the root is greater than n, if that of the number after the last one tried is
 pub root_up_to-next : (m n : ℕ) → n < suc m * suc m → n < suc (root_up_to m n) * suc (root_up_to m n)
 root_up_to-next zero n h = h
 root_up_to-next (suc m) n h =
@@ -26,7 +26,7 @@ root_up_to-next (suc m) n h =
 pub whole_root-square : (n : ℕ) → whole_root n * whole_root n ≤ n
 whole_root-square n = root_up_to-square n n
 
--- the square of the number behind the whole root of n is greater than n
+-- the square of the next number after the whole root of n is greater than n
 pub whole_root-next : (n : ℕ) → n < suc (whole_root n) * suc (whole_root n)
 whole_root-next n = root_up_to-next n n (omega arith)
 
@@ -44,7 +44,7 @@ whole_root-grows m n h =
     let low : whole_root m * whole_root m ≤ n = omega (arith, whole_root-square m) in
     root_at_most (whole_root m) (whole_root n) n low (whole_root-next n)
 
--- the whole root is the only number whose square is at most n, while the next square is greater
+-- the whole root of n is the only number whose square is at most n while the next square is greater
 pub whole_root-unique : (r n : ℕ) → r * r ≤ n → n < suc r * suc r → r ≡ whole_root n
 whole_root-unique r n low high =
     let up = root_at_most r (whole_root n) n low (whole_root-next n) in

@@ -24,7 +24,7 @@ square : (z : ℤ) → pos 0 ≤ℤ (z *ℤ z)
 square (pos n) = omega (arith, ints)
 square (negsuc n) = omega (arith, ints)
 
--- paired variables have a product of at least 0
+-- the product of paired variables is at least 0
 paired : (vs : List ℕ) → are_paired vs ≡ true → (env : List ℤ) → pos 0 ≤ℤ product_value vs env
 paired [] e env = omega (arith, ints)
 paired (v ∷ []) e env = contradiction e
@@ -53,7 +53,7 @@ sum_of_squares (m ∷ ms) e env =
     sum : (y z : ℤ) → pos 0 ≤ℤ y → pos 0 ≤ℤ z → pos 0 ≤ℤ (y +ℤ z)
     sum y z h k = omega (arith, ints)
 
--- the law
+-- the test `expands_to_squares` is safe: it accepts only expressions that are never negative
 pub squares_are_safe : SquaresAreSafe
 squares_are_safe = record { safe = record { each = λ t e env. go t (first_fault t) e env } }
   where

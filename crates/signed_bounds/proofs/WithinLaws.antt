@@ -1,4 +1,4 @@
--- A number that is at most a bound, den times, is at most each bound that the comparison accepts.
+-- Soundness of the comparison: if n * den is at most a bound, n is at most each bound that the comparison accepts.
 use Rattle.std.proofs.Common.{◌≡◌, ℕ, suc, ◌+◌, ◌-◌, ◌*◌, ◌/◌, ◌<◌, ◌≤◌, ◌⊎◌, inl, inr, Bool, true, false, List, []}
 use Rattle.std.proofs.Common.{◌∷◌, ◌++◌, Option, Some, None, refl, ap, ap₂, arith}
 use Rattle.std.specs.Prelude.{ℤ, ◌==◌, nat_le, ◌&&◌, ◌||◌, if◌then◌else◌}
@@ -13,12 +13,15 @@ use Rattle.signed_bounds.specs.Products.{Product, factors_val, products_val, num
 use Rattle.signed_bounds.specs.Covers.{covers}
 use Rattle.signed_bounds.specs.Within.{numerator, once_less, is_covered_with_numerator, is_covered_by_quotient}
 use Rattle.signed_bounds.specs.Limits.{quotient_limit}
-use Rattle.signed_bounds.specs.Within.{is_covered_rounded, quotient_count, is_covered_by_some, within, WithinHolds}
+use Rattle.signed_bounds.specs.Within.{is_covered_rounded, quotient_count, is_covered_by_some, is_covered, within}
+use Rattle.signed_bounds.specs.Within.{WithinHolds}
+use Rattle.signed_bounds.specs.Fits.{fits}
 use Rattle.signed_bounds.proofs.Choices.{contradiction, none_is_no_value}
 use Rattle.signed_bounds.proofs.ProductValues.{products_val-append, products_val-scaled, products_of-value}
+use Rattle.signed_bounds.proofs.FitLaws.{fits-le}
 use Rattle.signed_bounds.proofs.CoverLaws.{covers-le}
 
--- n is at most b where den times n is at most den times b and den - 1
+-- if n * den is at most den times b and den - 1, n is at most b
 rounded : (den n b : ℕ) → 1 ≤ den → den * n ≤ (den - 1) + den * b → n ≤ b
 rounded den n b positive h = go (cases_lt b n)
   where
@@ -26,7 +29,7 @@ rounded den n b positive h = go (cases_lt b n)
     go (inl above) = let k : den * suc b ≤ den * n = mul-le-mul_left den above in absurd (omega arith)
     go (inr below) = below
 
--- n is at most a/den + b where den times n is at most a + den * b
+-- if n * den is at most a + den * b, n is at most a/den + b
 divided : (den n a b : ℕ) → 1 ≤ den → den * n ≤ a + den * b → n ≤ a / den + b
 divided den n a b positive h = go (cases_lt b n)
   where
@@ -58,7 +61,7 @@ numerator-is den n (Quotient c d ∷ []) b e = go (nat_le 1 n && (d == den)) ref
 numerator-is den n _ b e = none_is_no_value e
 
 module _ (is_safe : Term → Bool) (safe : IsSafe is_safe) where
-  -- so is a number that is covered with a numerator
+  -- if a sum is covered with a numerator, n is at most the second sum
   covered_with_numerator-le : (den : ℕ) (ps before qs : List Product) (q : Product) → 1 ≤ den
       → is_covered_with_numerator is_safe den ps (numerator den q.times q.factors) (before ++ once_less q ∷ qs) ≡ true
       → (x : List ℤ) (n : ℕ) → den * n ≤ products_val ps x → n ≤ products_val (before ++ q ∷ qs) x
@@ -82,7 +85,7 @@ module _ (is_safe : Term → Bool) (safe : IsSafe is_safe) where
           let times : q.times ≡ 1 + (q.times - 1) = omega (arith, is.0) in
           omega (arith, is.1 x, ap (λ (v : ℕ). v * factors_val q.factors x) times)
 
-  -- so is one that is covered by a quotient
+  -- if a sum is covered by a quotient, n is at most the second sum
   covered_by_quotient-le : (den : ℕ) (ps before qs : List Product) → 1 ≤ den
       → is_covered_by_quotient is_safe den ps before qs ≡ true
       → (x : List ℤ) (n : ℕ) → den * n ≤ products_val ps x → n ≤ products_val (before ++ qs) x
@@ -108,10 +111,10 @@ module _ (is_safe : Term → Bool) (safe : IsSafe is_safe) where
             products_val-append before (q ∷ qs) x,
           )
 
-  -- so is each that is within a bound
-  pub within-le : (den : ℕ) (a b : Signed) → 1 ≤ den → within is_safe den a b ≡ true → (x : List ℤ) (n : ℕ)
+  -- if a bound is covered by another by a comparison of products, n is at most the other
+  covered-le : (den : ℕ) (a b : Signed) → 1 ≤ den → is_covered is_safe den a b ≡ true → (x : List ℤ) (n : ℕ)
       → den * n ≤ signed_val a x → n ≤ signed_val b x
-  within-le den a b positive e x n h =
+  covered-le den a b positive e x n h =
       let limited = is_multipliable 1 a && is_multipliable den b in
       let direct = is_covered_rounded is_safe den (products_of a) (products_of b) in
       let quotient = is_covered_by_some is_safe den (products_of a) (products_of b) in
@@ -139,6 +142,21 @@ module _ (is_safe : Term → Bool) (safe : IsSafe is_safe) where
             products_of-value b x,
           )
 
--- the law
+  -- if a bound is within another, n is at most the other
+  pub within-le : (den : ℕ) (a b : Signed) → 1 ≤ den → within is_safe den a b ≡ true → (x : List ℤ) (n : ℕ)
+      → den * n ≤ signed_val a x → n ≤ signed_val b x
+  within-le den a b positive e x n h =
+      go (or_cases ((den == 1) && fits is_safe a b) (is_covered is_safe den a b) e)
+    where
+      go : (((den == 1) && fits is_safe a b) ≡ true) ⊎ (is_covered is_safe den a b ≡ true) → n ≤ signed_val b x
+      go (inl k) =
+          let both = and_parts (den == 1) (fits is_safe a b) k in
+          let once : den ≡ 1 = eqb-true den 1 both.0 in
+          let low = fits-le is_safe safe a b both.1 x in
+          let times : den * n ≡ 1 * n = ap (λ (v : ℕ). v * n) once in
+          omega (arith)
+      go (inr k) = covered-le den a b positive k x n h
+
+-- the comparison is sound
 pub within_holds : WithinHolds
 within_holds = record { each = λ is_safe safe den a b positive e x n h. within-le is_safe safe den a b positive e x n h }

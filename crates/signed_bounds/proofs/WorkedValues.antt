@@ -1,10 +1,10 @@
--- The worked values, each by computing.
+-- The worked values hold, each by computing.
 use Rattle.std.proofs.Common.{refl}
 use Rattle.signed_bounds.specs.Worked.{BoundsHaveTheirValues, InputsAreAbsoluteValues, MeasuresAreWorkedOut, SquaresAreFound}
 use Rattle.signed_bounds.specs.Worked.{ProductsAreMultipliedOut, ConstantPartsAreNumbers, SumsAreCompared}
 use Rattle.signed_bounds.specs.Worked.{QuotientsAreCompared, ShapesAreCompared, LimitsOfComparisons}
 
--- values of bounds
+-- the worked values of bounds hold
 pub values : BoundsHaveTheirValues
 values = record {
   above = refl;
@@ -30,14 +30,14 @@ values = record {
   empty_maximum = refl;
 }
 
--- absolute values
+-- the worked values of absolute values hold
 pub inputs : InputsAreAbsoluteValues
 inputs = record {
   negative_first = refl;
   negative_second = refl;
 }
 
--- nodes, levels and constants
+-- the worked measures hold
 pub measures : MeasuresAreWorkedOut
 measures = record {
   polynomial = refl;
@@ -55,7 +55,7 @@ measures = record {
   large = refl;
 }
 
--- sums of squares
+-- the worked values of sums of squares hold
 pub squares : SquaresAreFound
 squares = record {
   nothing = refl;
@@ -70,19 +70,21 @@ squares = record {
   high_degree = refl;
 }
 
--- products
+-- the worked values of multiplying out hold
 pub products : ProductsAreMultipliedOut
 products = record {
   outcome = refl;
   most_products = refl;
   more_products = refl;
+  most_nodes = refl;
+  more_nodes = refl;
   largest = refl;
   too_large = refl;
   times_zero = refl;
   twice = refl;
 }
 
--- positive parts of constants
+-- the worked values of positive parts of constants hold
 pub constant_parts : ConstantPartsAreNumbers
 constant_parts = record {
   three = refl;
@@ -103,7 +105,7 @@ constant_parts = record {
   above = refl;
 }
 
--- sums that are compared
+-- the worked comparisons of sums hold
 pub sums : SumsAreCompared
 sums = record {
   order = refl;
@@ -124,9 +126,10 @@ sums = record {
   used_whole = refl;
   largest = refl;
   past_limit = refl;
+  past_limit_itself = refl;
 }
 
--- quotients that are compared
+-- the worked comparisons of quotients hold
 pub quotients : QuotientsAreCompared
 quotients = record {
   five = refl;
@@ -144,7 +147,7 @@ quotients = record {
   second_quotient = refl;
 }
 
--- shapes that are compared
+-- the worked comparisons by shape hold
 pub shapes : ShapesAreCompared
 shapes = record {
   part = refl;
@@ -170,7 +173,7 @@ shapes = record {
   more_parts = refl;
 }
 
--- what is too large to be compared
+-- the worked limits of comparisons hold
 pub limits : LimitsOfComparisons
 limits = record {
   size = refl;
@@ -181,6 +184,10 @@ limits = record {
   heavy_multiplied = refl;
   heavy_size = refl;
   heavy_refused = refl;
+  heavy_fits = refl;
+  wide_in_limits = refl;
+  wide_products = refl;
+  wide_refused = refl;
   sixteen = refl;
   seventeen = refl;
 }

@@ -2,7 +2,7 @@
 use Rattle.std.specs.Prelude.{ℕ, zero, suc, ◌+◌, ◌*◌, ◌/◌, ◌^◌, max, min, nat_lt, if◌then◌else◌, List, ℤ, pos, negsuc}
 use Rattle.poly_terms.specs.model.Polynomials.{Polynomial, polynomial_value}
 
--- a bound over the start values, and the list of a bound's parts
+-- a signed bound over the start values, and a list of parts
 mutual
   pub data Signed : Type 0 where
     Constant : ℕ → Signed

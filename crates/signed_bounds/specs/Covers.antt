@@ -7,7 +7,7 @@ use Rattle.signed_bounds.specs.Bounds.{Signed, Constant, PositivePart, SignedPar
 use Rattle.signed_bounds.specs.Products.{Product, is_comparable}
 use Rattle.signed_bounds.specs.Fits.{is_equal, factor_fits, maximum_parts, weighted_difference}
 
--- the factors without the first one that passes a test; none where none passes
+-- the factors without the first one that passes a test; none if no factor passes
 abbrev pub without_first : (Signed → Bool) → List Signed → Option (List Signed)
 without_first test [] = None
 without_first test (b ∷ bs) = if test b then Some bs else option_map (λ rest. b ∷ rest) (without_first test bs)
@@ -21,7 +21,7 @@ or_else (Some first) second = Some first
 abbrev pub without_equal : (Term → Bool) → Signed → List Signed → Option (List Signed)
 without_equal is_safe a bs = without_first (is_equal is_safe a) bs
 
--- the factors without one that the bound fits, an equal one where there is one
+-- the factors without the first one that is equal to the bound, or else without the first one that the bound fits
 abbrev pub without_fitting : (Term → Bool) → Signed → List Signed → Option (List Signed)
 without_fitting is_safe a bs = or_else (without_equal is_safe a bs) (without_first (factor_fits is_safe a) bs)
 
@@ -30,7 +30,7 @@ abbrev pub is_empty : List Signed → Bool
 is_empty [] = true
 is_empty (b ∷ bs) = false
 
--- whether each of the first factors takes one of the second, in turn, and none of these is left
+-- whether each of the first factors takes one of the second, in turn, and none of the second is left over
 abbrev pub are_matched : (Signed → List Signed → Option (List Signed)) → List Signed → List Signed → Bool
 are_matched without [] gs = is_empty gs
 are_matched without (f ∷ fs) gs = elim (without f gs) [ None ↦ false | Some rest ↦ are_matched without fs rest ]
@@ -39,31 +39,33 @@ are_matched without (f ∷ fs) gs = elim (without f gs) [ None ↦ false | Some 
 abbrev pub factors_equal : (Term → Bool) → List Signed → List Signed → Bool
 factors_equal is_safe fs gs = are_matched (without_equal is_safe) fs gs
 
--- whether each factor of the first list fits another one of the second, and none of these is left
+-- whether each factor of the first list fits another one of the second, and none of the second is left over
 abbrev pub factors_fit : (Term → Bool) → List Signed → List Signed → Bool
 factors_fit is_safe fs gs = are_matched (without_fitting is_safe) fs gs
 
--- of n times the factors, how often they aren't taken from the products whose factors pass the test
+-- the number of times, of n, that these factors are missing after they were taken from the products whose factors pass
+-- the test
 abbrev pub missing_times : (List Signed → List Signed → Bool) → ℕ → List Signed → List Product → ℕ
 missing_times test n fs [] = n
 missing_times test n fs (q ∷ qs) =
     missing_times test (if test fs q.factors then n - q.times else n) fs qs
 
--- the products once n times the factors are taken from those whose factors pass the test, from the first one on
+-- the products that are left after n times these factors were taken from those whose factors pass the test, the first
+-- ones first
 abbrev pub used_up : (List Signed → List Signed → Bool) → ℕ → List Signed → List Product → List Product
 used_up test n fs [] = []
 used_up test n fs (q ∷ qs) =
     record { times = if test fs q.factors then q.times - n else q.times; factors = q.factors }
     ∷ used_up test (if test fs q.factors then n - q.times else n) fs qs
 
--- the products that aren't found in the second list, each as often as it is missing there
+-- the products of the first list with the number of times that each is missing in the second
 abbrev pub missing_products : (List Signed → List Signed → Bool) → List Product → List Product → List Product
 missing_products test [] qs = []
 missing_products test (p ∷ ps) qs =
     record { times = missing_times test p.times p.factors qs; factors = p.factors }
     ∷ missing_products test ps (used_up test p.times p.factors qs)
 
--- the second list once all products of the first are taken from it
+-- the products of the second list that are left after all products of the first were taken from it
 abbrev pub all_used_up : (List Signed → List Signed → Bool) → List Product → List Product → List Product
 all_used_up test [] qs = qs
 all_used_up test (p ∷ ps) qs = all_used_up test ps (used_up test p.times p.factors qs)
@@ -78,13 +80,13 @@ is_below_constant n m (Part b bs) = is_below_constant n m bs
 abbrev pub one_polynomial : Polynomial
 one_polynomial = record { coef = pos 1; vars = [] } ∷ []
 
--- the polynomial whose positive part the product of the factors is, where they are none or one
+-- the polynomial whose positive part is the product of the factors: 1 if there are none, or that of the only factor
 abbrev pub whole_polynomial : List Signed → Option Polynomial
 whole_polynomial [] = Some one_polynomial
 whole_polynomial (PositivePart p ∷ []) = Some p
 whole_polynomial _ = None
 
--- whether n times the first polynomial is at most m times the second, where both are there
+-- whether n times the first polynomial is at most m times the second, if there are both
 abbrev pub fits_polynomial : (Term → Bool) → ℕ → Option Polynomial → ℕ → Option Polynomial → Bool
 fits_polynomial is_safe n (Some f) m (Some h) = is_safe (weighted_difference n f m h)
 fits_polynomial is_safe n _ m _ = false
@@ -100,34 +102,35 @@ abbrev pub fits_whole : (Term → Bool) → ℕ → List Signed → ℕ → List
 fits_whole is_safe n fs m gs =
     fits_polynomial is_safe n (whole_polynomial fs) m (whole_polynomial gs) || fits_maximum n fs m gs
 
--- a product that is used up
-abbrev pub emptied : Product → Product
-emptied q = record { times = 0; factors = q.factors }
+-- the product, taken 0 times
+abbrev pub occurs_never : Product → Product
+occurs_never q = record { times = 0; factors = q.factors }
 
--- the products once the first one that as a whole is at least the product is used up; none where no one is
+-- the products with the first one taken 0 times that as a whole is at least the product; none if there is no such
+-- product
 abbrev pub used_whole : (Term → Bool) → Product → List Product → Option (List Product)
 used_whole is_safe p [] = None
 used_whole is_safe p (q ∷ qs) =
     if fits_whole is_safe p.times p.factors q.times q.factors
-    then Some (emptied q ∷ qs)
+    then Some (occurs_never q ∷ qs)
     else option_map (λ rest. q ∷ rest) (used_whole is_safe p qs)
 
--- the products once the product is taken from those that it fits, as often as it is taken, or else from one that as a
--- whole is at least it; none where neither is there
+-- the products that are left after the product was taken from those that it fits, as often as it occurs, or else from
+-- one that as a whole is at least it; none if neither is possible
 abbrev pub without_product : (Term → Bool) → Product → List Product → Option (List Product)
 without_product is_safe p qs =
     if missing_times (factors_fit is_safe) p.times p.factors qs == 0
     then Some (used_up (factors_fit is_safe) p.times p.factors qs)
     else used_whole is_safe p qs
 
--- whether each product of the first list, in turn, is found in the second and used up there
+-- whether each product of the first list, in turn, can be taken from those left of the second
 abbrev pub dominated : (Term → Bool) → List Product → List Product → Bool
 dominated is_safe [] qs = true
 dominated is_safe (p ∷ ps) qs =
     elim (without_product is_safe p qs) [ None ↦ false | Some rest ↦ dominated is_safe ps rest ]
 
--- whether the first sum is at most the second, product by product: equal products are used up first, and what is left
--- is dominated; sums that are too large together aren't compared
+-- whether the first sum is at most the second, product by product: equal products are taken first, and the products
+-- left of the first are then taken from those left of the second; sums that are too large together aren't compared
 abbrev pub covers : (Term → Bool) → List Product → List Product → Bool
 covers is_safe ps qs =
     is_comparable ps qs && dominated is_safe

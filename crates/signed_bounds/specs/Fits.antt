@@ -25,9 +25,9 @@ weighted_difference n f m h = Subtraction
 abbrev pub is_below : (Term → Bool) → Polynomial → Polynomial → Bool
 is_below is_safe f h = is_safe (Subtraction (polynomial_term h) (polynomial_term f))
 
--- whether the first bound is at most the second by its shape: both have the same nodes but for the numbers, which are
--- at most those of the second, and the polynomials, where the difference is never negative; divisors are the same, and
--- bases are at least 1
+-- whether the first bound is at most the second by its shape: both have the same nodes, except that the numbers are at
+-- most those of the second, and the differences of polynomials are never negative; divisors are the same, and bases are
+-- at least 1
 abbrev mutual
   pub fits : (Term → Bool) → Signed → Signed → Bool
   fits is_safe (Constant m) (Constant n) = nat_le m n
@@ -60,7 +60,7 @@ abbrev pub maximum_parts : Signed → SignedParts
 maximum_parts (MaximumOf bs) = bs
 maximum_parts _ = NoParts
 
--- whether the bound fits the factor, or one of its parts where it is a maximum
+-- whether the bound fits the factor, or one of its parts if it is a maximum
 abbrev pub factor_fits : (Term → Bool) → Signed → Signed → Bool
 factor_fits is_safe a b = fits is_safe a b || fits_some is_safe a (maximum_parts b)
 

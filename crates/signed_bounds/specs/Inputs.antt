@@ -17,7 +17,7 @@ absolute_value i = MaximumOf
     (Part (PositivePart (multiple_of_variable (pos 1) i))
     (Part (PositivePart (multiple_of_variable (negsuc 0) i)) NoParts))
 
--- a bound over the absolute values of the start arguments as one over the start arguments
+-- a bound over the absolute values of the start arguments as a signed bound
 abbrev mutual
   pub signed_of_bound : plain.Bound → Signed
   signed_of_bound (plain.Constant c) = Constant c

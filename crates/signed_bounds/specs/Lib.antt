@@ -11,7 +11,7 @@ pub mod Fits
 pub mod Covers
 pub mod Within
 pub mod Reflexive
--- values that were worked out by hand
+-- worked values
 pub mod Worked
 -- the crates below, which callers name through this one
 pub use Rattle.poly_terms.specs as poly_terms

@@ -17,6 +17,10 @@ depth_limit = 200
 abbrev pub product_limit : ℕ
 product_limit = 4096
 
+-- the maximum of the number of products that a comparison multiplies a bound out into, times the number of its nodes
+abbrev pub expansion_limit : ℕ
+expansion_limit = 262144
+
 -- the maximum of the sizes of two sums of products, multiplied, that are compared
 abbrev pub comparison_limit : ℕ
 comparison_limit = 131072

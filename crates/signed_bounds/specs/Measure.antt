@@ -1,4 +1,4 @@
--- How large a signed bound is.
+-- The size of a signed bound.
 use Rattle.std.specs.Prelude.{ℕ, ◌+◌, max, nat_lt, ◌||◌, Bool, false, [], ◌∷◌, length}
 use Rattle.poly_terms.specs.model.Polynomials.{Polynomial}
 use Rattle.signed_bounds.specs.Bounds.{Signed, Constant, PositivePart, SumOf, ProductOf, MaximumOf, MinimumOf, Quotient}

@@ -4,7 +4,7 @@ use Rattle.std.specs.Prelude.{Option, Some, None}
 use Rattle.poly_terms.specs.model.Polynomials.{Polynomial}
 use Rattle.signed_bounds.specs.Bounds.{Signed, Constant, PositivePart, SumOf, ProductOf, MaximumOf, MinimumOf, Quotient}
 use Rattle.signed_bounds.specs.Bounds.{Root, PowerOf, SignedParts, NoParts, Part, signed_val, positive_part}
-use Rattle.signed_bounds.specs.Limits.{constant_limit, product_limit, comparison_limit}
+use Rattle.signed_bounds.specs.Limits.{constant_limit, product_limit, expansion_limit, comparison_limit}
 use Rattle.signed_bounds.specs.Measure.{node_count}
 
 -- a product of bounds, taken a number of times
@@ -40,13 +40,14 @@ abbrev pub constant_part_of : ℤ → List ℕ → Option ℕ
 constant_part_of z [] = Some (positive_part z)
 constant_part_of z (v ∷ vs) = None
 
--- the positive part of a polynomial that is written as a number: without monomials, or with one that has no variables
+-- the positive part of a polynomial as a number, if it is written as one: without monomials, or with a single one that
+-- has no variables
 abbrev pub constant_part : Polynomial → Option ℕ
 constant_part [] = Some 0
 constant_part (m ∷ []) = constant_part_of m.coef m.vars
 constant_part (m ∷ n ∷ ms) = None
 
--- the positive part of a polynomial as a product: a number where the polynomial is written as one, else a factor
+-- the positive part of a polynomial as a product: a number if the polynomial is written as one, else a factor
 abbrev pub part_or_number : Polynomial → Option ℕ → Product
 part_or_number p None = factor (PositivePart p)
 part_or_number p (Some n) = number n
@@ -91,7 +92,7 @@ abbrev mutual
   multiplied_by_parts NoParts ps = ps
   multiplied_by_parts (Part b bs) ps = multiplied_by_parts bs (multiplied ps (products_of b))
 
--- the number of products that a bound is multiplied out into, where an empty sum counts as one
+-- the number of products that a bound is multiplied out into; an empty sum counts as one
 abbrev mutual
   pub product_count : Signed → ℕ
   product_count (Constant c) = 1
@@ -112,12 +113,12 @@ abbrev mutual
   product_count_of_product NoParts = 1
   product_count_of_product (Part b bs) = product_count b * product_count_of_product bs
 
--- a number, where 0 and no number count as 1
+-- a number; 0, or no number, counts as 1
 abbrev pub at_least_1 : Option ℕ → ℕ
 at_least_1 None = 1
 at_least_1 (Some n) = max 1 n
 
--- the sum of the numbers of those products, where the number 0 and an empty sum count as 1
+-- the sum of the numbers of these products; the number 0, and an empty sum, count as 1
 abbrev mutual
   pub number_sum : Signed → ℕ
   number_sum (Constant c) = max 1 c
@@ -138,10 +139,16 @@ abbrev mutual
   number_sum_of_product NoParts = 1
   number_sum_of_product (Part b bs) = number_sum b * number_sum_of_product bs
 
--- whether a bound is multiplied out within the limits: into at most 4,096 products, and with numbers that are at most
--- 2^127 - 1 also n times
+-- whether a bound is multiplied out into few products: at most 4,096, and their number times the number of the bound's
+-- nodes is at most 262,144
+abbrev pub is_expandable : Signed → Bool
+is_expandable b =
+    nat_le (product_count b) product_limit && nat_le (product_count b * node_count b) expansion_limit
+
+-- whether a bound is multiplied out within the limits: into few products, and with numbers that, times n, are at most
+-- 2^127 - 1
 abbrev pub is_multipliable : ℕ → Signed → Bool
-is_multipliable n b = nat_le (product_count b) product_limit && nat_le (n * number_sum b) constant_limit
+is_multipliable n b = is_expandable b && nat_le (n * number_sum b) constant_limit
 
 -- the number of nodes of all factors
 abbrev pub factor_nodes : List Signed → ℕ

@@ -5,7 +5,7 @@ use Rattle.poly_terms.specs.model.Polynomials.{Monomial, Polynomial}
 use Rattle.poly_terms.specs.Expanding.{expanded}
 use Rattle.poly_terms.specs.Faults.{Fault, first_fault}
 
--- a test says yes only to expressions that have a value of at least 0 everywhere
+-- the test accepts only expressions whose value is at least 0 everywhere
 pub record IsSafe (is_safe : Term → Bool) : Type 0 where
   pub each : (t : Term) → is_safe t ≡ true → (env : List ℤ) → pos 0 ≤ℤ value t env
 
@@ -29,7 +29,7 @@ abbrev pub is_sum_of_squares : Polynomial → Bool
 is_sum_of_squares [] = true
 is_sum_of_squares (m ∷ ms) = is_square_multiple m && is_sum_of_squares ms
 
--- whether the polynomial is a sum of squares, where no fault stands in the way of expanding
+-- whether the polynomial is a sum of squares, and there is no fault of expanding
 abbrev pub is_expanded_safe : Option Fault → Polynomial → Bool
 is_expanded_safe None p = is_sum_of_squares p
 is_expanded_safe (Some f) p = false

@@ -31,10 +31,10 @@ signed_step (Quotient b d) = plain.Quotient b.value d
 signed_step (Root b) = plain.Root b.value
 signed_step (Power c e) = PowerOf c e.value
 
--- the expression that a bound is
+-- the plain expression of a signed bound of the code
 abbrev pub signed_of : Signed → plain.Signed
 signed_of = fold-Signed plain.Signed signed_step
 
--- the expressions that a list of bounds are
+-- the plain expressions of a list of signed bounds
 abbrev pub signeds_of : List Signed → List plain.Signed
 signeds_of bs = map signed_of bs

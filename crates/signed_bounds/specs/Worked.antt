@@ -1,4 +1,4 @@
--- Values of the definitions that were worked out by hand.
+-- Worked values of the definitions.
 use Rattle.std.specs.Prelude.{◌≡◌, ℕ, zero, suc, ◌+◌, ◌*◌, ◌^◌, Bool, true, false, List, [], ◌∷◌, ℤ, pos, negsuc}
 use Rattle.poly_terms.specs.model.Bounds as plain
 use Rattle.poly_terms.specs.model.Polynomials.{Monomial, Polynomial}
@@ -9,10 +9,11 @@ use Rattle.signed_bounds.specs.Measure.{node_count, depth_of, is_large, exceeds_
 use Rattle.signed_bounds.specs.Inputs.{signed_of_bound}
 use Rattle.signed_bounds.specs.Safe.{expands_to_squares}
 use Rattle.signed_bounds.specs.Limits.{constant_limit}
-use Rattle.signed_bounds.specs.Products.{number, products_of, is_multipliable, factor_total, is_comparable}
+use Rattle.signed_bounds.specs.Products.{number, products_of, product_count, is_multipliable}
+use Rattle.signed_bounds.specs.Products.{factor_total, is_comparable}
 use Rattle.signed_bounds.specs.Within.{within}
 
--- a part alone, and two parts
+-- a list of one part, and a list of two parts
 abbrev pub one_part : Signed → SignedParts
 one_part a = Part a NoParts
 
@@ -46,7 +47,7 @@ x_less_5 = PositivePart (times (negsuc 4) [] ∷ times (pos 1) (0 ∷ []) ∷ []
 abbrev pub parabola : Signed
 parabola = PositivePart (times (negsuc 3) [] ∷ times (pos 3) (0 ∷ []) ∷ times (pos 1) (0 ∷ 0 ∷ []) ∷ [])
 
--- values: parts at 7, 3 and -3, quotients, roots, minima, maxima, and empty lists of parts
+-- values of parts at 7, 3 and -3, of quotients, roots, minima and maxima, and of empty lists of parts
 pub record BoundsHaveTheirValues : Type 0 where
   pub above : signed_val x_less_5 (pos 7 ∷ []) ≡ 2
   pub below : signed_val x_less_5 (pos 3 ∷ []) ≡ 0
@@ -78,19 +79,19 @@ pub record InputsAreAbsoluteValues : Type 0 where
   pub negative_first : signed_val (signed_of_bound exponential) (negsuc 2 ∷ pos 4 ∷ []) ≡ 48
   pub negative_second : signed_val (signed_of_bound exponential) (pos 3 ∷ negsuc 3 ∷ []) ≡ 48
 
--- so many copies of the constant 0
+-- n copies of the constant 0
 abbrev pub copies : ℕ → SignedParts
 copies zero = NoParts
 copies (suc n) = Part (Constant 0) (copies n)
 
--- 2^(2^(.. x)), with so many powers
+-- 2^(2^(.. x)), with n powers
 abbrev pub tower : ℕ → Signed
 tower zero = x
 tower (suc n) = PowerOf 2 (tower n)
 
--- nodes and levels, and the first bounds that are large
+-- the numbers of nodes and levels, and the first bounds that are large
 pub record MeasuresAreWorkedOut : Type 0 where
-  -- the parabola has three monomials with three factors, and is one node more
+  -- the parabola has three monomials with three factors, and is a node itself
   pub polynomial : node_count parabola ≡ 7
   pub polynomial_levels : depth_of parabola ≡ 1
   pub nodes : node_count (MinimumOf (Quotient x 2) (two_parts (Root y) (Constant 1))) ≡ 10
@@ -106,16 +107,16 @@ pub record MeasuresAreWorkedOut : Type 0 where
   pub large_divisor : exceeds_limits (PowerOf 2 (Quotient x (constant_limit + 1))) ≡ true
   pub large : exceeds_limits (SumOf (copies 4096)) ≡ true
 
--- which expressions expand to sums of squares
+-- worked values of which expressions expand to sums of squares
 pub record SquaresAreFound : Type 0 where
-  -- 0, 3, x*x + 2 and (x + y)*(x + y) - 2*x*y do
+  -- 0, 3, x*x + 2 and (x + y)*(x + y) - 2*x*y expand to sums of squares
   pub nothing : expands_to_squares (Literal (pos 0)) ≡ true
   pub constant : expands_to_squares (Literal (pos 3)) ≡ true
   pub square : expands_to_squares (Addition (Multiplication (Variable 0) (Variable 0)) (Literal (pos 2))) ≡ true
   pub cancelled : expands_to_squares (Subtraction
       (Exponentiation (Addition (Variable 0) (Variable 1)) 2)
       (Multiplication (Literal (pos 2)) (Multiplication (Variable 0) (Variable 1)))) ≡ true
-  -- -1, x, x*y, -(x*x) and x*x*x don't, nor does x^10, whose degree is too high
+  -- -1, x, x*y, -(x*x) and x*x*x don't expand to sums of squares, nor does x^10, whose degree is too high
   pub negative : expands_to_squares (Literal (negsuc 0)) ≡ false
   pub variable : expands_to_squares (Variable 0) ≡ false
   pub mixed : expands_to_squares (Multiplication (Variable 0) (Variable 1)) ≡ false
@@ -123,12 +124,12 @@ pub record SquaresAreFound : Type 0 where
   pub cube : expands_to_squares (Exponentiation (Variable 0) 3) ≡ false
   pub high_degree : expands_to_squares (Exponentiation (Variable 0) 10) ≡ false
 
--- so many factors [x] + 1
+-- n factors [x] + 1, where [p] is the positive part of p
 abbrev pub powers_of_sum : ℕ → SignedParts
 powers_of_sum zero = NoParts
 powers_of_sum (suc n) = Part (SumOf (two_parts x (Constant 1))) (powers_of_sum n)
 
--- what is multiplied out, and its limits
+-- worked values of multiplying out, and of its limits
 pub record ProductsAreMultipliedOut : Type 0 where
   -- ([x] + 2) * 3 is 3*[x] + 6
   pub outcome : products_of (ProductOf (two_parts (SumOf (two_parts x (Constant 2))) (Constant 3)))
@@ -136,14 +137,16 @@ pub record ProductsAreMultipliedOut : Type 0 where
   -- ([x] + 1)^12 has 4,096 products, ([x] + 1)^13 has more
   pub most_products : is_multipliable 1 (ProductOf (powers_of_sum 12)) ≡ true
   pub more_products : is_multipliable 1 (ProductOf (powers_of_sum 13)) ≡ false
-  -- 2^127 - 1 is a number, also in a product with 0, and the next number none
+  -- [x]*([x] + 1)^12 has 64 nodes, so its products times these are 262,144; with another factor 1 it has one node more
+  pub most_nodes : is_multipliable 1 (ProductOf (Part x (powers_of_sum 12))) ≡ true
+  pub more_nodes : is_multipliable 1 (ProductOf (Part (Constant 1) (Part x (powers_of_sum 12)))) ≡ false
+  -- 2^127 - 1 is multiplied out, also in a product with 0, and the next number isn't
   pub largest : is_multipliable 1 (Constant constant_limit) ≡ true
   pub too_large : is_multipliable 1 (Constant (constant_limit + 1)) ≡ false
   pub times_zero : is_multipliable 1 (ProductOf (two_parts (Constant (constant_limit + 1)) (Constant 0))) ≡ false
   pub twice : is_multipliable 2 (Constant constant_limit) ≡ false
 
--- whether each number that is at most a, den times, is at most b, where differences that expand to sums of squares count
--- as never negative
+-- the comparison, where differences that expand to sums of squares count as never negative
 abbrev pub is_within : ℕ → Signed → Signed → Bool
 is_within den a b = within expands_to_squares den a b
 
@@ -166,7 +169,7 @@ pub record ConstantPartsAreNumbers : Type 0 where
       (Constant 2) ≡ true
   pub zero_in_zero : is_within 1 (constant_part_signed (pos 0)) (Constant 0) ≡ true
   pub two_in_one : is_within 1 (constant_part_signed (pos 2)) (Constant 1) ≡ false
-  -- 2^127 - 1 is within the limit, taken once, and 2^126 isn't when it is taken twice
+  -- 2^127 - 1 is within the limit taken once, and 2^126 isn't within it taken twice
   pub largest : is_multipliable 1 (constant_part_signed (pos constant_limit)) ≡ true
   pub twice_large : is_multipliable 2 (constant_part_signed (pos (2 ^ 126))) ≡ false
   -- 3 is within [x*x + 3], and 4 isn't; [3 - x*x] is within 3, and not within 2
@@ -176,7 +179,7 @@ pub record ConstantPartsAreNumbers : Type 0 where
   pub polynomial : is_within 1 (PositivePart (times (pos 3) [] ∷ times (negsuc 0) (0 ∷ 0 ∷ []) ∷ [])) (Constant 3) ≡ true
   pub above : is_within 1 (PositivePart (times (pos 3) [] ∷ times (negsuc 0) (0 ∷ 0 ∷ []) ∷ [])) (Constant 2) ≡ false
 
--- sums, products and numbers
+-- worked values of comparing sums, products and numbers
 pub record SumsAreCompared : Type 0 where
   -- [x] + 1 is within 1 + [x], and not within [x]; [x] isn't within [y]
   pub order : is_within 1 (SumOf (two_parts x (Constant 1))) (SumOf (two_parts (Constant 1) x)) ≡ true
@@ -200,24 +203,26 @@ pub record SumsAreCompared : Type 0 where
       ≡ false
   -- [x] isn't within [x]*[y], which may be 0
   pub factor_left : is_within 1 x (ProductOf (two_parts x y)) ≡ false
-  -- [x] is within [x + 1], and not the other way round
+  -- [x] is within [x + 1], and [x + 1] isn't within [x]
   pub greater : is_within 1 x x_and_1 ≡ true
   pub lesser : is_within 1 x_and_1 x ≡ false
   -- 2*[x] is within [2*x] and [2*x] within 2*[x], but [2*x + 2] isn't
   pub whole : is_within 1 (ProductOf (two_parts (Constant 2) x)) twice_x ≡ true
   pub in_parts : is_within 1 twice_x (ProductOf (two_parts (Constant 2) x)) ≡ true
   pub not_whole : is_within 1 twice_x_and_2 (ProductOf (two_parts (Constant 2) x)) ≡ false
-  -- [x] + [x - 5] isn't within [x + 1], nor 2*[x] + 2*[x] within [2*x]: what is used up is used up
+  -- [x] + [x - 5] isn't within [x + 1], nor 2*[x] + 2*[x] within [2*x]: no product can be taken twice
   pub used_once : is_within 1 (SumOf (two_parts x x_less_5)) x_and_1 ≡ false
   pub used_whole : is_within 1 (SumOf (two_parts (ProductOf (two_parts (Constant 2) x)) (ProductOf (two_parts (Constant 2) x))))
       twice_x ≡ false
-  -- 2^127 - 1 is within itself, while 2^127 is past the limit
+  -- 2^127 - 1 is within itself, while 2^127 is past the limit of products, and within itself by its shape alone
   pub largest : is_within 1 (Constant constant_limit) (Constant constant_limit) ≡ true
-  pub past_limit : is_within 1 (Constant (constant_limit + 1)) (Constant (constant_limit + 1)) ≡ false
+  pub past_limit : is_within 1 (Constant (constant_limit + 1)) (SumOf (one_part (Constant (constant_limit + 1)))) ≡ false
+  pub past_limit_itself : is_within 1 (Constant (constant_limit + 1)) (Constant (constant_limit + 1)) ≡ true
 
--- quotients and rounding
+-- worked values of quotients and rounding
 pub record QuotientsAreCompared : Type 0 where
-  -- a number that is at most 5 when doubled is at most 2, and not at most 1; one of 6 is at most 3, and not at most 2
+  -- each n with 2 * n at most 5 is at most 2, and some isn't at most 1; with 2 * n at most 6 it is at most 3, and some
+  -- isn't at most 2
   pub five : is_within 2 (Constant 5) (Constant 2) ≡ true
   pub five_less : is_within 2 (Constant 5) (Constant 1) ≡ false
   pub six : is_within 2 (Constant 6) (Constant 3) ≡ true
@@ -233,12 +238,12 @@ pub record QuotientsAreCompared : Type 0 where
   pub itself : is_within 3 parabola (Quotient parabola 3) ≡ true
   pub other_divisor : is_within 3 parabola (Quotient parabola 4) ≡ false
   pub with_other_divisor : is_within 1 (Quotient parabola 3) (Quotient parabola 4) ≡ false
-  -- [x] + [x], halved, isn't within 2*([x]/2)
+  -- with the divisor 2, [x] + [x] isn't within 2*([x]/2)
   pub rounded_twice : is_within 2 (SumOf (two_parts x x)) (ProductOf (two_parts (Constant 2) (Quotient x 2))) ≡ false
-  -- the second quotient serves where the first doesn't
+  -- the second of two quotients is used if the first one doesn't suffice
   pub second_quotient : is_within 2 parabola (SumOf (two_parts (Quotient y 2) (Quotient parabola 2))) ≡ true
 
--- maxima, minima, roots and powers
+-- worked values of maxima, minima, roots and powers
 pub record ShapesAreCompared : Type 0 where
   -- [x] is within max([y], [x]), and max([y], [x]) isn't within [x]
   pub part : is_within 1 x (MaximumOf (two_parts y x)) ≡ true
@@ -248,10 +253,10 @@ pub record ShapesAreCompared : Type 0 where
       (ProductOf (two_parts (Constant 2) (MaximumOf (two_parts x (Constant 3))))) ≡ true
   pub number_above : is_within 1 (Constant 7)
       (ProductOf (two_parts (Constant 2) (MaximumOf (two_parts x (Constant 3))))) ≡ false
-  -- min([x], [y]) is within min([x + 1], [y]), and not the other way round
+  -- min([x], [y]) is within min([x + 1], [y]), and that isn't within it
   pub minimum : is_within 1 (MinimumOf x (one_part y)) (MinimumOf x_and_1 (one_part y)) ≡ true
   pub not_minimum : is_within 1 (MinimumOf x_and_1 (one_part y)) (MinimumOf x (one_part y)) ≡ false
-  -- the root of [x] is within that of [x + 1], and not the other way round
+  -- the root of [x] is within that of [x + 1], and that isn't within it
   pub root : is_within 1 (Root x) (Root x_and_1) ≡ true
   pub not_root : is_within 1 (Root x_and_1) (Root x) ≡ false
   -- 2^[x] is within 3^[x + 1]; 3^[x] isn't within 2^[x + 1], nor 0^[x] within itself
@@ -263,22 +268,22 @@ pub record ShapesAreCompared : Type 0 where
       ≡ true
   pub root_of_other_order : is_within 1 (Root (SumOf (two_parts x (Constant 1))))
       (Root (SumOf (two_parts (Constant 1) x))) ≡ false
-  -- root([x]*2) is within root([x + 1]*3), and not the other way round
+  -- root([x]*2) is within root([x + 1]*3), and that isn't within it
   pub root_of_product : is_within 1 (Root (ProductOf (two_parts x (Constant 2))))
       (Root (ProductOf (two_parts x_and_1 (Constant 3)))) ≡ true
   pub not_root_of_product : is_within 1 (Root (ProductOf (two_parts x_and_1 (Constant 3))))
       (Root (ProductOf (two_parts x (Constant 2)))) ≡ false
-  -- max([x], 2) is within max([x + 1], 3), and not the other way round
+  -- max([x], 2) is within max([x + 1], 3), and that isn't within it
   pub maximum : is_within 1 (MaximumOf (two_parts x (Constant 2))) (MaximumOf (two_parts x_and_1 (Constant 3))) ≡ true
   pub not_maximum : is_within 1 (MaximumOf (two_parts x_and_1 (Constant 3))) (MaximumOf (two_parts x (Constant 2))) ≡ false
   -- the root of [x]/2 is within that of [x + 1]/2, and not within that of [x + 1]/3
   pub root_of_quotient : is_within 1 (Root (Quotient x 2)) (Root (Quotient x_and_1 2)) ≡ true
   pub root_of_other_quotient : is_within 1 (Root (Quotient x 2)) (Root (Quotient x_and_1 3)) ≡ false
-  -- min([x]) isn't within min([x], [y]), nor min([x], [y]) within min([x]) by its shape
+  -- min([x]) isn't within min([x], [y]); nor is min([x], [y]) within min([x]), since shapes are compared part by part
   pub fewer_parts : is_within 1 (MinimumOf x NoParts) (MinimumOf x (one_part y)) ≡ false
   pub more_parts : is_within 1 (MinimumOf x (one_part y)) (MinimumOf x NoParts) ≡ false
 
--- n parts that are the same
+-- n copies of a part
 abbrev pub repeated : Signed → ℕ → SignedParts
 repeated b zero = NoParts
 repeated b (suc n) = Part b (repeated b n)
@@ -292,21 +297,32 @@ long_polynomial (suc n) = times (pos 1) (0 ∷ []) ∷ long_polynomial n
 abbrev pub heavy : ℕ → Signed
 heavy n = ProductOf (repeated (SumOf (two_parts (PositivePart (long_polynomial n)) (Constant 1))) 6)
 
--- what is compared, and what is too large to be
+-- the bound [x + .. + x]*([x] + 1)^12, where the long polynomial has n monomials
+abbrev pub wide : ℕ → Signed
+wide n = ProductOf (Part (PositivePart (long_polynomial n)) (powers_of_sum 12))
+
+-- worked values of sums that are compared, and of sums that are too large for it
 pub record LimitsOfComparisons : Type 0 where
   -- [x] + [x] has the size 8: two products of one factor each, which has three nodes
   pub size : factor_total (products_of (SumOf (two_parts x x))) ≡ 8
   -- sums of size 256 and 512 are compared, and of 260 and 512 they aren't
   pub largest : is_comparable (products_of (SumOf (repeated x 64))) (products_of (SumOf (repeated x 128))) ≡ true
   pub larger : is_comparable (products_of (SumOf (repeated x 65))) (products_of (SumOf (repeated x 128))) ≡ false
-  -- so 65 times [x] isn't found within 128 times [x]
+  -- 65 times [x] isn't found within 128 times [x], since these sums are too large
   pub too_large : is_within 1 (SumOf (repeated x 65)) (SumOf (repeated x 128)) ≡ false
   -- ([x + .. + x] + 1)^6 is within the limits of a bound and is multiplied out, into 64 products with 192 factors in
-  -- all. Where each factor has 201 nodes these are too many to be compared with themselves.
+  -- all. Where each factor has 201 nodes these are too many to be compared with themselves and 1, but the bound fits
+  -- itself.
   pub heavy_in_limits : exceeds_limits (heavy 100) ≡ false
   pub heavy_multiplied : is_multipliable 1 (heavy 100) ≡ true
   pub heavy_size : factor_total (products_of (heavy 100)) ≡ 64 + 192 * 201
-  pub heavy_refused : is_within 1 (heavy 100) (heavy 100) ≡ false
-  -- of 16 quotients each is taken apart, and of 17 none
+  pub heavy_refused : is_within 1 (heavy 100) (SumOf (two_parts (heavy 100) (Constant 1))) ≡ false
+  pub heavy_fits : is_within 1 (heavy 100) (heavy 100) ≡ true
+  -- [x + .. + x]*([x] + 1)^12, with 100 monomials, is within the limits of a bound and has 4,096 products. They would
+  -- have a million nodes, so it isn't multiplied out.
+  pub wide_in_limits : exceeds_limits (wide 100) ≡ false
+  pub wide_products : product_count (wide 100) ≡ 4096
+  pub wide_refused : is_multipliable 1 (wide 100) ≡ false
+  -- of 16 quotients each is tried, and of 17 none
   pub sixteen : is_within 2 x (SumOf (Part (Quotient x 2) (repeated (Quotient y 2) 15))) ≡ true
   pub seventeen : is_within 2 x (SumOf (Part (Quotient x 2) (repeated (Quotient y 2) 16))) ≡ false

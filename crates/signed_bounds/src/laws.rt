@@ -17,14 +17,14 @@ pub fn squares_are_safe()
     ensures { SquaresAreSafe }
 {}
 
-/// The law that a number that is at most a bound, den times, is at most each bound that the comparison accepts. Its
-/// contract is the law; it does nothing.
+/// The law of the comparison: if n * den is at most the value of a bound, n is at most the value of each bound that the
+/// comparison accepts. Its contract is the law; it does nothing.
 pub fn within_holds()
     ensures { WithinHolds }
 {}
 
-/// The law that a bound is within itself, and within its quotient by a number, that often, where it fits itself and
-/// isn't too large to be compared. Its contract is the law; it does nothing.
+/// The law that a bound that fits itself is within itself, and, if it isn't too large to be compared and with the
+/// divisor den, within its quotient by den. Its contract is the law; it does nothing.
 pub fn bounds_are_within_themselves()
     ensures { BoundsAreWithinThemselves }
 {}

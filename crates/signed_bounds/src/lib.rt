@@ -12,8 +12,8 @@ pub use laws::{
     bounds_are_within_themselves, signed_bounds_keep_values, squares_are_safe, within_holds,
 };
 pub use limits::{
-    COMPARISON_LIMIT, CONSTANT_LIMIT, DEPTH_LIMIT, NODE_LIMIT, PRODUCT_LIMIT, QUOTIENT_LIMIT,
-    limits_are_as_defined,
+    COMPARISON_LIMIT, CONSTANT_LIMIT, DEPTH_LIMIT, EXPANSION_LIMIT, NODE_LIMIT, PRODUCT_LIMIT,
+    QUOTIENT_LIMIT, limits_are_as_defined,
 };
 pub use poly_terms::Memory;
 pub use signed::Signed;

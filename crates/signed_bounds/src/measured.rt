@@ -1,4 +1,4 @@
-//! How large a signed bound is.
+//! The size of a signed bound.
 
 ghost use Rattle.std.specs.Prelude.{◌≡◌, ◌+◌, ◌-◌, ◌^◌, min, length};
 ghost use Rattle.poly_terms.specs.Views.{monomials_of};
@@ -13,7 +13,7 @@ use crate::signed::Signed;
 use poly_terms::Monomial;
 
 impl Signed {
-    /// The number of nodes and the number of levels, a node without parts being one level. A polynomial has a node for
+    /// The number of nodes and the number of levels. A node without parts has one level. A polynomial has a node for
     /// each monomial and for each of its factors.
     ///
     /// Each is the lesser of the exact number and the maximum number of its type.

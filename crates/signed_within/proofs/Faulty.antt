@@ -22,7 +22,7 @@ literal_faulty (suc n) h =
     else (if nat_lt degree_limit 1 || nat_lt degree_limit 0 then Some HighDegree else None))) None)
     (lt-ltb coefficient_limit (suc n) (omega arith))
 
--- so has a polynomial times it
+-- a polynomial times a literal past the limit has a fault
 weighted_faulty : (n : ℕ) (p : Polynomial) → constant_limit < n
     → first_fault (Multiplication (Literal (pos n)) (polynomial_term p)) ≡ Some LargeCoefficient
 weighted_faulty n p h =
@@ -30,12 +30,12 @@ weighted_faulty n p h =
     ∙ ap (λ (o : Option Fault). or_else o (or_else (first_fault (polynomial_term p))
     (fault_of (Multiplication (Literal (pos n)) (polynomial_term p))))) (literal_faulty n h)
 
--- a fault of either part makes the test fail
+-- a fault of the second of three parts makes the test fail
 unsafe_second : (o g : Option Fault) (f : Fault) (p : Polynomial) → is_expanded_safe (or_else o (or_else (Some f) g)) p ≡ false
 unsafe_second None g f p = refl
 unsafe_second (Some e) g f p = refl
 
--- the difference isn't expanded where the upper weight is past the limit
+-- a difference whose upper weight is past the limit isn't expanded
 pub upper_too_large : (n : ℕ) (f : Polynomial) (m : ℕ) (h : Polynomial) → constant_limit < m
     → expands_to_squares (weighted_difference n f m h) ≡ false
 upper_too_large n f m h k =
@@ -46,7 +46,7 @@ upper_too_large n f m h k =
     ∙ ap (λ (o : Option Fault). or_else o (or_else (first_fault lower) (fault_of (Subtraction upper lower))))
     (weighted_faulty m h k))
 
--- nor where the lower weight is
+-- a difference whose lower weight is past the limit isn't expanded
 pub lower_too_large : (n : ℕ) (f : Polynomial) (m : ℕ) (h : Polynomial) → constant_limit < n
     → expands_to_squares (weighted_difference n f m h) ≡ false
 lower_too_large n f m h k =

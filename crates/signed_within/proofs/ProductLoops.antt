@@ -1,4 +1,4 @@
--- Loops that multiply a bound out, and the sums of the numbers that they make.
+-- Loops that multiply a bound out, and the sums of the numbers of the products that they make.
 use Rattle.std.proofs.Common.{◌≡◌, ℕ, zero, suc, ◌+◌, ◌*◌, ◌<◌, ◌≤◌, max, List, [], ◌∷◌, ◌++◌, map, take, drop, get_or}
 use Rattle.std.proofs.Common.{length, Option, Some, None, refl, ap, sym, ◌∙◌, subst, append_assoc, append-nil, arith}
 use Rattle.std.proofs.Math.Nat.{mul-le-mul, mul-le-mul_left, mul-le-mul_right, le_trans}
@@ -16,11 +16,11 @@ use Rattle.signed_bounds.specs.Products.{at_least_1, constant_part, part_or_numb
 use Rattle.signed_within.specs.declared.product.Product.{Product}
 use Rattle.signed_within.specs.Views.{product_of, products_at}
 
--- the parts from a place on
+-- the parts from a position on
 abbrev pub rest : List Signed → ℕ → SignedParts
 rest xs i = parts_of (signeds_of (drop i xs))
 
--- the parts from a place on are the one at the place and those behind it
+-- the parts from a position on are the one at it and those after it
 rest_more : (xs : List Signed) (i : ℕ) (x : Signed) → i < length xs → x ≡ get_or xs i x
     → rest xs i ≡ Part (signed_of x) (rest xs (i + 1))
 rest_more xs i x h e =
@@ -31,18 +31,18 @@ rest_more xs i x h e =
 rest_none : (xs : List Signed) (i : ℕ) → length xs ≤ i → rest xs i ≡ NoParts
 rest_none xs i h = ap (λ (ys : List Signed). parts_of (signeds_of ys)) (drop_all i xs h)
 
--- the numbers of two lists add up
+-- the sum of the numbers of two lists of products is the sum of their sums
 times_sum-append : (ps qs : List products.Product) → times_sum (ps ++ qs) ≡ times_sum ps + times_sum qs
 times_sum-append [] qs = omega arith
 times_sum-append (p ∷ ps) qs = omega (arith, times_sum-append ps qs)
 
--- the numbers of a product times each of a list
+-- the sum of the numbers of a product joined with each of a list is its number times the list's sum
 times_sum-joined : (p : products.Product) (qs : List products.Product)
     → times_sum (map (joined p) qs) ≡ p.times * times_sum qs
 times_sum-joined p [] = omega arith
 times_sum-joined p (q ∷ qs) = omega (arith, times_sum-joined p qs)
 
--- the numbers of multiplied sums
+-- the sum of the numbers of two multiplied lists is the product of their sums
 times_sum-multiplied : (ps qs : List products.Product)
     → times_sum (multiplied ps qs) ≡ times_sum ps * times_sum qs
 times_sum-multiplied [] qs = omega arith
@@ -54,18 +54,18 @@ times_sum-multiplied (p ∷ ps) qs =
       times_sum-multiplied ps qs,
     )
 
--- a number that counts as at least 1
+-- a number that counts as at least 1 is at least 1
 at_least_1-positive : (o : Option ℕ) → 1 ≤ at_least_1 o
 at_least_1-positive None = omega arith
 at_least_1-positive (Some n) = omega arith
 
--- a positive part as a product is taken at most so often
+-- the positive part of a polynomial as a product occurs at most as often as its number, or once
 times_sum-part : (p : Polynomial) (o : Option ℕ) → times_sum (part_or_number p o ∷ []) ≤ at_least_1 o
 times_sum-part p None = omega arith
 times_sum-part p (Some n) = omega arith
 
 mutual
-  -- the limit for the numbers of a bound is at least 1
+  -- the bound on the sum of numbers is at least 1
   number_sum-positive : (b : plain.Signed) → 1 ≤ number_sum b
   number_sum-positive (Constant c) = omega arith
   number_sum-positive (PositivePart p) = at_least_1-positive (constant_part p)
@@ -83,7 +83,7 @@ mutual
       mul-le-mul (number_sum-positive b) (number_sum_of_product-positive bs)
 
 mutual
-  -- the numbers that a bound is multiplied out into are at most that limit together
+  -- the sum of the numbers of a bound's products is at most `number_sum`
   pub times_sum-le : (b : plain.Signed) → times_sum (products_of b) ≤ number_sum b
   times_sum-le (Constant c) = omega arith
   times_sum-le (PositivePart p) = times_sum-part p (constant_part p)
@@ -110,7 +110,7 @@ mutual
       let last = mul-le-mul_right (number_sum_of_product bs) grown in
       omega (arith, ap (λ (v : ℕ). v * number_sum_of_product bs) first)
 
--- a part of a sum has at most its numbers
+-- the number sum of a part of a sum is at most that of the sum
 pub number_sum-at : (xs : List Signed) (i : ℕ) (x : Signed) → i < length xs → x ≡ get_or xs i x
     → number_sum (signed_of x) ≤ number_sum_of_sum (parts_of (signeds_of xs))
 number_sum-at [] i x h e = absurd (omega arith)
@@ -118,14 +118,14 @@ number_sum-at (y ∷ ys) zero x h e =
     omega (arith, ap (λ (z : Signed). number_sum (signed_of z)) e)
 number_sum-at (y ∷ ys) (suc i) x h e = omega (arith, number_sum-at ys i x (omega arith) e)
 
--- a factor's numbers, and what is made so far times them, are within the limit that what is left keeps to
+-- the number sum of a factor, and the numbers so far times it, are at most the limit that the factors left keep to
 pub factor_limited : (xs : List Signed) (i : ℕ) (x : Signed) (so_far limit : ℕ) → i < length xs → x ≡ get_or xs i x
     → so_far * number_sum_of_product (rest xs i) ≤ limit
     → (so_far * number_sum (signed_of x)) * number_sum_of_product (rest xs (i + 1)) ≤ limit
 factor_limited xs i x so_far limit h e k =
     omega (arith, ap (λ (ps : SignedParts). so_far * number_sum_of_product ps) (rest_more xs i x h e))
 
--- one more part of a sum
+-- after one more part of a sum, the products so far and those of the parts left are all
 pub sum-more : (xs : List Signed) (i : ℕ) (x : Signed) (done more : List Product) (all : List products.Product)
     → i < length xs → x ≡ get_or xs i x → products_at more ≡ products_of (signed_of x)
     → products_at done ++ products_of_sum (rest xs i) ≡ all
@@ -137,7 +137,7 @@ sum-more xs i x done more all h e is k =
     ∙ sym (ap (λ (bs : SignedParts). products_at done ++ products_of_sum bs) (rest_more xs i x h e))
     ∙ k
 
--- no more part of a sum
+-- if no part of a sum is left, the products so far are all
 pub sum-none : (xs : List Signed) (i : ℕ) (done : List Product) (all : List products.Product) → length xs ≤ i
     → products_at done ++ products_of_sum (rest xs i) ≡ all → products_at done ≡ all
 sum-none xs i done all h k =
@@ -145,7 +145,7 @@ sum-none xs i done all h k =
     ∙ sym (ap (λ (bs : SignedParts). products_at done ++ products_of_sum bs) (rest_none xs i h))
     ∙ k
 
--- one more factor of a product
+-- after one more factor, the products so far times those of the factors left are all
 pub product-more : (xs : List Signed) (i : ℕ) (x : Signed) (done more new : List Product) (all : List products.Product)
     → i < length xs → x ≡ get_or xs i x → products_at more ≡ products_of (signed_of x)
     → products_at new ≡ multiplied (products_at done) (products_at more)
@@ -157,13 +157,13 @@ product-more xs i x done more new all h e is made k =
     ∙ sym (ap (λ (bs : SignedParts). multiplied_by_parts bs (products_at done)) (rest_more xs i x h e))
     ∙ k
 
--- no more factor of a product
+-- if no factor is left, the products so far are all
 pub product-none : (xs : List Signed) (i : ℕ) (done : List Product) (all : List products.Product) → length xs ≤ i
     → multiplied_by_parts (rest xs i) (products_at done) ≡ all → products_at done ≡ all
 product-none xs i done all h k =
     sym (ap (λ (bs : SignedParts). multiplied_by_parts bs (products_at done)) (rest_none xs i h)) ∙ k
 
--- the numbers of multiplied products
+-- the sum of the numbers of the products times a factor is at most the product of their number sums
 pub product-times : (done more new : List Product) (b : plain.Signed)
     → products_at more ≡ products_of b → products_at new ≡ multiplied (products_at done) (products_at more)
     → times_sum (products_at new) ≤ times_sum (products_at done) * number_sum b
@@ -172,7 +172,7 @@ product-times done more new b is made =
     let grown = mul-le-mul_left (times_sum (products_at done)) (times_sum-le b) in
     omega (arith, ap (λ (ps : List products.Product). times_sum (products_at done) * times_sum ps) is)
 
--- the limit for a factor: what is made so far times its numbers
+-- after one more factor, the numbers so far times those of the factors left keep to the limit
 pub factors_limited : (xs : List Signed) (i : ℕ) (x : Signed) (so_far limit : ℕ) (more : List Product) → i < length xs
     → x ≡ get_or xs i x → products_at more ≡ products_of (signed_of x)
     → so_far * number_sum_of_product (rest xs i) ≤ limit
@@ -183,14 +183,14 @@ factors_limited xs i x so_far limit more h e is k =
     let grown = mul-le-mul_left so_far (times_sum-le (signed_of x)) in
     omega (arith, ap (λ (ps : List products.Product). so_far * times_sum ps) is)
 
--- a product at a place has at most the numbers of all
+-- the number of the product at a position is at most the sum of the numbers of all
 pub times-at : (ps : List Product) (i : ℕ) (p : Product) → i < length ps → p ≡ get_or ps i p
     → p.times ≤ times_sum (products_at ps)
 times-at [] i p h e = absurd (omega arith)
 times-at (q ∷ qs) zero p h e = omega (arith, ap (λ (r : Product). r.times) e)
 times-at (q ∷ qs) (suc i) p h e = omega (arith, times-at qs i p (omega arith) e)
 
--- a factor's numbers are within what the whole product keeps to
+-- the number sum of a factor is at most that of the whole product
 pub number_sum-in_product : (xs : List Signed) (i : ℕ) (x : Signed) → i < length xs → x ≡ get_or xs i x
     → number_sum (signed_of x) ≤ number_sum_of_product (parts_of (signeds_of xs))
 number_sum-in_product [] i x h e = absurd (omega arith)
@@ -202,7 +202,7 @@ number_sum-in_product (y ∷ ys) (suc i) x h e =
     let least = mul-le-mul_right (number_sum_of_product (parts_of (signeds_of ys))) (number_sum-positive (signed_of y)) in
     omega arith
 
--- one more product of a list, where each adds products to what is done
+-- a loop over products that appends products for each: the next one
 pub products-more : (F : List products.Product → List products.Product) (f : products.Product → List products.Product)
     → ((q : products.Product) (qs : List products.Product) → F (q ∷ qs) ≡ f q ++ F qs)
     → (qs : List Product) (i : ℕ) (q : Product) (done new : List Product) (all : List products.Product)
@@ -220,7 +220,7 @@ products-more F f step qs i q done new all h e made k =
     ∙ sym (ap (λ (ps : List products.Product). products_at done ++ ps) left)
     ∙ k
 
--- no more product of a list
+-- a loop over products that appends products for each: the end
 pub products-none : (F : List products.Product → List products.Product) → F [] ≡ []
     → (qs : List Product) (i : ℕ) (done : List Product) (all : List products.Product) → length qs ≤ i
     → products_at done ++ F (products_at (drop i qs)) ≡ all → products_at done ≡ all
@@ -230,7 +230,7 @@ products-none F empty qs i done all h k =
     (ap (λ (ps : List Product). F (products_at ps)) (drop_all i qs h) ∙ empty))
     ∙ k
 
--- one more product at the end
+-- pushing a product appends it to the plain products
 pub products-push : (done : List Product) (new : Product) (p : products.Product) → product_of new ≡ p
     → products_at (done ++ new ∷ []) ≡ products_at done ++ p ∷ []
 products-push done new p e =

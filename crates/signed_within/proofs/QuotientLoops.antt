@@ -1,4 +1,4 @@
--- Sums of products that a quotient among them is taken out of.
+-- Sums of products from which a quotient among them is taken out.
 use Rattle.std.proofs.Common.{◌≡◌, ℕ, zero, suc, ◌+◌, ◌-◌, ◌*◌, ◌<◌, ◌≤◌, Bool, true, false, List, [], ◌∷◌, ◌++◌, map, take, drop}
 use Rattle.std.proofs.Common.{get_or, length, Option, Some, None, refl, ap, sym, ◌∙◌, append_assoc, arith}
 use Rattle.std.specs.Prelude.{◌&&◌, ◌||◌, nat_le}
@@ -7,9 +7,9 @@ use Rattle.std.proofs.lemmas.List.{drop_more, take_more, take_all, length-drop, 
 use Rattle.std.proofs.lemmas.Bool.{leb-true}
 use Rattle.signed_bounds.specs.Bounds as plain
 use Rattle.signed_bounds.specs.Safe.{expands_to_squares}
-use Rattle.signed_bounds.specs.Limits.{constant_limit, product_limit}
+use Rattle.signed_bounds.specs.Limits.{constant_limit}
 use Rattle.signed_bounds.specs.Products as products
-use Rattle.signed_bounds.specs.Products.{times_sum, scaled, products_of, product_count, number_sum, is_multipliable}
+use Rattle.signed_bounds.specs.Products.{times_sum, scaled, products_of, number_sum, is_expandable, is_multipliable}
 use Rattle.signed_bounds.specs.Covers.{covers}
 use Rattle.signed_bounds.specs.Within.{numerator, once_less, is_covered_with_numerator, is_covered_by_quotient}
 use denote.Ref.{Bor}
@@ -19,7 +19,7 @@ use Rattle.signed_within.specs.Views.{signed_at, product_of, products_at}
 use Rattle.signed_within.specs.Numerators.{is_covered_at}
 use Rattle.signed_within.proofs.ProductLoops.{times-at, times_sum-le}
 
--- products before a place, and behind it, are taken at most as often as all
+-- the products before a position, and those after it, occur at most as often as all
 times-take : (qs : List Product) (i : ℕ) → times_sum (products_at (take i qs)) ≤ times_sum (products_at qs)
 times-take [] zero = omega arith
 times-take [] (suc i) = omega arith
@@ -32,7 +32,7 @@ times-drop [] (suc i) = omega arith
 times-drop (q ∷ qs) zero = omega arith
 times-drop (q ∷ qs) (suc i) = omega (arith, times-drop qs i)
 
--- so often, and a number of times
+-- den times a lesser number is within a limit if den times the greater is
 scaled-le : (den a b limit : ℕ) → a ≤ b → den * b ≤ limit → den * a ≤ limit
 scaled-le den a b limit h k = omega (arith, mul-le-mul_left den h)
 
@@ -46,7 +46,7 @@ pub one-limited : (den : ℕ) (qs : List Product) (i : ℕ) (q : Product) → i 
 one-limited den qs i q low e h =
     scaled-le den q.times (times_sum (products_at qs)) constant_limit (times-at qs i q low e) h
 
--- what is behind a place, as a part of the list
+-- the products after a position as a part of the list
 pub rest-behind : (qs : List Product) (i : ℕ) → take (length qs - (i + 1)) (drop (i + 1) qs) ≡ drop (i + 1) qs
 rest-behind qs i = take_all (length qs - (i + 1)) (drop (i + 1) qs) (omega (arith, length-drop (i + 1) qs))
 
@@ -56,13 +56,13 @@ behind-limited den qs i h =
     rw (rest-behind qs i) (scaled-le den (times_sum (products_at (drop (i + 1) qs))) (times_sum (products_at qs))
     constant_limit (times-drop qs (i + 1)) h)
 
--- two sums, each product more often
+-- scaling two lists joined joins them scaled
 scaled-append : (den : ℕ) (ps qs : List products.Product) → scaled den (ps ++ qs) ≡ scaled den ps ++ scaled den qs
 scaled-append den [] qs = refl
 scaled-append den (p ∷ ps) qs =
     ap (λ (rs : List products.Product). record { times = den * p.times; factors = p.factors } ∷ rs) (scaled-append den ps qs)
 
--- the numerator's products, and den times those before, that of the place once less, and those behind
+-- the numerator's products, and den times the products before the position, the one at it once less, and those after it
 pub others-made : (den : ℕ) (qs : List Product) (i : ℕ) (q less : Product) (b : plain.Signed)
     (first second third fourth : List Product) → products_at first ≡ products_of b
     → products_at second ≡ products_at first ++ scaled den (products_at (take i qs))
@@ -88,14 +88,14 @@ others-made den qs i q less b first second third fourth made before pushed times
     ∙ ap (λ (rs : List products.Product). products_of b ++ rs)
     (sym (scaled-append den (products_at (take i qs)) (once_less (product_of q) ∷ products_at (drop (i + 1) qs))))
 
--- the products from a place on
+-- any function of the products from a position on is the same function of the one at it and those after it
 at-place : {A : Type 0} (f : List products.Product → A) (qs : List Product) (i : ℕ) (q : Product) → i < length qs
     → q ≡ get_or qs i q → f (products_at (drop i qs)) ≡ f (product_of q ∷ products_at (drop (i + 1) qs))
 at-place f qs i q low e =
     ap (λ (rs : List Product). f (products_at rs)) (drop_more qs i q low)
     ∙ ap (λ (r : Product). f (product_of r ∷ products_at (drop (i + 1) qs))) (sym e)
 
--- a product that is no such quotient, or one whose numerator isn't multiplied out, covers nothing
+-- a product that is no such quotient, or whose numerator isn't multiplied out, covers nothing
 pub at-none : (den : ℕ) (ps : List products.Product) (qs : List Product) (i : ℕ) (q : Product) → i < length qs
     → q ≡ get_or qs i q → numerator den (product_of q).times (product_of q).factors ≡ None
     → false ≡ is_covered_at den ps (products_at (take i qs)) (products_at (drop i qs))
@@ -116,7 +116,7 @@ at-some den ps qs i q b v low e h m =
     ∙ ap (λ (o : Option plain.Signed). is_covered_with_numerator expands_to_squares den ps o others) h
     ∙ ap (λ (t : Bool). t && covers expands_to_squares ps (products_of b ++ scaled den others)) m
 
--- the first quotient decides, or those behind it
+-- the first quotient decides, or else the products after it
 pub quotient-step : (den : ℕ) (ps : List products.Product) (qs : List Product) (i : ℕ) (v : Bool) → i < length qs
     → v ≡ is_covered_at den ps (products_at (take i qs)) (products_at (drop i qs))
     → is_covered_by_quotient expands_to_squares den ps (products_at (take i qs)) (products_at (drop i qs))
@@ -150,16 +150,16 @@ second-true false w h = absurd (apart h)
     apart : false ≡ true → ⊥
     apart k = cc
 
--- what the limits say of the numbers of a bound that is multiplied out n times
+-- the numbers of a bound that is multiplied out within the limits, times n, are at most the limit
 pub times-limited : (n : ℕ) (b : plain.Signed) → is_multipliable n b ≡ true → n * number_sum b ≤ constant_limit
 times-limited n b h =
     leb-true (n * number_sum b) constant_limit
-    (second-true (nat_le (product_count b) product_limit) (nat_le (n * number_sum b) constant_limit) h)
+    (second-true (is_expandable b) (nat_le (n * number_sum b) constant_limit) h)
 
 pub number-limited : (n : ℕ) (b : plain.Signed) → 1 ≤ n → is_multipliable n b ≡ true → number_sum b ≤ constant_limit
 number-limited n b low h = omega (arith, mul-le-mul_right (number_sum b) low, times-limited n b h)
 
--- so the products that it is multiplied out into, n times, stay within the limit
+-- the products of such a bound, scaled by n, have numbers within the limit
 pub products-limited : (n : ℕ) (b : plain.Signed) (qs : List Product) → is_multipliable n b ≡ true
     → products_at qs ≡ products_of b → n * times_sum (products_at qs) ≤ constant_limit
 products-limited n b qs h made =

@@ -1,4 +1,4 @@
--- Loops over parts that add up or multiply numbers up to a limit.
+-- Loops over parts that add or multiply numbers up to a limit.
 use Rattle.std.proofs.Common.{◌≡◌, ℕ, zero, suc, ◌+◌, ◌*◌, ◌-◌, ◌^◌, ◌<◌, ◌≤◌, min, max, Bool, true, false, List, get_or}
 use Rattle.std.proofs.Common.{length, refl, ap, sym, ◌∙◌, inl, inr, arith}
 use Rattle.std.specs.Prelude.{nat_le}
@@ -8,7 +8,7 @@ use Rattle.signed_bounds.specs.Bounds as plain
 use Rattle.signed_bounds.specs.Bounds.{SignedParts, NoParts, Part}
 use Rattle.signed_bounds.specs.declared.signed.Signed.{Signed}
 use Rattle.signed_bounds.specs.Views.{signed_of, with_part}
-use Rattle.signed_bounds.specs.Limits.{constant_limit, product_limit, comparison_limit}
+use Rattle.signed_bounds.specs.Limits.{constant_limit, product_limit, expansion_limit, comparison_limit}
 use Rattle.signed_bounds.specs.Products.{product_count, product_count_of_sum, product_count_of_product}
 use Rattle.signed_bounds.specs.Products.{number_sum, number_sum_of_sum, number_sum_of_product}
 use Rattle.signed_bounds.proofs.PartLoops.{before, parts_of-take_more}
@@ -33,7 +33,7 @@ min-mul a b limit =
     ∙ min-mul_right b a limit
     ∙ ap (λ (v : ℕ). min v limit) (omega arith)
 
--- one more number in a sum, up to a limit
+-- adding one more number, up to a limit
 sum-step : (f : SignedParts → ℕ) (g : plain.Signed → ℕ)
     → ((bs : SignedParts) (b : plain.Signed) → f (with_part bs b) ≡ f bs + g b)
     → (xs : List Signed) (i : ℕ) (x : Signed) (so_far here after limit : ℕ) → i < length xs → x ≡ get_or xs i x
@@ -42,7 +42,7 @@ sum-step : (f : SignedParts → ℕ) (g : plain.Signed → ℕ)
 sum-step f g more xs i x so_far here after limit h e is_before is_here is_after =
     omega (arith, ap f (parts_of-take_more xs i x h e), more (before xs i) (signed_of x))
 
--- one more number in a product, up to a limit
+-- multiplying by one more number, up to a limit
 product-step : (f : SignedParts → ℕ) (g : plain.Signed → ℕ)
     → ((bs : SignedParts) (b : plain.Signed) → f (with_part bs b) ≡ f bs * g b)
     → (xs : List Signed) (i : ℕ) (x : Signed) (so_far here after limit : ℕ) → i < length xs → x ≡ get_or xs i x
@@ -79,7 +79,7 @@ number_product-more : (bs : SignedParts) (b : plain.Signed)
 number_product-more NoParts b = omega arith
 number_product-more (Part c cs) b = omega (arith, ap (λ (v : ℕ). number_sum c * v) (number_product-more cs b))
 
--- the steps of the four loops
+-- the steps of the four loops, up to a limit
 pub count_sum-step : (xs : List Signed) (i : ℕ) (x : Signed) (so_far here after limit : ℕ) → i < length xs
     → x ≡ get_or xs i x → so_far ≡ min (product_count_of_sum (before xs i)) limit
     → here ≡ min (product_count (signed_of x)) limit → after ≡ min (so_far + here) limit
@@ -104,7 +104,7 @@ pub number_product-step : (xs : List Signed) (i : ℕ) (x : Signed) (so_far here
     → after ≡ min (number_sum_of_product (before xs (i + 1))) limit
 number_product-step = product-step number_sum_of_product number_sum number_product-more
 
--- two tests of orders that imply each other agree
+-- two comparisons of numbers that imply each other have the same result
 tests_agree : (a b c d : ℕ) → (a ≤ b → c ≤ d) → (c ≤ d → a ≤ b) → nat_le a b ≡ nat_le c d
 tests_agree a b c d to back = go (nat_le a b) refl (nat_le c d) refl
   where
@@ -117,12 +117,12 @@ tests_agree a b c d to back = go (nat_le a b) refl (nat_le c d) refl
     go true e false k = absurd (above c d (leb-false c d k) (to (leb-true a b e)))
     go false e true k = absurd (above a b (leb-false a b e) (back (leb-true c d k)))
 
--- a capped number is at most a limit below the cap just where the number is
+-- a capped number is at most a limit below the cap exactly if the number is
 pub count_test : (count capped : ℕ) → capped ≡ min count (2 ^ 64 - 1)
     → nat_le capped product_limit ≡ nat_le count product_limit
 count_test count capped e = tests_agree capped product_limit count product_limit (λ h. omega arith) (λ h. omega arith)
 
--- so is a product of two numbers that are capped behind the limit
+-- a product of two numbers, each capped past the limit, is at most the limit exactly if their product is
 pub pair_test : (a b capped other product : ℕ) → capped ≡ min a (comparison_limit + 1)
     → other ≡ min b (comparison_limit + 1) → product ≡ min (capped * other) (2 ^ 64 - 1)
     → nat_le product comparison_limit ≡ nat_le (a * b) comparison_limit
@@ -142,7 +142,23 @@ pair_test a b capped other product e f h =
         ∙ ap (λ (v : ℕ). min (min a (comparison_limit + 1) * v) (comparison_limit + 1)) f
         ∙ min-mul a b (comparison_limit + 1))
 
--- so is one that is multiplied up to the cap
+-- the product of two capped numbers, capped, is at most the limit exactly if the product of the numbers is
+pub expansion_test : (count nodes capped other product : ℕ) → capped ≡ min count (2 ^ 64 - 1)
+    → other ≡ min nodes (2 ^ 64 - 1) → product ≡ min (capped * other) (2 ^ 64 - 1)
+    → nat_le product expansion_limit ≡ nat_le (count * nodes) expansion_limit
+expansion_test count nodes capped other product e f h =
+    tests_agree product expansion_limit (count * nodes) expansion_limit
+    (λ k. omega (arith, whole))
+    (λ k. omega (arith, whole))
+  where
+    whole : product ≡ min (count * nodes) (2 ^ 64 - 1)
+    whole =
+        h
+        ∙ ap (λ (v : ℕ). min (v * other) (2 ^ 64 - 1)) e
+        ∙ ap (λ (v : ℕ). min (min count (2 ^ 64 - 1) * v) (2 ^ 64 - 1)) f
+        ∙ min-mul count nodes (2 ^ 64 - 1)
+
+-- a capped sum times a number, capped, is at most the limit exactly if the product of the numbers is
 pub sum_test : (sum times capped product : ℕ) → capped ≡ min sum (2 ^ 128 - 1)
     → product ≡ min (capped * times) (2 ^ 128 - 1)
     → nat_le product constant_limit ≡ nat_le (times * sum) constant_limit

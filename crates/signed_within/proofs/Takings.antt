@@ -7,21 +7,21 @@ use Rattle.std.proofs.lemmas.List.{drop_more, drop_all, take_all}
 use Rattle.signed_bounds.specs.Bounds as plain
 use Rattle.signed_bounds.specs.Safe.{expands_to_squares}
 use Rattle.signed_bounds.specs.Products as products
-use Rattle.signed_bounds.specs.Covers.{missing_times, used_up, missing_products, all_used_up, fits_whole, emptied}
+use Rattle.signed_bounds.specs.Covers.{missing_times, used_up, missing_products, all_used_up, fits_whole, occurs_never}
 use Rattle.signed_bounds.specs.Covers.{used_whole, without_product, dominated}
 use Rattle.signed_within.specs.declared.product.Product.{Product}
 use Rattle.signed_within.specs.Views.{signed_at, product_of, products_at, counted, times_of}
 
--- a product, taken n times
+-- a product with its number replaced by n
 abbrev pub taken : Product → ℕ → products.Product
 taken q n = record { times = n; factors = signed_at q.factors.items }
 
--- each product, as often as its own number says
+-- products with their own numbers are the products
 pub counted-times : (qs : List Product) → counted qs (times_of qs) ≡ products_at qs
 counted-times [] = refl
 counted-times (q ∷ qs) = ap (λ (ps : List products.Product). product_of q ∷ ps) (counted-times qs)
 
--- the products from a place on are the one at the place and those behind it
+-- the products from a position on are the one at it and those after it
 pub counted-more : (qs : List Product) (ns : List ℕ) (i : ℕ) (q : Product) → i < length qs → length ns ≡ length qs
     → q ≡ get_or qs i q
     → counted (drop i qs) (drop i ns) ≡ taken q (get_or ns i 0) ∷ counted (drop (i + 1) qs) (drop (i + 1) ns)
@@ -30,11 +30,11 @@ counted-more qs ns i q h same e =
     ap₂ (λ (ps : List Product) (ms : List ℕ). counted ps ms) (drop_more qs i q h) (drop_more ns i 0 inside)
     ∙ ap (λ (r : Product). taken r (get_or ns i 0) ∷ counted (drop (i + 1) qs) (drop (i + 1) ns)) (sym e)
 
--- no product is left
+-- if no product is left, the rest is empty
 pub counted-none : (qs : List Product) (ns : List ℕ) (i : ℕ) → length qs ≤ i → counted (drop i qs) (drop i ns) ≡ []
 counted-none qs ns i h = ap (λ (ps : List Product). counted ps (drop i ns)) (drop_all i qs h)
 
--- the products before the next place
+-- the products before the next position are those before this one, and the one at it
 counted-push : (qs : List Product) (ns : List ℕ) (i : ℕ) (q : Product) (n : ℕ) → i < length qs → length ns ≡ i
     → q ≡ get_or qs i q
     → counted (take (suc i) qs) (ns ++ n ∷ []) ≡ counted (take i qs) ns ++ taken q n ∷ []
@@ -45,11 +45,11 @@ counted-push (p ∷ qs) [] (suc i) q n h same e = absurd (omega arith)
 counted-push (p ∷ qs) (m ∷ ns) (suc i) q n h same e =
     ap (λ (ps : List products.Product). taken p m ∷ ps) (counted-push qs ns i q n (omega arith) (omega arith) e)
 
--- all products before the end
+-- the products before the end are all products
 counted-all : (qs : List Product) (ns : List ℕ) (i : ℕ) → length qs ≤ i → counted (take i qs) ns ≡ counted qs ns
 counted-all qs ns i h = ap (λ (ps : List Product). counted ps ns) (take_all i qs h)
 
--- one more product of those that are taken from: what is missing
+-- the number missing after one more product that is taken from
 pub missing-more : (test : List plain.Signed → List plain.Signed → Bool) (fs : List plain.Signed) (qs : List Product)
     (ns : List ℕ) (i : ℕ) (q : Product) (n after all : ℕ) → i < length qs → length ns ≡ length qs → q ≡ get_or qs i q
     → after ≡ (if test fs (signed_at q.factors.items) then n - get_or ns i 0 else n)
@@ -60,7 +60,7 @@ missing-more test fs qs ns i q n after all h same e is k =
     ∙ sym (ap (λ (ps : List products.Product). missing_times test n fs ps) (counted-more qs ns i q h same e))
     ∙ k
 
--- and what is left there
+-- the numbers left after one more product that is taken from
 pub used-more : (test : List plain.Signed → List plain.Signed → Bool) (fs : List plain.Signed) (qs : List Product)
     (ns rest : List ℕ) (i : ℕ) (q : Product) (n after left : ℕ) (all : List products.Product) → i < length qs
     → length ns ≡ length qs → length rest ≡ i → q ≡ get_or qs i q
@@ -79,7 +79,7 @@ used-more test fs qs ns rest i q n after left all h same size e is_after is_left
     (counted-more qs ns i q h same e))
     ∙ k
 
--- no more product that is taken from
+-- if there is no further product to take from, the number missing is the result
 pub missing-none : (test : List plain.Signed → List plain.Signed → Bool) (fs : List plain.Signed) (qs : List Product)
     (ns : List ℕ) (i n all : ℕ) → length qs ≤ i
     → missing_times test n fs (counted (drop i qs) (drop i ns)) ≡ all → n ≡ all
@@ -96,7 +96,7 @@ used-none test fs qs ns rest i n all h k =
     ∙ sym (ap (λ (ps : List products.Product). counted (take i qs) rest ++ used_up test n fs ps) (counted-none qs ns i h))
     ∙ k
 
--- one more product that is taken: what is missing of each
+-- the numbers missing after one more product that is taken
 pub lacking-more : (test : List plain.Signed → List plain.Signed → Bool) (ps qs : List Product)
     (missing left new : List ℕ) (i : ℕ) (p : Product) (n : ℕ) (all : List products.Product) → i < length ps
     → length missing ≡ i → p ≡ get_or ps i p
@@ -119,7 +119,7 @@ lacking-more test ps qs missing left new i p n all h size e is_n is_new k =
     ++ missing_products test (products_at rs) (counted qs left)) (drop_more ps i p h))
     ∙ k
 
--- and what is left of those that they are taken from
+-- the numbers left of the products that are taken from, after one more product that is taken
 pub rest-more : (test : List plain.Signed → List plain.Signed → Bool) (ps qs : List Product) (left new : List ℕ) (i : ℕ)
     (p : Product) (all : List products.Product) → i < length ps → p ≡ get_or ps i p
     → counted qs new ≡ used_up test p.times (signed_at p.factors.items) (counted qs left)
@@ -132,7 +132,7 @@ rest-more test ps qs left new i p all h e is k =
     ∙ sym (ap (λ (rs : List Product). all_used_up test (products_at rs) (counted qs left)) (drop_more ps i p h))
     ∙ k
 
--- no more product that is taken
+-- if there is no further product to take, the numbers missing are the result
 pub lacking-none : (test : List plain.Signed → List plain.Signed → Bool) (ps qs : List Product) (missing left : List ℕ)
     (i : ℕ) (all : List products.Product) → length ps ≤ i
     → counted (take i ps) missing ++ missing_products test (products_at (drop i ps)) (counted qs left) ≡ all

@@ -1,4 +1,4 @@
--- Loops that measure sums of products and count quotients among them.
+-- Loops that measure sums of products, and that count quotients among them.
 use Rattle.std.proofs.Common.{◌≡◌, ℕ, zero, suc, ◌+◌, ◌-◌, ◌^◌, ◌<◌, ◌≤◌, min, Bool, true, false, List, [], ◌∷◌, take, drop}
 use Rattle.std.proofs.Common.{get_or, length, Option, Some, None, refl, ap, sym, ◌∙◌, add-one, arith}
 use Rattle.std.proofs.lemmas.List.{take_all, drop_more, drop_all}
@@ -35,7 +35,7 @@ nodes-step rs i r nodes here after limit h e is_nodes is_here is_after =
     let more = nodes-more (signed_at rs) i (signed_of r.now) inside (signed_at-get rs i r h e) in
     omega (arith, next, more)
 
--- all factors have been passed
+-- after all factors, the nodes are those of all, up to a limit
 pub nodes-all : (rs : List (Bor Signed)) (i nodes limit : ℕ) → length rs ≤ i
     → nodes ≡ min (factor_nodes (take i (signed_at rs))) limit → nodes ≡ min (factor_nodes (signed_at rs)) limit
 nodes-all rs i nodes limit h e =
@@ -48,7 +48,7 @@ pub record IsTotalSoFar (ps : List Product) (i total : ℕ) : Type 0 where
   pub whole : total + factor_total (products_at (drop i ps)) ≡ factor_total (products_at ps)
   pub low : total ≤ comparison_limit
 
--- the products from a place on are the one at the place and those behind it
+-- the size of the products from a position on is that of the one at it and of those after it
 total-more : (ps : List Product) (i : ℕ) (p : Product) → i < length ps → p ≡ get_or ps i p
     → factor_total (products_at (drop i ps))
     ≡ (1 + factor_nodes (product_of p).factors) + factor_total (products_at (drop (i + 1) ps))
@@ -56,7 +56,7 @@ total-more ps i p h e =
     ap (λ (qs : List Product). factor_total (products_at qs)) (drop_more ps i p h)
     ∙ ap (λ (q : Product). factor_total (product_of q ∷ products_at (drop (i + 1) ps))) (sym e)
 
--- one more product adds its size, where the limit isn't passed
+-- one more product adds its size, if the limit isn't passed
 pub total-step : (ps : List Product) (i : ℕ) (p : Product) (total here after : ℕ) → i < length ps
     → p ≡ get_or ps i p → IsTotalSoFar ps i total → here ≡ min (1 + factor_nodes (product_of p).factors) (2 ^ 64 - 1)
     → after ≡ min (total + here) (2 ^ 64 - 1) → after ≤ comparison_limit → IsTotalSoFar ps (i + 1) after
@@ -66,7 +66,7 @@ total-step ps i p total here after h e so_far is_here is_after low =
     let small = so_far.low in
     record { whole = omega (arith, more, whole, small); low = low }
 
--- and where it is passed, the size of all is above it
+-- if the limit is passed, the size of all products is above it
 pub total-passed : (ps : List Product) (i : ℕ) (p : Product) (total here after : ℕ) → i < length ps
     → p ≡ get_or ps i p → IsTotalSoFar ps i total → here ≡ min (1 + factor_nodes (product_of p).factors) (2 ^ 64 - 1)
     → after ≡ min (total + here) (2 ^ 64 - 1) → comparison_limit < after
@@ -77,7 +77,7 @@ total-passed ps i p total here after h e so_far is_here is_after high =
     let small = so_far.low in
     omega (arith, more, whole, small)
 
--- all products have been passed
+-- after all products, the size is that of all
 pub total-all : (ps : List Product) (i total : ℕ) → length ps ≤ i → IsTotalSoFar ps i total
     → total ≡ min (factor_total (products_at ps)) (comparison_limit + 1)
 total-all ps i total h so_far =
@@ -86,7 +86,7 @@ total-all ps i total h so_far =
     let small = so_far.low in
     omega (arith, none, whole, small)
 
--- the products from a place on have the quotient at the place, and those behind it
+-- the number of quotients from a position on is that at it and those after it
 pub count-more : (den : ℕ) (qs : List Product) (i : ℕ) (q : Product) (o : Option plain.Signed) → i < length qs
     → q ≡ get_or qs i q → numerator den (product_of q).times (product_of q).factors ≡ o
     → quotient_count den (products_at (drop i qs))
@@ -96,7 +96,7 @@ count-more den qs i q o h e is =
     ∙ ap (λ (r : Product). quotient_count den (product_of r ∷ products_at (drop (i + 1) qs))) (sym e)
     ∙ ap (λ (r : Option plain.Signed). (elim r [ None ↦ 0 | Some b ↦ 1 ]) + quotient_count den (products_at (drop (i + 1) qs))) is
 
--- whether a part, or one of the others, is a constant that is large enough
+-- whether a part, or one of the others, is a constant that is large enough, for one more part
 below-part : (n m : ℕ) (b : plain.Signed) (bs : SignedParts)
     → is_below_constant n m (Part b bs) ≡ (is_below_constant n m (Part b NoParts) || is_below_constant n m bs)
 below-part n m (Constant c) bs = go (nat_le n (m * c))
@@ -113,7 +113,7 @@ below-part n m (Quotient b d) bs = refl
 below-part n m (Root b) bs = refl
 below-part n m (PowerOf c e) bs = refl
 
--- the parts from a place on: the one at the place, or those behind it
+-- whether one of the parts from a position on is a constant that is large enough: the one at it, or one after it
 pub below-more : (n m : ℕ) (xs : List Signed) (i : ℕ) (x : Signed) (here : Bool) → i < length xs → x ≡ get_or xs i x
     → is_below_constant n m (Part (signed_of x) NoParts) ≡ here
     → is_below_constant n m (parts_of (signeds_of (drop i xs)))

@@ -9,7 +9,7 @@ use Rattle.signed_bounds.specs.Bounds.{PositivePart}
 use Rattle.signed_bounds.specs.Views.{signed_of}
 use Rattle.signed_bounds.specs.declared.signed.Signed.{Signed}
 
--- the list has the bound alone; or it isn't a list of one bound
+-- the list is that of this bound alone; or it isn't a list of one bound
 abbrev pub IsSingle : List plain.Signed → Option (Bor Signed) → Type 0
 IsSingle fs None = (b : plain.Signed) → fs ≢ b ∷ []
 IsSingle fs (Some r) = fs ≡ signed_of r.now ∷ []

@@ -9,7 +9,7 @@ use Rattle.signed_bounds.specs.Products.{constant_part_of}
 abbrev pub monomial_term : Monomial → Term
 monomial_term m = Multiplication (Literal m.coef) (product_term m.vars)
 
--- a polynomial n times as an expression
+-- a polynomial times n as an expression
 abbrev pub weighted_term : ℕ → Polynomial → Term
 weighted_term n p = Multiplication (Literal (pos n)) (polynomial_term p)
 

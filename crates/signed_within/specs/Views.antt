@@ -1,4 +1,4 @@
--- What contracts see of products: lists of products of plain bounds.
+-- Products of the code as plain data: products of plain bounds.
 use Rattle.std.specs.Prelude.{ℕ, List, [], ◌∷◌, map}
 use denote.Ref.{Bor}
 use Rattle.signed_bounds.specs.Bounds as plain
@@ -7,7 +7,7 @@ use Rattle.signed_bounds.specs.Views.{signed_of}
 use Rattle.signed_bounds.specs.declared.signed.Signed.{Signed}
 use Rattle.signed_within.specs.declared.product.Product.{Product}
 
--- the bounds to which references lead
+-- the bounds that references refer to
 abbrev pub signed_at : List (Bor Signed) → List plain.Signed
 signed_at refs = map (λ r. signed_of r.now) refs
 
@@ -19,7 +19,7 @@ product_of p = record { times = p.times; factors = signed_at p.factors.items }
 abbrev pub products_at : List Product → List products.Product
 products_at ps = map product_of ps
 
--- the factors of each product, as often as the number at its place says
+-- the factors of each product, as often as the number at its position says
 abbrev pub counted : List Product → List ℕ → List products.Product
 counted [] ns = []
 counted (p ∷ ps) [] = []

@@ -15,29 +15,30 @@ use crate::whole::fits_whole;
 use poly_terms::Memory;
 use std::alloc::Global;
 
-/// What is left of a product, and of one that it is taken from.
+/// The number of times that a product is still needed, and the number left of the product that it was taken from.
 #[derive(Clone, Copy)]
 struct Taken {
     missing: u128,
     left: u128,
 }
 
-/// What is left of a product, and of each of those that it is taken from.
+/// The number of times that a product is still needed, and the number left of each product that it was taken from.
 #[derive(Drop)]
 struct Used {
     missing: u128,
     left: Vec<u128>,
 }
 
-/// What is left of each of the first products, and of each of the second.
+/// The number left of each of the first products, and of each of the second.
 #[derive(Drop)]
 struct Remainder {
     missing: Vec<u128>,
     left: Vec<u128>,
 }
 
-/// Whether the sum of the first products is at most that of the second: equal products are used up first, and each
-/// product that is left is found among those left of the second. Sums that are too large together aren't compared.
+/// Whether the sum of the first products is at most that of the second: equal products are taken first, and each
+/// product left of the first is then taken from those left of the second. Sums that are too large together aren't
+/// compared.
 ///
 /// # Errors
 ///
@@ -63,7 +64,7 @@ fn times(alloc: Global, products: &[Product]) -> Result<Vec<u128>, Memory>
     Ok(numbers)
 }
 
-// What is left of two lists of products once equal ones are used up.
+// The numbers left of two lists of products after equal ones were taken.
 fn without_equal(alloc: Global, ps: &[Product], qs: &[Product]) -> Result<Remainder, Memory>
     ensures { IfOk result (λ r. AreEqualUsed ps.now qs.now r.missing.items r.left.items) }
 {
@@ -77,7 +78,7 @@ fn without_equal(alloc: Global, ps: &[Product], qs: &[Product]) -> Result<Remain
     Ok(Remainder { missing, left })
 }
 
-// Whether each product that is left of the first list is found in the second and used up there.
+// Whether each product left of the first list can be taken from those left of the second.
 fn dominated(
     alloc: Global,
     ps: &[Product],
@@ -100,7 +101,7 @@ fn dominated(
     Ok(true)
 }
 
-// What is left of products once n times a product is taken from them.
+// The numbers left of products after n times a product was taken from them; none if that is not possible.
 fn without_product(
     alloc: Global,
     p: &Product,
@@ -118,7 +119,8 @@ fn without_product(
     without_whole(alloc, p, n, qs, left)
 }
 
-// What is left once the first product that as a whole is at least n times the product is used up.
+// The numbers left after the first product that as a whole is at least n times the product was used up; none if there
+// is none.
 fn without_whole(
     alloc: Global,
     p: &Product,
@@ -139,7 +141,7 @@ fn without_whole(
     }
 }
 
-// Whether so many of another product as a whole are at least n times the product.
+// Whether `m` times another product as a whole is at least n times the product.
 fn is_enough_whole(
     alloc: Global,
     n: u128,
@@ -153,7 +155,7 @@ fn is_enough_whole(
     fits_whole(alloc, n, &p.factors, left, &q.factors)
 }
 
-// The position of the first product that as a whole is at least n times the product.
+// The position of the first product that as a whole is at least n times the product, if there is one.
 fn whole_position(
     alloc: Global,
     p: &Product,
@@ -173,7 +175,7 @@ fn whole_position(
     Ok(None)
 }
 
-// Takes n times a product from all those whose factors pass the test, from the first one on.
+// Takes n times a product from all products whose factors pass the test, the first ones first.
 fn use_up(
     alloc: Global,
     test: Test,
@@ -198,7 +200,7 @@ fn use_up(
     })
 }
 
-// Takes n times a product from so many of another, where the factors pass the test.
+// Takes n times a product from the copies of another one, if the factors pass the test.
 fn take_from(
     alloc: Global,
     test: Test,

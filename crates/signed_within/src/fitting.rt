@@ -80,7 +80,7 @@ pub fn fits(alloc: Global, a: &Signed, b: &Signed) -> Result<bool, Memory>
     }
 }
 
-// Whether the two lists are as long, and each part is at most the one at its place.
+// Whether the two lists have the same length, and each part is at most the one at its position.
 #[cycle(fits)]
 fn all_fit(alloc: Global, parts: &[Signed], others: &[Signed]) -> Result<bool, Memory>
     ensures { IfOk result (λ r. r ≡ are_fitting expands (parts_of (signeds_of parts.now)) (parts_of (signeds_of others.now))) }
@@ -112,7 +112,7 @@ pub fn is_equal(alloc: Global, a: &Signed, b: &Signed) -> Result<bool, Memory>
     fits(alloc, b, a)
 }
 
-/// Whether `a` is at most `b`, or at most one of its parts where that is a maximum, by its shape.
+/// Whether `a` is at most `b` by its shape, or at most one of the parts of `b` if that is a maximum.
 ///
 /// # Errors
 ///

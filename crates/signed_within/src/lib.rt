@@ -1,9 +1,8 @@
-//! Whether a number that is at most one signed bound, a number of times, is at most another: the comparison `within` of
-//! signed bounds.
+//! The comparison `within` of signed bounds: whether each n with n * den at most one bound is at most another.
 //!
 //! Builds on `signed_bounds` (bounds and the comparison's definition) and `poly_terms` (expanding). Main guarantee:
-//! `is_within` answers exactly what the definition says, its limits first, and `expands_to_squares` whether an expression
-//! expands to a sum of squares.
+//! `is_within` answers exactly what the definition says, its limits first, and `expands_to_squares` whether an
+//! expression expands to a sum of squares.
 #![tactic(auto)]
 
 mod constants;

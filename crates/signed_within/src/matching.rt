@@ -1,4 +1,4 @@
-//! Factors that take one another.
+//! Matches factors: each factor of a list takes one of another list.
 
 ghost use Rattle.std.specs.Prelude.{◌≡◌, IfOk};
 ghost use Rattle.signed_bounds.specs.Views.{signed_of};
@@ -12,7 +12,7 @@ use poly_terms::Memory;
 use signed_bounds::Signed;
 use std::alloc::Global;
 
-/// Whether each of the first factors takes one of the second, in turn, and none of these is left.
+/// Whether each of the first factors takes one of the second, in turn, and none of the second is left over.
 ///
 /// # Errors
 ///
@@ -36,7 +36,7 @@ pub(crate) fn factors_match(
     Ok(left.is_empty())
 }
 
-// Takes the factor that a factor takes out of the others, and says whether there is one.
+// Removes the factor that a factor takes from the others, and returns whether there is one.
 fn take_one(
     alloc: Global,
     test: Test,
@@ -56,7 +56,7 @@ fn take_one(
     }
 }
 
-// The position of the factor that a factor takes.
+// The position of the factor that a factor takes, if there is one.
 fn position_taken(
     alloc: Global,
     test: Test,
@@ -76,7 +76,7 @@ fn position_taken(
     }
 }
 
-// The position of the first factor that passes the test.
+// The position of the first factor that passes the test, if there is one.
 fn first_taken(
     alloc: Global,
     test: Test,
@@ -94,7 +94,7 @@ fn first_taken(
     Ok(None)
 }
 
-// Whether a factor may take another one alone.
+// Whether a factor may take another one, by the test.
 fn takes(alloc: Global, test: Test, factor: &Signed, other: &Signed) -> Result<bool, Memory>
     ensures { IfOk result (λ r. r ≡ may_take test (signed_of factor.now) (signed_of other.now)) }
 {

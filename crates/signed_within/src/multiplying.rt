@@ -52,7 +52,7 @@ fn part_product<'a>(alloc: Global, part: &'a Signed, p: &Poly) -> Result<Product
     }
 }
 
-// A product alone.
+// A list of one product.
 fn one_product<'a>(alloc: Global, only: Product<'a>) -> Result<Vec<Product<'a>>, Memory>
     ensures { IfOk result (λ ps. products_at ps.items ≡ product_of only.entry ∷ []) }
 {
@@ -124,7 +124,7 @@ fn push_joined<'a>(
     Ok(())
 }
 
-/// Appends products, each `n` times as often.
+/// Appends the products, each `n` times as often.
 ///
 /// # Errors
 ///

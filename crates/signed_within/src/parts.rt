@@ -1,4 +1,4 @@
-//! The parts of a bound, by its kind.
+//! The parts of a bound, by its kind, for the comparison of shapes.
 
 ghost use Rattle.std.specs.Prelude.{◌≡◌, ℕ, false, MatchOption};
 ghost use Rattle.poly_terms.specs.Views.{poly_of};
@@ -13,7 +13,7 @@ ghost use Rattle.signed_bounds.specs.Fits.{fits};
 use poly_terms::Poly;
 use signed_bounds::Signed;
 
-/// The number of a constant; no constant fits another bound.
+/// The number of a constant; a bound of another kind has none, and a constant fits only constants.
 pub(crate) fn constant(b: &Signed) -> Option<u128>
     ensures { MatchOption result ((m : ℕ) → fits expands (Constant m) (signed_of b.now) ≡ false)
         (λ n. signed_of b.now ≡ Constant n) }
@@ -31,7 +31,7 @@ pub(crate) fn constant(b: &Signed) -> Option<u128>
     }
 }
 
-/// The polynomial of a positive part; no positive part fits another bound.
+/// The polynomial of a positive part; a bound of another kind has none, and a positive part fits only positive parts.
 pub(crate) fn polynomial(b: &Signed) -> Option<&Poly>
     ensures { MatchOption result ((f : Polynomial) → fits expands (PositivePart f) (signed_of b.now) ≡ false)
         (λ p. signed_of b.now ≡ PositivePart (poly_of p.now)) }
@@ -49,7 +49,7 @@ pub(crate) fn polynomial(b: &Signed) -> Option<&Poly>
     }
 }
 
-/// The parts of a sum; no sum fits another bound.
+/// The parts of a sum; a bound of another kind has none, and a sum fits only sums.
 pub(crate) fn sum_parts(b: &Signed) -> Option<&[Signed]>
     ensures { MatchOption result ((ps : SignedParts) → fits expands (SumOf ps) (signed_of b.now) ≡ false)
         (λ bs. signed_of b.now ≡ SumOf (parts_of (signeds_of bs.now))) }
@@ -67,7 +67,7 @@ pub(crate) fn sum_parts(b: &Signed) -> Option<&[Signed]>
     }
 }
 
-/// The parts of a product; no product fits another bound.
+/// The parts of a product; a bound of another kind has none, and a product fits only products.
 pub(crate) fn product_parts(b: &Signed) -> Option<&[Signed]>
     ensures { MatchOption result ((ps : SignedParts) → fits expands (ProductOf ps) (signed_of b.now) ≡ false)
         (λ bs. signed_of b.now ≡ ProductOf (parts_of (signeds_of bs.now))) }
@@ -85,7 +85,7 @@ pub(crate) fn product_parts(b: &Signed) -> Option<&[Signed]>
     }
 }
 
-/// The parts of a maximum; no maximum fits another bound.
+/// The parts of a maximum; a bound of another kind has none, and a maximum fits only maxima.
 pub(crate) fn parts_of_maximum(b: &Signed) -> Option<&[Signed]>
     ensures { MatchOption result ((ps : SignedParts) → fits expands (MaximumOf ps) (signed_of b.now) ≡ false)
         (λ bs. signed_of b.now ≡ MaximumOf (parts_of (signeds_of bs.now))) }
@@ -103,7 +103,7 @@ pub(crate) fn parts_of_maximum(b: &Signed) -> Option<&[Signed]>
     }
 }
 
-/// The first part and the others of a minimum; no minimum fits another bound.
+/// The first part and the others of a minimum; a bound of another kind has none, and a minimum fits only minima.
 pub(crate) fn minimum_parts(b: &Signed) -> Option<(&Signed, &[Signed])>
     ensures { MatchOption result
         ((p : plain.Signed) (ps : SignedParts) → fits expands (MinimumOf p ps) (signed_of b.now) ≡ false)
@@ -122,7 +122,7 @@ pub(crate) fn minimum_parts(b: &Signed) -> Option<(&Signed, &[Signed])>
     }
 }
 
-/// The numerator and the divisor of a quotient; no quotient fits another bound.
+/// The numerator and the divisor of a quotient; a bound of another kind has none, and a quotient fits only quotients.
 pub(crate) fn quotient(b: &Signed) -> Option<(&Signed, u128)>
     ensures { MatchOption result
         ((p : plain.Signed) (m : ℕ) → fits expands (Quotient p m) (signed_of b.now) ≡ false)
@@ -141,7 +141,7 @@ pub(crate) fn quotient(b: &Signed) -> Option<(&Signed, u128)>
     }
 }
 
-/// What a root is of; no root fits another bound.
+/// The bound under a root; a bound of another kind has none, and a root fits only roots.
 pub(crate) fn radicand(b: &Signed) -> Option<&Signed>
     ensures { MatchOption result ((p : plain.Signed) → fits expands (Root p) (signed_of b.now) ≡ false)
         (λ r. signed_of b.now ≡ Root (signed_of r.now)) }
@@ -159,7 +159,7 @@ pub(crate) fn radicand(b: &Signed) -> Option<&Signed>
     }
 }
 
-/// The base and the exponent of a power; no power fits another bound.
+/// The base and the exponent of a power; a bound of another kind has none, and a power fits only powers.
 pub(crate) fn power(b: &Signed) -> Option<(u64, &Signed)>
     ensures { MatchOption result
         ((m : ℕ) (p : plain.Signed) → fits expands (PowerOf m p) (signed_of b.now) ≡ false)

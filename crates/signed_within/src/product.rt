@@ -90,7 +90,7 @@ pub(crate) fn scaled_once_less<'a>(
     })
 }
 
-// The numerator of a product that is a quotient by `den` alone, taken at least once.
+// The numerator of a product that is just a quotient by `den`, and occurs at least once.
 pub(crate) fn numerator<'a>(den: u128, q: &Product<'a>) -> Option<&'a Signed>
     ensures { IsNumerator den (product_of q.now) result }
 {
@@ -111,8 +111,8 @@ pub(crate) fn is_comparable(ps: &[Product], qs: &[Product]) -> bool
     factor_total(ps).saturating_mul(factor_total(qs)) <= COMPARISON_LIMIT
 }
 
-// The size of a sum of products, or `COMPARISON_LIMIT` + 1 where it is greater. It looks at no product behind the one
-// with which the size passes that limit.
+// The size of a sum of products, or `COMPARISON_LIMIT` + 1 if it is greater. It stops at the product with which the
+// size passes that limit.
 fn factor_total(products: &[Product]) -> u64
     ensures { result ≡ min (total_of (products_at products.now)) (comparison_limit + 1) }
 {

@@ -1,4 +1,4 @@
-//! What a bound is multiplied out into, by number.
+//! The numbers of products that a bound is multiplied out into.
 
 ghost use Rattle.std.specs.Prelude.{◌≡◌, ◌*◌, ◌-◌, ◌^◌, min};
 ghost use Rattle.signed_bounds.specs.Views.{signed_of, signeds_of, parts_of};
@@ -6,20 +6,30 @@ ghost use Rattle.signed_bounds.specs.Products.{product_count as count_of, produc
 ghost use Rattle.signed_bounds.specs.Products.{product_count_of_product as count_of_product, number_sum as sum_of};
 ghost use Rattle.signed_bounds.specs.Products.{number_sum_of_sum as sum_of_sum, number_sum_of_product as sum_of_product};
 ghost use Rattle.signed_bounds.specs.Products.{is_multipliable as is_limited, at_least_1 as one_at_least};
+ghost use Rattle.signed_bounds.specs.Products.{is_expandable as are_few};
 
 use crate::constants::constant_part;
-use signed_bounds::{CONSTANT_LIMIT, PRODUCT_LIMIT, Signed};
+use signed_bounds::{CONSTANT_LIMIT, EXPANSION_LIMIT, PRODUCT_LIMIT, Signed};
 
-/// Whether a bound is multiplied out within the limits: into at most `PRODUCT_LIMIT` products, and with numbers that
-/// are at most `CONSTANT_LIMIT` also `times` times.
+/// Whether a bound is multiplied out within the limits: into at most `PRODUCT_LIMIT` products, of which the number times
+/// that of the bound's nodes is at most `EXPANSION_LIMIT`, and with numbers that, times `times`, are at most
+/// `CONSTANT_LIMIT`.
 pub fn is_multipliable(times: u128, bound: &Signed) -> bool
     ensures { result ≡ is_limited times (signed_of bound.now) }
 {
-    product_count(bound) <= PRODUCT_LIMIT
-        && number_sum(bound).saturating_mul(times) <= CONSTANT_LIMIT
+    is_expandable(bound) && number_sum(bound).saturating_mul(times) <= CONSTANT_LIMIT
 }
 
-// The number of products, or the maximum number of its type where it is greater.
+// Whether a bound is multiplied out into at most `PRODUCT_LIMIT` products, and so that their number times that of its
+// nodes is at most `EXPANSION_LIMIT`.
+fn is_expandable(bound: &Signed) -> bool
+    ensures { result ≡ are_few (signed_of bound.now) }
+{
+    let count = product_count(bound);
+    count <= PRODUCT_LIMIT && count.saturating_mul(bound.node_count()) <= EXPANSION_LIMIT
+}
+
+// The number of products that a bound is multiplied out into, or the maximum number of its type if that is greater.
 #[cycle(count)]
 fn product_count(bound: &Signed) -> u64
     ensures { result ≡ min (count_of (signed_of bound.now)) (2 ^ 64 - 1) }
@@ -59,7 +69,7 @@ fn count_in_product(parts: &[Signed]) -> u64
     count
 }
 
-// The sum of the numbers, or the maximum number of its type where it is greater.
+// The sum of the numbers of these products, or the maximum number of its type if that is greater.
 #[cycle(sum)]
 fn number_sum(bound: &Signed) -> u128
     ensures { result ≡ min (sum_of (signed_of bound.now)) (2 ^ 128 - 1) }
@@ -77,7 +87,7 @@ fn number_sum(bound: &Signed) -> u128
     }
 }
 
-// A number, where 0 and no number count as 1.
+// A number; 0, or no number, counts as 1.
 fn at_least_1(number: Option<u128>) -> u128
     ensures { result ≡ one_at_least number }
 {

@@ -1,10 +1,10 @@
-//! How a factor takes another one.
+//! The tests by which a factor takes another one.
 
-/// Which factors a factor may take.
+/// The test by which a factor may take another one.
 #[derive(Clone, Copy, Debug, PartialEq, Eq)]
 pub(crate) enum Test {
-    /// Equal ones.
+    /// It takes an equal one.
     Equal,
-    /// An equal one where there is one, else one that it fits.
+    /// It takes an equal one if there is one, else one that it fits.
     Fitting,
 }

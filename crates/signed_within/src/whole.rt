@@ -22,16 +22,16 @@ use std::alloc::Global;
 /// The polynomial whose positive part a product of factors is.
 #[derive(Clone, Copy)]
 pub(crate) enum Whole<'a> {
-    /// The polynomial 1: there is no factor.
+    /// The polynomial 1: there are no factors.
     One,
-    /// The polynomial of the only factor.
+    /// The polynomial of the only factor, a positive part.
     Polynomial(&'a Poly),
     /// There is no such polynomial.
     Other,
 }
 
-/// Whether `n` times the factors are at most `m` times the others as a whole: a number or a polynomial each, or a number
-/// and a maximum with a constant that is large enough.
+/// Whether `n` times the factors are at most `m` times the others as a whole: a number or a polynomial each, or a
+/// number and a maximum with a constant that is large enough.
 ///
 /// # Errors
 ///
@@ -51,7 +51,7 @@ pub(crate) fn fits_whole(
     Ok(fits_maximum(n, factors, m, others))
 }
 
-// Whether `n` times the first is at most `m` times the second, where each is a number or a polynomial.
+// Whether `n` times the first is at most `m` times the second, if each is a polynomial.
 fn fits_polynomial(
     alloc: Global,
     n: u128,
@@ -80,7 +80,7 @@ fn fits_polynomial(
     }
 }
 
-// The polynomial that the product of factors is: 1 where there is none, and a positive part alone.
+// The polynomial whose positive part is the product of the factors: 1 if there are none, or that of the only factor.
 fn whole_polynomial<'a>(factors: &[&'a Signed]) -> Whole<'a>
     ensures { IsWhole (signed_at factors.now) result }
 {
@@ -118,7 +118,7 @@ fn fits_maximum(n: u128, factors: &[&Signed], m: u128, others: &[&Signed]) -> bo
     }
 }
 
-// The only factor of a product.
+// The only factor of a product, if there is just one.
 pub(crate) fn single<'a>(factors: &[&'a Signed]) -> Option<&'a Signed>
     ensures { IsSingle (signed_at factors.now) result }
 {
@@ -159,7 +159,7 @@ fn is_below_constant(n: u128, m: u128, parts: &[Signed]) -> bool
     false
 }
 
-// Whether `n` is at most `m` times the part, where that is a constant.
+// Whether `n` is at most `m` times the part, if the part is a constant.
 fn is_below_part(n: u128, m: u128, part: &Signed) -> bool
     ensures { result ≡ lies_below_constant n m (Part (signed_of part.now) NoParts) }
 {

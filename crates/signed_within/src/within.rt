@@ -1,17 +1,19 @@
-//! Whether a number that is at most one bound, a number of times, is at most another.
+//! The comparison `within`: whether each n with n * den at most one bound is at most another.
 
-ghost use Rattle.std.specs.Prelude.{◌≡◌, ◌*◌, ◌≤◌, ◌<◌, [], take, drop, length, IfOk};
+ghost use Rattle.std.specs.Prelude.{◌≡◌, ◌&&◌, ◌==◌, ◌*◌, ◌≤◌, ◌<◌, [], take, drop, length, IfOk};
 ghost use Rattle.signed_bounds.specs.Limits.{constant_limit};
 ghost use Rattle.signed_bounds.specs.Views.{signed_of};
 ghost use Rattle.signed_bounds.specs.Safe.{expands_to_squares as expands};
+ghost use Rattle.signed_bounds.specs.Fits.{fits as fits_by_shape};
 ghost use Rattle.signed_bounds.specs.Products.{times_sum};
-ghost use Rattle.signed_bounds.specs.Within.{within, is_covered_rounded as is_rounded};
+ghost use Rattle.signed_bounds.specs.Within.{within, is_covered as is_covered_by_products, is_covered_rounded as is_rounded};
 ghost use Rattle.signed_bounds.specs.Within.{is_covered_by_quotient as is_quotient};
 ghost use Rattle.signed_bounds.specs.Within.{quotient_count as count_of_quotients};
 ghost use Rattle.signed_within.specs.Views.{products_at};
 ghost use Rattle.signed_within.specs.Numerators.{is_covered_at};
 
 use crate::covering::covers;
+use crate::fitting::fits;
 use crate::multiplying::{products_of, push_scaled};
 use crate::product::{Product, number, numerator, scaled_once_less};
 use crate::sizes::is_multipliable;
@@ -19,12 +21,12 @@ use poly_terms::Memory;
 use signed_bounds::{QUOTIENT_LIMIT, Signed};
 use std::alloc::Global;
 
-/// Whether each number that is at most `a`, `den` times, is at most `b`, at all start values, as the comparison
-/// `within` decides it: both are multiplied out into sums of products, and the products of `a` have to be found among
-/// those of `b`, `den` times, with `den` - 1 more for rounding, or among those of one of at most `QUOTIENT_LIMIT`
-/// quotients by `den` in `b`.
+/// Whether each n with n * `den` at most `a` is at most `b`, at all start values, as the comparison `within` decides
+/// it: if `den` is 1, by the shape of both bounds; or both are multiplied out into sums of products, and the products of
+/// `a` have to be found among those of `b`, `den` times, with `den` - 1 more for rounding, or among those of one of at
+/// most `QUOTIENT_LIMIT` quotients by `den` in `b`.
 ///
-/// A yes means that it is so; a no doesn't mean that it isn't.
+/// `true` means that it is so; `false` doesn't mean that it isn't.
 ///
 /// # Errors
 ///
@@ -32,6 +34,27 @@ use std::alloc::Global;
 pub fn is_within(alloc: Global, den: u128, a: &Signed, b: &Signed) -> Result<bool, Memory>
     requires { 1 ≤ den }
     ensures { IfOk result (λ r. r ≡ within expands den (signed_of a.now) (signed_of b.now)) }
+{
+    if fits_once(alloc, den, a, b)? {
+        return Ok(true);
+    }
+    is_covered(alloc, den, a, b)
+}
+
+// Whether `den` is 1 and `a` is at most `b` by its shape.
+fn fits_once(alloc: Global, den: u128, a: &Signed, b: &Signed) -> Result<bool, Memory>
+    ensures { IfOk result (λ r. r ≡ ((den == 1) && fits_by_shape expands (signed_of a.now) (signed_of b.now))) }
+{
+    if den != 1 {
+        return Ok(false);
+    }
+    fits(alloc, a, b)
+}
+
+// Whether so it is by the products of both.
+fn is_covered(alloc: Global, den: u128, a: &Signed, b: &Signed) -> Result<bool, Memory>
+    requires { 1 ≤ den }
+    ensures { IfOk result (λ r. r ≡ is_covered_by_products expands den (signed_of a.now) (signed_of b.now)) }
 {
     if !is_multipliable(1, a) || !is_multipliable(den, b) {
         return Ok(false);
@@ -47,7 +70,7 @@ pub fn is_within(alloc: Global, den: u128, a: &Signed, b: &Signed) -> Result<boo
     is_covered_by_quotient(alloc, den, &ps, &qs)
 }
 
-// The number of products that are a quotient by `den` alone, taken at least once.
+// The number of products that are just a quotient by `den`, and occur at least once.
 fn quotient_count(den: u128, qs: &[Product]) -> usize
     ensures { result ≡ count_of_quotients den (products_at qs.now) }
 {
@@ -96,7 +119,8 @@ fn is_covered_by_quotient(
     Ok(false)
 }
 
-// Whether the product at a position is such a quotient.
+// Whether the product at a position is a quotient by `den`, and the sum is covered by its numerator and `den` times all
+// others.
 fn is_covered_from(
     alloc: Global,
     den: u128,

@@ -33,7 +33,7 @@ pub record IsTableauOf (p : LinearProgram) (t : Tableau) : Type 0 where
       → t.entry (cost_row p q) j ≡ t.scale (cost_row p q) *ℤ cost p q j +ℤ sum_to p.rows (λ k. weight p t q k *ℤ equation p k j)
   pub back : (x : ℕ → ℤ) (d : ℤ) → SolvesRows p t x d → SolvesEquations p x d
 
--- two numbers are the same or not
+-- Two numbers are equal, or they aren't.
 pub same_or_other : (i k : ℕ) → (i ≡ k) ⊎ (i ≢ k)
 same_or_other i k = go (eqb_tells i k)
   where

@@ -41,7 +41,7 @@ pub mod Scalings
 pub mod WholeAnswers
 pub mod OneWholeAnswer
 pub mod SmallRows
--- the lemmas of the crates below, which callers name through this one
+-- The lemmas of the crates below, which callers name through this one.
 pub use Rattle.int_laws.proofs as int_laws
 pub use Rattle.linear_forms.proofs as linear_forms
 pub mod ColumnTableLaws

@@ -1,4 +1,4 @@
--- what the contracts of this crate, and of those above it, cite
+-- The specs that contracts of this crate and of other crates cite.
 pub mod Tableau
 pub mod Bland
 pub mod Problem
@@ -6,9 +6,9 @@ pub mod Outcome
 pub mod Agreement
 pub mod Scaling
 pub mod HitsLimit
--- laws, and values that were worked out by hand
+-- Laws and worked values.
 pub mod Laws
--- the machinery of the functions inside and of the proofs
+-- The definitions for the inner functions and the proofs.
 pub mod Search
 pub mod Sizes
 pub mod Positions
@@ -22,6 +22,6 @@ pub mod TableClauses
 pub mod Halts
 pub mod Numbers
 pub mod Building
--- the crates below, which callers name through this one
+-- The crates below, which callers name through this one.
 pub use Rattle.int_laws.specs as int_laws
 pub use Rattle.linear_forms.specs as linear_forms

@@ -31,7 +31,7 @@ pub enum Answer {
 ///
 /// # Errors
 ///
-/// `AllocError` where an allocation fails.
+/// `AllocError` if an allocation fails.
 pub fn solve_scaled(alloc: Global, problem: &Problem, pivots: u32) -> Result<Answer, AllocError>
     requires { IsProper problem.now }
     ensures { IfOk result (λ answer. IsWholeAnswer (program_of problem.now) pivots answer) }

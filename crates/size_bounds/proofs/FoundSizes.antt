@@ -24,14 +24,14 @@ use Rattle.size_bounds.specs.SizeAnswers.{IsSpreadAnswer, IsCycleAnswer}
 use Rattle.size_bounds.specs.Tables.{table_of, bounds_in, number_at}
 use Rattle.size_bounds.proofs.TablesByKey.{table_by_key}
 
--- a node that is another one, which is accepted and states some facts, is accepted and states them
+-- a node that is equal to one that is accepted and states some facts is accepted and states them
 same_node : (s : Setting) (past : List (List Fact)) (x y : tree.Proof) (facts : List Fact) → x ≡ y → Accepts s past y
     → facts_of s past y ≡ facts → Accepts s past x × (facts_of s past x ≡ facts)
 same_node s past x y facts e ok states = (subst (Accepts s past) (sym e) ok, ap (facts_of s past) e ∙ states)
 
 module _ (s : Setting) (past : List (List Fact)) (t : Table) (all : Bounds)
     (say : SayBounds s past (number_at t) (bounds_in t) all) where
-  -- of a place that doesn't loop
+  -- the node found for a place that doesn't loop is accepted, and states its facts
   spread_found : (m : Member) (node : Proof) (facts : Vec code.Fact Global)
       → IsSpreadAnswer s (over (bounds_in t)) (number_at t) m (answers.Found node facts)
       → Accepts s past (proof_of node) × (facts_of s past (proof_of node) ≡ facts_stated facts.items)
@@ -44,7 +44,7 @@ module _ (s : Setting) (past : List (List Fact)) (t : Table) (all : Bounds)
       (size_fact m.result_variable.rule m.result_variable.place (s.rewrite (spread_size s (over (bounds_in t)) m)) ok.shape.at.least)
       ∙ sym stated))
 
-  -- of the members of a loop
+  -- the node found for the members of a loop is accepted, and states its facts
   cycle_found : (members : List Member) (node : Proof) (facts : Vec code.Fact Global)
       → IsCycleAnswer s (over (bounds_in t)) (number_at t) members (answers.Found node facts)
       → Accepts s past (proof_of node) × (facts_of s past (proof_of node) ≡ facts_stated facts.items)

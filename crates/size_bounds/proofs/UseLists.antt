@@ -10,12 +10,12 @@ use Rattle.bound_fixpoint.specs.Needs.{once, cites}
 use Rattle.bound_fixpoint.proofs.CitedFacts.{in-once, once-in}
 use Rattle.size_bounds.specs.Lemmas.{with_other}
 
--- citations as uses
+-- citations as premises, in plain data
 pub cites_seen : (ns : List ℕ) → uses_of (map (λ n. Cite n) ns) ≡ cites ns
 cites_seen [] = refl
 cites_seen (n ∷ ns) = ap (λ (us : Proofs). AndProof (Cite n) us) (cites_seen ns)
 
--- one number more is kept exactly if it passes the test
+-- filtering a list with a number appended keeps the number exactly if it passes the test
 pub filter-append : (test : ℕ → Bool) (xs : List ℕ) (x : ℕ) → filter test (xs ++ x ∷ []) ≡ filter test xs ++ cond (test x) (x ∷ []) []
 filter-append test [] x = go (test x) refl
   where
@@ -29,7 +29,7 @@ filter-append test (y ∷ xs) x = go (test y) refl (filter-append test xs x)
     go true k h = rw k (ap (λ (zs : List ℕ). y ∷ zs) h)
     go false k h = rw k h
 
--- one number more, each once
+-- each number once, for a list with a number appended
 once-append : (xs : List ℕ) (n : ℕ) → once (xs ++ n ∷ []) ≡ cond (is_in n xs) (once xs) (once xs ++ n ∷ [])
 once-append [] n = refl
 once-append (m ∷ xs) n = go (n == m) refl (is_in n xs) refl (once-append xs n)
@@ -58,7 +58,7 @@ once-append (m ∷ xs) n = go (n == m) refl (is_in n xs) refl (once-append xs n)
             filter-append (λ i. not (i == m)) (once xs) n
             ∙ ap (λ (u : Bool). filter (λ i. not (i == m)) (once xs) ++ cond (not u) (n ∷ []) []) e
 
--- one lemma more, where it isn't 0 and isn't there
+-- the lemmas other than 0, each once, for a list with a lemma appended
 pub others-append : (xs : List ℕ) (n : ℕ)
     → with_other n (once (filter (λ i. not (i == 0)) xs)) ≡ once (filter (λ i. not (i == 0)) (xs ++ n ∷ []))
 others-append xs n = go (n == 0) refl

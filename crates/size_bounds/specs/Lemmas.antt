@@ -9,6 +9,6 @@ use Rattle.cert_types.specs.Views.{proof_of, uses_of}
 abbrev pub uses_of_proofs : List Proof → Proofs
 uses_of_proofs uses = uses_of (map proof_of uses)
 
--- a list with a number at its end, where it isn't 0 and isn't there
+-- a list with a number appended, if this isn't 0 and isn't in the list
 abbrev pub with_other : ℕ → List ℕ → List ℕ
 with_other n ns = cond (n == 0) ns (cond (is_in n ns) ns (ns ++ n ∷ []))

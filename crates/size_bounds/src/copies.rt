@@ -7,7 +7,7 @@ use bound_expr::Memory;
 use cert_types::{Member, copied_local};
 use std::alloc::Global;
 
-/// The same member.
+/// A copy of a member.
 ///
 /// # Errors
 ///

@@ -2,9 +2,9 @@
 
 ghost use Rattle.size_bounds.specs.Laws.{FoundSizesAreAccepted};
 
-/// Behind all lists of lemmas that state known bounds alone, and each bound of a table by the number that the table has
-/// of it, what `spread` and `cycle` find over the table is accepted, and states the facts found with it. Its contract
-/// is the law; it has no code.
+/// After any lists of lemmas that state only known bounds, and each bound of a table by its number in the table, the
+/// node that `spread` or `cycle` finds over the table is accepted, and states the facts found with it. The contract is
+/// the law; the function has no code.
 pub fn found_sizes_are_accepted()
     ensures { FoundSizesAreAccepted }
 {}

@@ -91,7 +91,7 @@ fn bound_in(stored: Option<&Stored>) -> Option<&Bound>
     }
 }
 
-// The number of its lemma.
+// The number of the lemma of an entry.
 fn lemma_in(stored: Option<&Stored>) -> u32
     ensures { result ≡ lemma_stored (optional_stored stored.entry) }
 {

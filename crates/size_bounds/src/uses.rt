@@ -110,7 +110,7 @@ fn others_once(alloc: Global, lemmas: &[u32]) -> Result<Vec<u32>, Memory>
     Ok(found)
 }
 
-// Appends a lemma, where it isn't 0 and isn't there, to a list and to the set of its numbers.
+// Appends a lemma to a list and to the set of its numbers, if it isn't 0 and isn't in the set.
 fn push_other(found: &mut Vec<u32>, seen: &mut BTreeSet<u32>, lemma: u32) -> Result<(), Memory>
     requires { HasJust seen.old found.old.items }
     ensures found { OnOk result (found.new.items ≡ with_other lemma found.old.items) }

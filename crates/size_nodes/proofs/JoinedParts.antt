@@ -11,7 +11,7 @@ use Rattle.cert_types.specs.Sizes.{joined}
 use Rattle.cert_types.proofs.Parts.{joined-nothing, joined_assoc, parts_of-more}
 use Rattle.size_nodes.specs.Growths.{offset_part, all_joined}
 use Rattle.cert_types.proofs.cert_rules.Flows.{factor-least}
-pub use Rattle.std.proofs.lemmas.Bool.{lt-ltb as less_told, le-ltb as not_less_told}
+pub use Rattle.std.proofs.lemmas.Bool.{lt-ltb as less_decided, le-ltb as not_less_decided}
 
 module _ {A : Type 0} (f : A → Parts) (xs : List A) (i : ℕ) where
   -- the parts of one more element

@@ -212,7 +212,7 @@ fn push_flows_into<K: Known>(
 ///
 /// # Errors
 ///
-/// `Memory` where an allocation fails.
+/// `Memory` if an allocation fails.
 pub(crate) fn flows_in<K: Known>(
     alloc: Global,
     transitions: &Transitions,

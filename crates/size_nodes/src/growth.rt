@@ -71,7 +71,7 @@ fn push_offset(
 ///
 /// # Errors
 ///
-/// `Memory` where an allocation fails.
+/// `Memory` if an allocation fails.
 pub(crate) fn maximum_offset(alloc: Global, flows: &[Flow], kind: FlowKind) -> Result<Bound, Memory>
     ensures { IfOk result (λ b. bound_of b ≡ MaximumOf (offsets (is_of kind) (map flow_of flows.now))) }
 {
@@ -124,7 +124,7 @@ fn growth_by(alloc: Global, flows: &[Flow], rule: u32) -> Result<Growth, Memory>
 ///
 /// # Errors
 ///
-/// `Memory` where an allocation fails.
+/// `Memory` if an allocation fails.
 pub(crate) fn growths_by(
     alloc: Global,
     flows: &[Flow],
@@ -145,7 +145,7 @@ pub(crate) fn growths_by(
 ///
 /// # Errors
 ///
-/// `Memory` where an allocation fails.
+/// `Memory` if an allocation fails.
 pub(crate) fn growing_rules(alloc: Global, growths: &[Growth]) -> Result<Vec<u32>, Memory>
     ensures { IfOk result (λ ts. ts.items ≡ growing_rule_numbers (map growth_of growths.now)) }
 {

@@ -102,7 +102,7 @@ fn sum<K: Known>(alloc: Global, known: &K, base: Bound, growths: &[Growth]) -> R
 ///
 /// # Errors
 ///
-/// `Memory` where an allocation fails.
+/// `Memory` if an allocation fails.
 pub(crate) fn loop_bound<K: Known>(
     alloc: Global,
     known: &K,

@@ -92,7 +92,7 @@ fn push_from(
 ///
 /// # Errors
 ///
-/// `Memory` where an allocation fails.
+/// `Memory` if an allocation fails.
 pub(crate) fn push_needed(
     alloc: Global,
     result_variables: &mut Vec<ResultVariable>,
@@ -122,7 +122,7 @@ pub(crate) fn push_needed(
 ///
 /// # Errors
 ///
-/// `Memory` where an allocation fails.
+/// `Memory` if an allocation fails.
 pub(crate) fn needed_result_variables(
     alloc: Global,
     transitions: &Transitions,
@@ -144,7 +144,7 @@ pub(crate) fn needed_result_variables(
 ///
 /// # Errors
 ///
-/// `Memory` where an allocation fails.
+/// `Memory` if an allocation fails.
 pub(crate) fn needed_alone(
     alloc: Global,
     transitions: &Transitions,

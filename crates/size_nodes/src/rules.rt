@@ -12,7 +12,7 @@ use std::alloc::Global;
 ///
 /// # Errors
 ///
-/// `Memory` where an allocation fails.
+/// `Memory` if an allocation fails.
 pub(crate) fn rules_in(alloc: Global, members: &[Member]) -> Result<Vec<u32>, Memory>
     ensures { IfOk result (λ rules. rules.items ≡ rules_after 0 (map member_of members.now)) }
 {

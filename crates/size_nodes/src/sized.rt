@@ -40,7 +40,7 @@ use std::alloc::Global;
 ///
 /// # Errors
 ///
-/// `Memory` where an allocation fails.
+/// `Memory` if an allocation fails.
 pub fn sized_spread<K: Known>(
     alloc: Global,
     g: &Graph,
@@ -98,7 +98,7 @@ fn sized_composed<K: Known>(
 ///
 /// # Errors
 ///
-/// `Memory` where an allocation fails.
+/// `Memory` if an allocation fails.
 pub fn sized_cycle<K: Known>(
     alloc: Global,
     g: &Graph,

@@ -13,7 +13,7 @@ use std::alloc::Global;
 ///
 /// # Errors
 ///
-/// `Memory` where an allocation fails.
+/// `Memory` if an allocation fails.
 pub fn size_facts(alloc: Global, members: &[Member], bound: &Bound) -> Result<Vec<Fact>, Memory>
     ensures { IfOk result (λ facts. facts_of facts.items ≡ cycle_facts (bound_of bound.now) (map member_of
         members.now)) }

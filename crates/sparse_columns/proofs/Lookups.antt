@@ -11,7 +11,7 @@ use Rattle.sparse_columns.specs.declared.cell.Cell.{Cell}
 use Rattle.sparse_columns.specs.Order.{IsAscending, IsBefore, IsFrom}
 use Rattle.sparse_columns.specs.Numbers.{alone, number_of, AreNumbers}
 
--- two numbers are the same or not
+-- Two numbers are equal, or they aren't.
 pub same_or_not : (k p : ℕ) → (k ≡ p) ⊎ (k ≢ p)
 same_or_not k p = go (nat_eq k p) refl
   where

@@ -61,7 +61,7 @@ impl Cells {
     ///
     /// # Errors
     ///
-    /// `AllocError` where an allocation fails.
+    /// `AllocError` if an allocation fails.
     pub fn put(&mut self, row: u32, value: i64) -> Result<bool, AllocError>
         ensures { IfOk result (λ is_put. is_put ≡ true → Puts self.old self.new row value) }
     {

@@ -39,7 +39,7 @@ impl Column {
     ///
     /// # Errors
     ///
-    /// `AllocError` where an allocation fails.
+    /// `AllocError` if an allocation fails.
     pub fn put(&mut self, row: u32, value: i64) -> Result<bool, AllocError>
         ensures { IfOk result (λ is_put. is_put ≡ true → PutsNumerator self.old self.new row value) }
     {
@@ -82,7 +82,7 @@ impl Column {
     ///
     /// # Errors
     ///
-    /// `AllocError` where an allocation fails.
+    /// `AllocError` if an allocation fails.
     pub fn shifted(&self, alloc: Global, row: u32) -> Result<Option<Cells>, AllocError>
         ensures { IfOk result (λ found. IfSome found (λ cells. (i : ℕ)
             → number cells i ≡ numerator self.now i -ℤ alone row self.now.den i)) }
@@ -99,7 +99,7 @@ impl Column {
     ///
     /// # Errors
     ///
-    /// `AllocError` where an allocation fails.
+    /// `AllocError` if an allocation fails.
     pub fn cleared(
         &self,
         alloc: Global,

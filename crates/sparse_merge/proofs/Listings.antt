@@ -7,7 +7,7 @@ use Rattle.std.proofs.lemmas.Bool.Decides.{eqb_tells}
 use Rattle.sparse_merge.specs.Listing.{listed, Ascends}
 use Rattle.sparse_merge.specs.Merging.{BeginsFrom}
 
--- two numbers are the same or not
+-- Two numbers are equal, or they aren't.
 pub same_or_other : (i k : ℕ) → (i ≡ k) ⊎ (i ≢ k)
 same_or_other i k = go (eqb_tells i k)
   where

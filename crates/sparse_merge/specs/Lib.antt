@@ -1,3 +1,3 @@
--- what the contracts of this crate, and of those above it, cite
+-- The specs that contracts of this crate and of other crates cite.
 pub mod Listing
 pub mod Merging

@@ -1,4 +1,4 @@
--- what the contracts of this crate, and of those above it, cite
+-- The specs that contracts of this crate and of other crates cite.
 pub mod Entries
 pub mod Rows
 pub mod Multiples

@@ -49,7 +49,7 @@ impl SparseRow {
     ///
     /// # Errors
     ///
-    /// `AllocError` where an allocation fails.
+    /// `AllocError` if an allocation fails.
     pub fn from_pairs(alloc: Global, pairs: &[(u32, Frac)]) -> Result<SparseRow, AllocError>
         requires { IsRow pairs.now }
         ensures { IfOk result (λ row. row ≡ pairs.now) }

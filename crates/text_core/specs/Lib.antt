@@ -8,16 +8,16 @@ pub mod Readers
 pub mod Faults
 pub mod Reading
 pub mod NameIndex
--- laws, and values that were worked out by hand
+-- Laws and worked values.
 pub mod Laws
 pub mod Worked
 pub mod WorkedLines
 pub mod WorkedReaders
--- the machinery of the functions inside and of the proofs
+-- The definitions for the inner functions and the proofs.
 pub mod Stopping
 pub mod Limits
 pub mod Inner
 pub mod Rows
 pub mod Lines
--- the crates below, which callers name through this one
+-- The crates below, which callers name through this one.
 pub use Rattle.model.specs as model

@@ -30,7 +30,7 @@ pub data Kind : Type 0 where
   TooLarge : Kind
   TooMany : Kind
 
--- the number of a kind
+-- The number of a kind of refusal.
 abbrev pub number_of : Kind → ℕ
 number_of Syntax = 1
 number_of TooLarge = 2

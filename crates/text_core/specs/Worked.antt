@@ -134,7 +134,7 @@ pub record RowsAreRead : Type 0 where
   pub one_row : OneTree rows
   pub one_first : OneFirst rows
 
--- all of it
+-- All worked values of this file.
 pub record WorkedValues : Type 0 where
   pub names : NamesAreWorkedOut
   pub positions : PositionsAreFound

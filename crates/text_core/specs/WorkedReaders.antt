@@ -107,7 +107,7 @@ pub record LimitsAreWorkedOut : Type 0 where
   pub any_front : ¬ ShowsNoLimit rows IsWithin (λ f ps. ⊤)
   pub no_front : ¬ ShowsNoLimit rows IsWithin (λ f ps. ⊥)
 
--- all of it
+-- All worked values of this file.
 pub record WorkedReaders : Type 0 where
   pub laws : LawsAreWorkedOut
   pub order : OrderIsWorked

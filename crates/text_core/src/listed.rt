@@ -20,7 +20,7 @@ impl<'a> NameIndex<'a> {
     ///
     /// # Errors
     ///
-    /// `Memory` where an allocation fails.
+    /// `Memory` if an allocation fails.
     pub fn new(alloc: Global, names: &'a [Name]) -> Result<NameIndex<'a>, Memory>
         requires { AreDistinct (map name_of names.now) }
         ensures { IfOk result (λ listed. names_in listed ≡ map name_of names.now) }

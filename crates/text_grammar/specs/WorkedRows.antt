@@ -96,7 +96,7 @@ pub record PartsAreWorked : Type 0 where
   pub none_comes : ¬ Come (between [] 1 []) (between [] 1 (pos (2 ^ 63) ∷ [])) (line_text (pos (2 ^ 63) ∷ []))
       (Puts (Line (pos (2 ^ 63) ∷ [])) ∷ [])
 
--- the refusal of a kind at a position
+-- The refusal of this kind at this position.
 abbrev pub refused : ℕ → ℕ → Answer Rows ℕ
 refused kind at = Refused (record { kind = kind; at = at })
 

@@ -21,7 +21,7 @@ comes_behind zs xs = come (fold_of signs_bytes) (numbers_of signs_bytes) (behind
 abbrev pub StandBehind : List ℤ → List (Part ℕ Numbered) → Type 0
 StandBehind zs xs = Stand (fold_of signs_bytes) (numbers_of signs_bytes) (behind_numbers zs) xs
 
--- the refusal of a kind at a position
+-- The refusal of this kind at this position.
 abbrev pub refused_as : ℕ → ℕ → Answer (List ℤ) ℕ
 refused_as kind at = Refused (record { kind = kind; at = at })
 

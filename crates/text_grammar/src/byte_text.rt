@@ -49,7 +49,7 @@ pub trait ByteText {
     ///
     /// # Errors
     ///
-    /// `AllocError` where an allocation fails.
+    /// `AllocError` if an allocation fails.
     fn natural(&mut self, number: u128) -> Result<(), AllocError>
         ensures same { bytes_of self.new ≡ bytes_of self.old }
         ensures known { OnOk result (own_of self.new ≡ (bytes_of self.old).natural number (own_of self.old)) };
@@ -58,7 +58,7 @@ pub trait ByteText {
     ///
     /// # Errors
     ///
-    /// `AllocError` where an allocation fails.
+    /// `AllocError` if an allocation fails.
     fn signed(&mut self, number: i128) -> Result<(), AllocError>
         ensures same { bytes_of self.new ≡ bytes_of self.old }
         ensures known { OnOk result (own_of self.new ≡ (bytes_of self.old).signed number (own_of self.old)) };
@@ -67,7 +67,7 @@ pub trait ByteText {
     ///
     /// # Errors
     ///
-    /// `AllocError` where an allocation fails.
+    /// `AllocError` if an allocation fails.
     fn line(&mut self, values: Vec<i128>) -> Result<(), AllocError>
         ensures same { bytes_of self.new ≡ bytes_of self.old }
         ensures known { OnOk result (own_of self.new ≡ (bytes_of self.old).line values.items (own_of self.old)) };
@@ -76,7 +76,7 @@ pub trait ByteText {
     ///
     /// # Errors
     ///
-    /// `AllocError` where an allocation fails.
+    /// `AllocError` if an allocation fails.
     fn done(&mut self, mark: u32) -> Result<(), AllocError>
         ensures same { bytes_of self.new ≡ bytes_of self.old }
         ensures known { OnOk result (own_of self.new ≡ (bytes_of self.old).done mark (own_of self.old)) };
@@ -114,7 +114,7 @@ pub trait ByteText {
     ///
     /// # Errors
     ///
-    /// `AllocError` where an allocation fails.
+    /// `AllocError` if an allocation fails.
     fn finish(self) -> Result<Self::Made, AllocError>
         ensures { IfOk result (λ made. tree_in made ≡ (bytes_of self).tree (own_of self)) };
 }

@@ -15,7 +15,7 @@ use std::alloc::{AllocError, Global};
 ///
 /// # Errors
 ///
-/// `AllocError` where an allocation fails.
+/// `AllocError` if an allocation fails.
 #[cycle(lead)]
 pub(crate) fn lead_of_nonterminal(
     alloc: Global,

@@ -11,7 +11,7 @@ use std::alloc::{AllocError, Global};
 ///
 /// # Errors
 ///
-/// `AllocError` where an allocation fails.
+/// `AllocError` if an allocation fails.
 pub fn rules_of<'a>(alloc: Global, items: &'a [Item]) -> Result<Vec<&'a [Item]>, AllocError>
     ensures { IfOk result (λ rules. rules_view rules.items ≡ rules_spelled items.now) }
 {

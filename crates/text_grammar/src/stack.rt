@@ -27,7 +27,7 @@ pub enum Meeting {
 ///
 /// # Errors
 ///
-/// `AllocError` where an allocation fails.
+/// `AllocError` if an allocation fails.
 pub fn meet(
     expected: &mut Vec<Symbol>,
     marks: &mut Vec<u32>,

@@ -29,7 +29,7 @@ impl<'a> Tables<'a> {
     ///
     /// # Errors
     ///
-    /// `AllocError` where an allocation fails.
+    /// `AllocError` if an allocation fails.
     pub fn new(
         alloc: Global,
         items: &'a [Item],
@@ -57,7 +57,7 @@ impl<'a> Tables<'a> {
     ///
     /// # Errors
     ///
-    /// `AllocError` where an allocation fails.
+    /// `AllocError` if an allocation fails.
     pub(crate) fn keep(&mut self, class: u32, number: u32) -> Result<(), AllocError>
         requires sound { IsSound self.old }
         requires class { class ≤ self.old.end }

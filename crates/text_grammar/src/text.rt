@@ -48,7 +48,7 @@ pub trait Text {
     ///
     /// # Errors
     ///
-    /// `AllocError` where an allocation fails.
+    /// `AllocError` if an allocation fails.
     fn did(&mut self, mark: u32) -> Result<(), AllocError>
         ensures same { text_of self.new ≡ text_of self.old }
         ensures known { OnOk result ((es : List (Event Self.Piece)) → Knows self.old es
@@ -59,7 +59,7 @@ pub trait Text {
     ///
     /// # Errors
     ///
-    /// `AllocError` where an allocation fails.
+    /// `AllocError` if an allocation fails.
     fn take(&mut self, token: Token<Self::Piece>) -> Result<Option<Fault<Self::Kind>>, AllocError>
         ensures same { text_of self.new ≡ text_of self.old }
         ensures known { OnOk result ((es : List (Event Self.Piece)) → Knows self.old es
@@ -83,7 +83,7 @@ pub trait Text {
     ///
     /// # Errors
     ///
-    /// `AllocError` where an allocation fails.
+    /// `AllocError` if an allocation fails.
     fn finish(self) -> Result<Self::Made, AllocError>
         ensures { (es : List (Event Self.Piece)) → Knows self es
             → IfOk result (λ made. Makes made ((text_of self).value (onto es []))) };

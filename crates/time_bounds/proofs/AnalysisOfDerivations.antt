@@ -1,4 +1,4 @@
--- What is found of a program is its analysis.
+-- The outcome that the code makes is the analysis of the program.
 use Rattle.std.proofs.Common.{◌≡◌, ℕ, suc, ◌+◌, ◌≤◌, List, [], ◌∷◌, length, map, refl, sym, ◌∙◌, ap, arith}
 use Rattle.std.specs.Option.{option_map}
 use Rattle.std.proofs.lemmas.List.{length-map}
@@ -19,7 +19,7 @@ use Rattle.time_bounds.specs.Analysis.{IsTimeOf, AreTimesOf, AreCostsOver, AreSi
 use Rattle.time_bounds.proofs.ReportEntries.{spendings_alike}
 use Rattle.time_bounds.proofs.RuleNumbers.{rule_within}
 
--- the entries over what is known with derivations are those of the derivations
+-- the entries over the bounds known with derivations are those of the derivations
 times-sound : (q : Searches) (p : Program) (fs : List Derivation) (k : ℕ) (times : List Time) → 1 ≤ k → length times + k ≤ length p.rules + 1
     → AreTimesOver q p (bounds_of p fs) k times → AreTimesOf q p fs k times
 times-sound q p fs k [] low high h = tt
@@ -32,7 +32,7 @@ times-sound q p fs k (x ∷ times) low high h =
       missing = e.0;
       target = TimeOf k;
       asked = (rule_within p k low (omega (arith, high)), refl);
-      tells = e.1;
+      is_answer = e.1;
     }
 
 -- an analysis over these derivations

@@ -34,7 +34,7 @@ use Rattle.bound_fixpoint.specs.Derivations.{RankBy}
 use Rattle.bound_fixpoint.specs.Needs.{rank_premises}
 use Rattle.outcome.specs.Reports.{TimeLarge}
 use Rattle.bound_fixpoint.specs.Searches.{Ranked, Unranked, NoBound, OfTime}
-use Rattle.bound_fixpoint.specs.Answers.{Answer, Found, Lacks, AnsweredQuestion, TellsRanking, TellsTime}
+use Rattle.bound_fixpoint.specs.Answers.{Answer, Found, Lacks, AnsweredQuestion, AnswersRanking, AnswersTime}
 use Rattle.bound_fixpoint.specs.Right.{IsRightRanking}
 use Rattle.bound_fixpoint.proofs.AcceptedRanks.{is_question}
 use Rattle.time_bounds.specs.declared.asking.AnsweredRankQuestion.{AnsweredRankQuestion}
@@ -48,18 +48,18 @@ pub use Rattle.model.proofs.Cases.{IfOk-both as both}
 -- a composed time that fits is what the node composes
 pub found-sound : (p : Program) (b : Bounds) (node : RankNode) (premises : List ResultVariable) (x : Bound)
     → Fits x ≡ rewritten_within (time_of p node (over b).time (over b).size) → premises ≡ rank_premises p node
-    → TellsRanking (setting_of p) b (Ranked node) (Found (RankBy node) premises x)
+    → AnswersRanking (setting_of p) b (Ranked node) (Found (RankBy node) premises x)
 found-sound p b node premises x e same =
     let h = (small-bounds.fits (time_of p node (over b).time (over b).size) x).0 (sym e) in (h.0, refl, same, h.1)
 
--- one that is too large gives none
+-- a composed time that is too large gives no time
 pub large-sound : (p : Program) (b : Bounds) (node : RankNode) (n : ℕ)
     → within.TooLarge n ≡ rewritten_within (time_of p node (over b).time (over b).size)
-    → TellsRanking (setting_of p) b (Ranked node) (Lacks (OfTime (TimeLarge n)))
+    → AnswersRanking (setting_of p) b (Ranked node) (Lacks (OfTime (TimeLarge n)))
 large-sound p b node n e =
     let h = (small-bounds.large (time_of p node (over b).time (over b).size) n).0 (sym e) in (h.0, ap (λ (n : ℕ). OfTime (TimeLarge n)) h.1)
 
--- a question that was answered is one of the relation
+-- an answered question of the code is one of the relation
 pub asked_of : (p : Program) (b : Bounds) (pivots : ℕ) (empties : List GuardFeasibility) (t : ℕ) (a : AnsweredRankQuestion) → AreEmptyAnswers p pivots empties
     → IsAsked p b t a → AnswersQuestion p pivots empties t a → AnsweredQuestion (searches_of_program p pivots) (setting_of p) b t
 asked_of p b pivots empties t a answers asked answered = record {
@@ -71,20 +71,20 @@ asked_of p b pivots empties t a answers asked answered = record {
   answered = (empties, answers, (a.answer, refl, answered.answer));
 }
 
--- the result of its answer is that on the time
+-- the result of an answer is the result on the rule's time
 pub time-sound : (p : Program) (b : Bounds) (pivots : ℕ) (empties : List GuardFeasibility) (t : ℕ) (a : AnsweredRankQuestion) (x : Answer)
     → AreEmptyAnswers p pivots empties → IsAsked p b t a → AnswersQuestion p pivots empties t a
-    → TellsRanking (setting_of p) b (ranking_of a.answer) x → TellsTime (searches_of_program p pivots) (setting_of p) b t x
+    → AnswersRanking (setting_of p) b (ranking_of a.answer) x → AnswersTime (searches_of_program p pivots) (setting_of p) b t x
 unfolding asked_of
-time-sound p b pivots empties t a x answers asked answered tells =
-    record { asked = asked_of p b pivots empties t a answers asked answered; tells = tells }
+time-sound p b pivots empties t a x answers asked answered is_answer =
+    record { asked = asked_of p b pivots empties t a answers asked answered; is_answer = is_answer }
 
--- the same for why it gives none
-pub missing_tells : (p : Program) (b : Bounds) (pivots : ℕ) (empties : List GuardFeasibility) (t : ℕ) (a : AnsweredRankQuestion)
+-- the reason that an answer gives is the result on the rule's time
+pub missing_reason_answered : (p : Program) (b : Bounds) (pivots : ℕ) (empties : List GuardFeasibility) (t : ℕ) (a : AnsweredRankQuestion)
     → AreEmptyAnswers p pivots empties → (m : IsMissing p b pivots empties t a)
-    → TellsTime (searches_of_program p pivots) (setting_of p) b t (Lacks m.why)
-missing_tells p b pivots empties t a answers m =
-    time-sound p b pivots empties t a (Lacks m.why) answers m.asked m.answered m.tells
+    → AnswersTime (searches_of_program p pivots) (setting_of p) b t (Lacks m.why)
+missing_reason_answered p b pivots empties t a answers m =
+    time-sound p b pivots empties t a (Lacks m.why) answers m.asked m.answered m.is_answer
 
 short_forms : (p : Program) (fs : List code.Form) → IsValid p → All (HasFormShape p) (map form_of fs) → All IsShort fs
 short_forms p [] v h = All-nil IsShort
@@ -115,27 +115,27 @@ answered_of p pivots t a empties set shut answers v rules e f g h =
 -- what is missing, by an answer that gives no time
 pub missing_of : (p : Program) (b : Bounds) (pivots : ℕ) (empties : List GuardFeasibility) (t : ℕ) (a : AnsweredRankQuestion) (answer : RankAnswer) (why : NoBound)
     → IsAsked p b t a → AnswersQuestion p pivots empties t a → a.answer ≡ answer
-    → TellsRanking (setting_of p) b (ranking_of answer) (Lacks why)
+    → AnswersRanking (setting_of p) b (ranking_of answer) (Lacks why)
     → IsMissing p b pivots empties t (record { set = a.set; shut = a.shut; answer = answer })
-missing_of p b pivots empties t a answer why asked answered e tells = record {
+missing_of p b pivots empties t a answer why asked answered e is_answer = record {
   asked = record { set = asked.set; shut = asked.shut };
   answered = record {
     answer = subst (λ (x : RankAnswer). IsRankAnswer (ranked_set p a.set.items t (places_of a.shut.items)) (places_of a.shut.items) pivots empties x) e answered.answer;
     shape = subst HasShape e answered.shape;
   };
   why = why;
-  tells = tells;
+  is_answer = is_answer;
 }
 
--- where a time is missing the composed one doesn't fit
+-- if a time is missing, the composed one doesn't fit
 pub missing_unfit : (p : Program) (b : Bounds) (pivots : ℕ) (empties : List GuardFeasibility) (t : ℕ) (a : AnsweredRankQuestion) (node : code_rank.RankNode) (x : Bound)
     → IsMissing p b pivots empties t a → a.answer ≡ ranks.Ranked node
     → Fits x ≡ rewritten_within (time_of p (rank_of node) (over b).time (over b).size) → ⊥
 missing_unfit p b pivots empties t a node x missing e fits =
-    let tells = subst (λ (y : RankAnswer). TellsRanking (setting_of p) b (ranking_of y) (Lacks missing.why)) e missing.tells in
-    tells.0 (found-sound p b (rank_of node) (rank_premises p (rank_of node)) x fits refl).0
+    let is_answer = subst (λ (y : RankAnswer). AnswersRanking (setting_of p) b (ranking_of y) (Lacks missing.why)) e missing.is_answer in
+    is_answer.0 (found-sound p b (rank_of node) (rank_premises p (rank_of node)) x fits refl).0
 
--- a gap that is answered holds
+-- a gap that is given as an answer holds
 pub gap_holds : (p : Program) (b : Bounds) (pivots : ℕ) (empties : List GuardFeasibility) (t : ℕ) (a : AnsweredRankQuestion) (g : code_gap.Gap) → IsValid p
     → AreEmptyAnswers p pivots empties → is_untimed b 0 ≡ false → IsRule p t → IsMissing p b pivots empties t a → a.answer ≡ ranks.NoRank g
     → GapHolds p (forms_at p) (gap_of g)

@@ -7,7 +7,7 @@ use Rattle.cert_types.specs.declared.answer.GuardFeasibility.{GuardFeasibility}
 use Rattle.time_bounds.specs.declared.asking.AnsweredRankQuestion.{AnsweredRankQuestion}
 use Rattle.time_bounds.specs.Questions.{AnswersQuestion, AreAnsweredFrom}
 
--- where nothing was queried nothing is kept
+-- if nothing was queried, no question is kept
 pub none_kept : (p : Program) (pivots : ℕ) (empties : List GuardFeasibility) (k n : ℕ) → AreAnsweredFrom p pivots empties k (replicate n None)
 none_kept p pivots empties k zero = tt
 none_kept p pivots empties k (suc n) = none_kept p pivots empties (suc k) n

@@ -12,17 +12,17 @@ use Rattle.time_bounds.specs.Attempts.{ArePlacesOf}
 use Rattle.time_bounds.proofs.CandidateLaws.{of_all}
 use Rattle.time_bounds.proofs.RightComponents.{components_of}
 
--- they are what the searches answer
+-- the components of candidates are the answer of the searches
 pub are_components : (p : Program) (pivots : ℕ) (cs : List Candidate) → AreCandidatesOf p pivots cs
     → (searches_of_program p pivots).AreComponents (map result_variables_in cs)
 are_components p pivots cs h = (h.is_live, h.live, (h.local, h.locals, h.components))
 
--- and those of the places of live rules
+-- the components of candidates are those of the places of live rules
 pub live_components : (p : Program) (pivots : ℕ) (cs : List Candidate) → AreCandidatesOf p pivots cs
     → AreComponentsOf (searches_of_program p pivots) p (map result_variables_in cs)
 live_components p pivots cs h = components_of p pivots h.is_live h.live h.local (map result_variables_in cs) h.components
 
--- their places are places after rules
+-- the places of candidates are places after rules
 pub within_all : (p : Program) (pivots : ℕ) (cs : List Candidate) → AreCandidatesOf p pivots cs → All (ArePlacesOf p) cs
 within_all p pivots cs h = go cs (λ t i l. let x = ((live_components p pivots cs h).live t i).0 l in (x.0, x.2))
   where

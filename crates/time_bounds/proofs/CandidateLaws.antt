@@ -38,7 +38,7 @@ use Rattle.time_bounds.proofs.LoneComponents.{lone}
 use Rattle.time_bounds.proofs.PlaceAnswers.{any_answer}
 use Rattle.time_bounds.proofs.RightComponents.{components_of}
 
--- what holds of each member holds of all places of a list
+-- a property of each place is one of all places of a list
 pub of_all : (P : ResultVariable → Type 0) (result_variables : List ResultVariable) → ((t i : ℕ) → has_key result_variables t i ≡ true → P (result_variable t i)) → All P result_variables
 of_all P [] f = All-nil P
 of_all P (m ∷ result_variables) f = All-cons P m result_variables (f m.rule m.place here) (of_all P result_variables (λ t i e. f t i (onward ((m.rule == t) && (m.place == i)) (has_key result_variables t i) e)))
@@ -80,7 +80,7 @@ module _ (p : Program) (pivots : ℕ) (valid : IsValid p) (is_live : ℕ → Boo
           All-cons (λ (c : Component). All P (members_of c)) c cs (of_all P (members_of c) (λ t i m. let x = g t i (inl m) in f t i x.0 x.1))
           (go cs (λ t i l. g t i (inr l)))
 
-  -- the side bounds of a place that is answered so are accepted
+  -- the side bounds of a place with this answer are accepted
   accepted_at : (m : Member) → IsLocalOf p pivots m.result_variable.rule m.result_variable.place (HasBound m.local) → IsAccepted p m
   accepted_at m h =
       let is : IsResultVariableOf p m.result_variable h.rule = record {
@@ -121,7 +121,7 @@ module _ (p : Program) (pivots : ℕ) (valid : IsValid p) (is_live : ℕ → Boo
   ascend (m ∷ []) h = tt
   ascend (m ∷ n ∷ members) h = (h.0, ascend (n ∷ members) h.1)
 
-  -- the members of a loop are accepted together
+  -- the side bounds of the members of a loop are accepted
   together : (result_variables : List ResultVariable) (members : List Member) → AreResultVariablesAscending result_variables → AreLocalsOf p pivots local result_variables → AreMembers local result_variables members
       → loops (setting_of p) local result_variables ≡ true → AreAccepted p members
   together result_variables members up h are turns =
@@ -156,7 +156,7 @@ module _ (p : Program) (pivots : ℕ) (valid : IsValid p) (is_live : ℕ → Boo
           All-head (IsAccepted p) (member_of m) [] (each_accepted (members_of x) (member_of m ∷ []) h.2.result_variables_are answered h.2.bounds_are)
       accepted (side_bounds.Loop ms) h = together (members_of x) (map member_of ms.items) up answered h.2 (sym says ∙ h.1)
 
-  -- all of them are
+  -- all components with their side bounds are candidates
   pub candidates_of : (cs : List Candidate) → All (SaysWhetherItLoops (setting_of p) local) found → AreArmed local found cs → AreCandidatesOf p pivots cs
   candidates_of cs says armed = record {
     is_live = is_live;
@@ -193,7 +193,7 @@ module _ (p : Program) (pivots : ℕ) (valid : IsValid p) (is_live : ℕ → Boo
           (each xs ds (All-tail (λ (c : Component). AreLocalsOf p pivots local (members_of c)) x xs a)
           (All-tail (λ (x : Component). AreResultVariablesAscending (members_of x)) x xs u) (All-tail (SaysWhetherItLoops (setting_of p) local) x xs s) h.1)
 
--- each of these components has an answer for each member, and is lone where it doesn't loop
+-- each of these components has an answer for each member, and has a single member if it doesn't loop
 pub all_answered : (s : Setting) (is_live : ℕ → Bool) (lists : List (List LocalAnswer)) (found : List Component)
     → AreComponents s is_live (local_from lists) (map members_of found) → All (λ (c : Component). AreAnswered lists (members_of c)) found
     → All (SaysWhetherItLoops s (local_from lists)) found → All (IsAnswered lists) found

@@ -1,4 +1,4 @@
--- The components that are found of a program, and their side bounds.
+-- The components that are found for a program, and their side bounds.
 use Rattle.std.proofs.Common.{◌≡◌, ℕ, Bool, List, map, Vec, Some, sym, subst}
 use Rattle.std.specs.List.{All}
 use Rattle.std.specs.declared.alloc.Global.{Global}
@@ -22,7 +22,7 @@ use Rattle.time_bounds.specs.Candidates.{IsAnswered, AreArmed, AreCandidatesOf}
 use Rattle.time_bounds.proofs.CandidateLaws.{candidates_of, answered_all, all_answered}
 use Rattle.time_bounds.proofs.LocalLists.{lives, locals, locals_for, answer_here}
 
--- what the search for components is given of a program
+-- the input of the search for components
 pub record Handed (p : Program) (pivots : ℕ) (rule_statuses : List RuleStatus) (g : Graph) (prepared_rules : List RuleRows) (lists : List (Vec LocalAnswer Global))
     (live : List Bool) : Type 0 where
   pub valid : IsValid p
@@ -32,7 +32,7 @@ pub record Handed (p : Program) (pivots : ℕ) (rule_statuses : List RuleStatus)
   pub answers : AreAllAnswers p pivots 1 rule_statuses (answer_lists lists)
   pub live_are : live ≡ map is_live_rule_status rule_statuses
 
--- rows, answers and flags that are the program's are what the search for components is given
+-- the rows, answers and flags of the program are a right input of the search for components
 pub handed : (p : Program) (pivots : ℕ) (rule_statuses : List RuleStatus) (g : Graph) (old prepared_rules : List RuleRows) (had lists : List (Vec LocalAnswer Global))
     (live : List Bool) → IsValid p → IsGraphOf g p → AreRowsOf old p → AreRuleStatuses (searches_of_program p pivots) p rule_statuses
     → AreAllAnswers p pivots 1 rule_statuses (answer_lists had) → prepared_rules ≡ old → lists ≡ had → live ≡ map is_live_rule_status rule_statuses
@@ -48,7 +48,7 @@ handed p pivots rule_statuses g old prepared_rules had lists live valid graph ro
 
 module _ (p : Program) (pivots : ℕ) (rule_statuses : List RuleStatus) (g : Graph) (prepared_rules : List RuleRows) (lists : List (Vec LocalAnswer Global)) (live : List Bool)
     (h : Handed p pivots rule_statuses g prepared_rules lists live) where
-  -- what the search for components is given has an answer for each place of a live rule
+  -- the input of the search for components has an answer for each place of a live rule
   pub given : AreAnswersOfProgram p g prepared_rules (answer_lists lists) live
   given = record {
     valid = h.valid;
@@ -74,7 +74,7 @@ module _ (p : Program) (pivots : ℕ) (rule_statuses : List RuleStatus) (g : Gra
         (λ t i l place. let x = answer_here p pivots rule_statuses (answer_lists lists) h.rule_statuses_are h.answers t i l place in (x.0, x.1)))
         looping
 
-    -- with their side bounds they are the program's
+    -- the components with their side bounds are candidates of the program
     pub found_candidates : (cs : List Candidate) → AreArmed (local_from (answer_lists lists)) found cs → AreCandidatesOf p pivots cs
     found_candidates cs armed =
         candidates_of p pivots h.valid (is_flagged (map is_live_rule_status rule_statuses)) (lives p pivots rule_statuses (answer_lists lists) h.rule_statuses_are h.answers)

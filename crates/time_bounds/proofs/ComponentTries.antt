@@ -1,4 +1,4 @@
--- What is made of a component that is tried.
+-- The result of trying a component.
 use Rattle.std.proofs.Common.{◌≡◌, ℕ, ◌||◌, Bool, true, false, List, [], ◌∷◌, ◌++◌, map, Option, None, refl, sym, ◌∙◌, ap, subst}
 use Rattle.std.specs.Prelude.{Vec, IfOk, OnOk}
 use Rattle.std.specs.declared.alloc.Global.{Global}
@@ -24,7 +24,7 @@ use Rattle.bound_fixpoint.specs.Keys.{Bounds, at_key, has_key, lacks, over}
 use Rattle.bound_fixpoint.specs.Derivations as plain
 use Rattle.bound_fixpoint.specs.Derivations.{SpreadBy, CycleBy, bounds_of}
 use Rattle.bound_fixpoint.specs.Needs.{needs_of}
-use Rattle.bound_fixpoint.specs.Standing.{composed_bound}
+use Rattle.bound_fixpoint.specs.Justification.{composed_bound}
 use Rattle.bound_fixpoint.specs.Searches as searches
 use Rattle.bound_fixpoint.specs.Searches.{OfSize, SizedBy, Unsized}
 use Rattle.bound_fixpoint.specs.Answers as told
@@ -49,11 +49,11 @@ use Rattle.time_bounds.specs.ProgramSearches.{searches_of_program}
 use Rattle.time_bounds.specs.Attempts.{why_in, why_armless, attempt_by, derivations_by, LacksSize}
 use Rattle.time_bounds.specs.Attempts.{IsSizeStep}
 
--- what is answered of a component over bounds
+-- the answer for a component over bounds
 abbrev pub IsSized : Program → ℕ → Bounds → Candidate → searches.SizeOutcome → Type 0
 IsSized p pivots b c answer = (searches_of_program p pivots).Sizes b (result_variables_in c) answer
 
--- what an answer gives: the node with what it needs and composes, or why there is none
+-- the result of an answer: the node with its premises and the bound that it composes, or why there is none
 abbrev pub Gives : Program → ℕ → Bounds → Candidate → plain.Node → Sizing → Type 0
 Gives p pivots b c node (answers.Found premises bound) = IsSized p pivots b c (SizedBy node)
     × (map result_variable_of premises.items ≡ needs_of (setting_of p) b node) × (bound_of bound ≡ composed_bound (setting_of p) b node)
@@ -62,7 +62,7 @@ Gives p pivots b c node (answers.Nonlinear m) = IsSized p pivots b c (Unsized (S
 Gives p pivots b c node (answers.Untimed t) = IsSized p pivots b c (Unsized (SizeUntimed t))
 Gives p pivots b c node (answers.Large n) = IsSized p pivots b c (Unsized (SizeLarge n))
 
--- the side bounds of a candidate that is looked at
+-- the side bounds of a candidate, as plain data
 pub side_bounds_seen : (p : Program) (pivots : ℕ) (local : Locals) (c : Candidate) (x : SideBounds) → IsRightCandidate p pivots local c → c.side_bounds ≡ x
     → AreSideBounds local (result_variables_in c) (loops (setting_of p) local (result_variables_in c)) x
 side_bounds_seen p pivots local c x h e = subst (λ (y : SideBounds). AreSideBounds local (result_variables_in c) (loops (setting_of p) local (result_variables_in c)) y) e h.side_bounds_are
@@ -70,7 +70,7 @@ side_bounds_seen p pivots local c x h e = subst (λ (y : SideBounds). AreSideBou
 accepted_seen : (p : Program) (pivots : ℕ) (local : Locals) (c : Candidate) (x : SideBounds) → IsRightCandidate p pivots local c → c.side_bounds ≡ x → HasAccepted p x
 accepted_seen p pivots local c x h e = subst (λ (y : SideBounds). HasAccepted p y) e h.accepted
 
--- with the members' side bounds a component is sized as they are judged
+-- the answer for a component by its members' side bounds is that for the component
 pub judged : (p : Program) (pivots : ℕ) (local : Locals) (c : Candidate) (b : Bounds) (looping : Bool) (members : List Member)
     (answer : searches.SizeOutcome) → IsRightCandidate p pivots local c → lacks_side_bounds local (result_variables_in c) ≡ None
     → loops (setting_of p) local (result_variables_in c) ≡ looping → AreMembers local (result_variables_in c) members
@@ -127,7 +127,7 @@ cycle_gives p pivots local c ms b a h e says = go a says
     go (answers.Untimed t) first = size (Unsized (SizeUntimed t)) (_, refl, first)
     go (answers.Large n) first = size (Unsized (SizeLarge n)) (_, refl, first)
 
--- a component that has its sizes is a step that finds nothing
+-- trying a component that has its sizes gives no derivation
 pub known_step : (p : Program) (pivots : ℕ) (old : List Derivation) (c : Candidate) → are_open (bounds_of p (derivations_of old)) (result_variables_in c) ≡ false
     → IsSizeStep p pivots old c attempts.Known old
 known_step p pivots old c closed = record {
@@ -141,14 +141,14 @@ known_step p pivots old c closed = record {
   found = λ e. absurd (no_is_not_yes false refl e);
 }
 
--- the same for one that lacks a size
+-- trying a component that lacks a size gives none, if the answer has none
 pub lacking_tries : (p : Program) (pivots : ℕ) (fs : List plain.Derivation) (c : Candidate) (x : ComponentAttempt)
     → LacksSize p pivots (bounds_of p fs) c x → Tries (searches_of_program p pivots) (setting_of p) fs (SizesOf (result_variables_in c)) []
 lacking_tries p pivots fs c x h = record {
   known = λ e. refl;
   tried = λ e. (
     told.Lacks (OfSize h.why),
-    record { answer = Unsized h.why; answered = h.answered; tells = refl },
+    record { answer = Unsized h.why; answered = h.answered; is_answer = refl },
     refl,
   );
 }
@@ -163,13 +163,13 @@ failed_step p pivots old c a h = record {
   found = λ e. absurd (no_is_not_yes false refl e);
 }
 
--- and one with a member without side bounds
+-- trying a component with a member without side bounds gives no derivation
 pub armless : (p : Program) (pivots : ℕ) (local : Locals) (old : List Derivation) (c : Candidate) (entry : SizeEntry)
     → IsRightCandidate p pivots local c → c.side_bounds ≡ side_bounds.Lacking entry → are_open (bounds_of p (derivations_of old)) (result_variables_in c) ≡ true
-    → IsSizeStep p pivots old c attempts.Armless old
+    → IsSizeStep p pivots old c attempts.HasNoSideBound old
 armless p pivots local old c entry h e unsized = record {
   more = [];
-  tries = lacking_tries p pivots (derivations_of old) c attempts.Armless lacks_it;
+  tries = lacking_tries p pivots (derivations_of old) c attempts.HasNoSideBound lacks_it;
   grown = sym (append-nil (derivations_of old));
   attempt = lacks_it;
   found = λ k. absurd (no_is_not_yes false refl k);
@@ -178,7 +178,7 @@ armless p pivots local old c entry h e unsized = record {
     seen : AreSideBounds local (result_variables_in c) (loops (setting_of p) local (result_variables_in c)) (side_bounds.Lacking entry)
     seen = side_bounds_seen p pivots local c (side_bounds.Lacking entry) h e
 
-    lacks_it : LacksSize p pivots (bounds_of p (derivations_of old)) c attempts.Armless
+    lacks_it : LacksSize p pivots (bounds_of p (derivations_of old)) c attempts.HasNoSideBound
     lacks_it = record {
       unsized = unsized;
       why = seen.0;
@@ -191,7 +191,7 @@ armless p pivots local old c entry h e unsized = record {
       );
     }
 
--- none of these keys is missing where each is known
+-- if each of these keys is known, none is missing
 closed_by : (b : Bounds) (keys : List ResultVariable) → ((t i : ℕ) → has_key keys t i ≡ true → lacks (b t i) ≡ false) → are_open b keys ≡ false
 closed_by b [] f = refl
 closed_by b (k ∷ keys) f =
@@ -202,20 +202,20 @@ closed_by b (k ∷ keys) f =
     join true w e g = absurd (no_is_not_yes true e refl)
     join false w e g = g
 
--- so no key of a derivation is missing behind it
+-- no key of a derivation is missing after it
 pub found_closed : (p : Program) (fs : List plain.Derivation) (f : plain.Derivation) → are_open (bounds_of p (fs ++ f ∷ [])) f.keys ≡ false
 found_closed p fs f =
     closed_by (bounds_of p (fs ++ f ∷ [])) f.keys
     (λ t i m. found_known p fs (f ∷ []) t i (ap lacks (found-here f [] t i m)))
 
--- an answer that was taken is a step
+-- taking an answer is a step of the round
 pub taken : (p : Program) (pivots : ℕ) (old new : List Derivation) (c : Candidate) (node : plain.Node) (a : Sizing) (x : ComponentAttempt)
     → are_open (bounds_of p (derivations_of old)) (result_variables_in c) ≡ true → Gives p pivots (bounds_of p (derivations_of old)) c node a
     → x ≡ attempt_by a → derivations_of new ≡ derivations_of old ++ derivations_by (result_variables_in c) node a → IsSizeStep p pivots old c x new
 taken p pivots old new c node a x unsized gives is grown =
     subst (λ (y : ComponentAttempt). IsSizeStep p pivots old c y new) (sym is) (go a gives grown)
   where
-    -- nothing was found
+    -- the answer gives no size
     lacking : (b : Sizing) → (lacks_it : LacksSize p pivots (bounds_of p (derivations_of old)) c (attempts.Failed b))
         → derivations_of new ≡ derivations_of old ++ [] → IsSizeStep p pivots old c (attempts.Failed b) new
     lacking b h e = record {
@@ -240,7 +240,7 @@ taken p pivots old new c node a x unsized gives is grown =
             known = λ k. absurd (no_is_not_yes (are_open (bounds_of p (derivations_of old)) (result_variables_in c)) k unsized);
             tried = λ k. (
               told.Found node (map result_variable_of premises.items) (bound_of bound),
-              record { answer = SizedBy node; answered = sized; tells = λ i. told.Found node (needed i) (composed i) },
+              record { answer = SizedBy node; answered = sized; is_answer = λ i. told.Found node (needed i) (composed i) },
               refl,
             );
           };
@@ -259,14 +259,14 @@ taken p pivots old new c node a x unsized gives is grown =
     go (answers.Large k) h e = lacking (answers.Large k)
         (record { unsized = unsized; why = SizeLarge k; says = refl; answered = h }) e
 
--- what the search for the size of the only member is given
+-- the input of the search for the size of the only member
 pub given_alone : (p : Program) (pivots : ℕ) (local : Locals) (c : Candidate) (m : code.Member) (g : Graph) (prepared_rules : List RuleRows)
     → IsValid p → IsGraphOf g p → AreRowsOf prepared_rules p → IsRightCandidate p pivots local c → c.side_bounds ≡ side_bounds.Alone m → IsMemberOfProgram p g prepared_rules (member_of m)
 given_alone p pivots local c m g prepared_rules valid graph rows h e =
     let k = accepted_seen p pivots local c (side_bounds.Alone m) h e in
     record { valid = valid; graph = graph; rows = rows; shape = k.shape; up = k.up; low = k.low }
 
--- and that for the size of the members of a loop
+-- the input of the search for the size of the members of a loop
 pub given_loop : (p : Program) (pivots : ℕ) (local : Locals) (c : Candidate) (ms : Vec code.Member Global) (g : Graph) (prepared_rules : List RuleRows)
     → IsValid p → IsGraphOf g p → AreRowsOf prepared_rules p → IsRightCandidate p pivots local c → c.side_bounds ≡ side_bounds.Loop ms
     → AreMembersOfProgram p g prepared_rules (map member_of ms.items)
@@ -274,7 +274,7 @@ given_loop p pivots local c ms g prepared_rules valid graph rows h e =
     let k = accepted_seen p pivots local c (side_bounds.Loop ms) h e in
     record { valid = valid; graph = graph; rows = rows; shape = k.shape; up = k.up; low = k.low }
 
--- an attempt that was made, where the derivations grew
+-- a property of a result, from one of its value and one of the derivations
 pub all_taken : {T E : Type 0} (r : Result T E) (P R : T → Type 0) (Q : Type 0) → ((x : T) → P x → Q → R x) → IfOk r P → OnOk r Q → IfOk r R
 all_taken (Ok x) P R Q f p q = f x p q
 all_taken (Err e) P R Q f p q = tt

@@ -1,4 +1,4 @@
--- The entries of costs, one by one: each rule has one, and one more is behind those before.
+-- The entries of costs, one by one: each rule has one, appended to the earlier ones.
 use Rattle.std.proofs.Common.{◌≡◌, ℕ, suc, ◌+◌, List, [], ◌∷◌, ◌++◌, length, map, Option, Some, None}
 use Rattle.std.proofs.Common.{refl, sym, ◌∙◌, ap, subst, arith}
 use Rattle.std.specs.Option.{option_map}
@@ -21,7 +21,7 @@ use Rattle.time_bounds.specs.AnalysisLemmas.{AreCertified, CarryCosts}
 use Rattle.time_bounds.specs.CostEntries.{AddsCost, AddsNone, AreCostEntries}
 use Rattle.time_bounds.proofs.NumberedLists.{each_pushed}
 
--- lists that begin and go on alike are the same
+-- lists with equal first elements and equal rests are equal
 pub joined : {A : Type 0} (x y : A) (xs ys : List A) → x ≡ y → xs ≡ ys → x ∷ xs ≡ y ∷ ys
 joined {A} x y xs ys e h = ap (λ (z : A). z ∷ xs) e ∙ ap (λ (zs : List A). y ∷ zs) h
 
@@ -34,7 +34,7 @@ module _ (p : Program) (pivots : ℕ) (b : Bounds) where
       inner : BoundedBy x ≡ BoundedBy y → x ≡ y
       inner e = cc
 
-  -- and one entry
+  -- the cost of a rule has one entry
   cost_one : (t : ℕ) (x y : Option RuleCost) → IsCostOver p pivots b t x → IsCostOver p pivots b t y → x ≡ y
   cost_one t None None h k = refl
   cost_one t None (Some (Costed d)) h k = absurd (h k.1.costs)
@@ -60,7 +60,7 @@ module _ (p : Program) (pivots : ℕ) (b : Bounds) where
       inner : NotBounded v ≡ NotBounded w → v ≡ w
       inner e = cc
 
-  -- so have the rules of a list
+  -- the costs of the rules of a list have one list of entries
   pub costs_one : (t : ℕ) (xs ys : List (Option RuleCost)) → length xs ≡ length ys → AreCostsOver p pivots b t xs
       → AreCostsOver p pivots b t ys → xs ≡ ys
   costs_one t [] [] e h k = refl
@@ -70,7 +70,7 @@ module _ (p : Program) (pivots : ℕ) (b : Bounds) where
       let long : suc (length xs) ≡ suc (length ys) = e in
       joined x y xs ys (cost_one t x y h.0 k.0) (costs_one (suc t) xs ys (omega (arith, long)) h.1 k.1)
 
-  -- and one list of nodes
+  -- there is one list of cost nodes with a bound
   pub certified_one : (t : ℕ) (xs : List (Option RuleCost)) (nodes others : List CostNode) → AreCertified p pivots b t xs nodes
       → AreCertified p pivots b t xs others → nodes ≡ others
   certified_one t [] nodes others h k = h ∙ sym k
@@ -105,7 +105,7 @@ module _ (p : Program) (pivots : ℕ) (b : Bounds) where
     ),
   )
 
-  -- entries carry numbers, and so does one more that carries the next, where there are this many nodes
+  -- entries carry numbers in order with one more entry that carries the next number
   carried_pushed : (t n : ℕ) (xs : List (Option CostEntry)) (nodes : List CostNode) (x : Option CostEntry)
       → AreCertified p pivots b t (map (option_map cost_of) xs) nodes → CarryCosts n xs → CarryCosts (n + length nodes) (x ∷ [])
       → CarryCosts n (xs ++ x ∷ [])
@@ -195,7 +195,7 @@ module _ (p : Program) (pivots : ℕ) (b : Bounds) where
     adds t (Some (costs.Untimed u)) old new h = none_added t (costs.Untimed u) old new h
     adds t (Some (costs.Large m)) old new h = none_added t (costs.Large m) old new h
 
-    -- no entries
+    -- there are no entries before the first rule
     pub no_entries : (before : List Proof) → AreCostEntries p pivots b number before [] before
     no_entries before = record {
       each = tt;
@@ -205,7 +205,7 @@ module _ (p : Program) (pivots : ℕ) (b : Bounds) where
       carried = tt;
     }
 
-    -- one entry more behind those before
+    -- one entry more, after the earlier ones
     pub entry_pushed : (before : List Proof) (entries : List (Option CostEntry)) (x : Option CostEntry) (old new : List Proof) (t : ℕ)
         → AreCostEntries p pivots b number before entries old → t ≡ 1 + length entries → AddsCost p pivots b number t x old new
         → AreCostEntries p pivots b number before (entries ++ x ∷ []) new

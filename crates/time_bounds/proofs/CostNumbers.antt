@@ -1,4 +1,4 @@
--- The numbers that the entries of costs carry are those of their lemmas, which come behind those of derivations.
+-- The numbers that the entries of costs carry are those of their lemmas, which come after those of derivations.
 use Rattle.std.proofs.Common.{◌≡◌, ℕ, zero, suc, ◌+◌, ◌≤◌, List, [], ◌∷◌, ◌++◌, length, map, All, Option, Some, None}
 use Rattle.std.proofs.Common.{slice_get, refl, sym, ◌∙◌, ap, subst, arith}
 use Rattle.std.specs.Option.{option_map}
@@ -26,13 +26,13 @@ use Rattle.time_bounds.specs.Analysis.{AreCostsOver}
 use Rattle.time_bounds.specs.AnalysisLemmas.{AreCertified, CarryCosts}
 use Rattle.time_bounds.proofs.CostEntries.{certificate_one}
 
--- behind lemmas the next one states its own facts
+-- the next lemma after others states its own facts
 next_lemma : (past rest : List (List Fact)) (facts : List Fact) → facts_of_lemma (past ++ facts ∷ rest) (suc (length past)) ≡ facts
 next_lemma [] rest facts = refl
 next_lemma (first ∷ past) rest facts = next_lemma past rest facts
 
 module _ (p : Program) (pivots : ℕ) (b : Bounds) where
-  -- the nodes of costs that have a bound certify it
+  -- the cost nodes of entries with a bound certify it
   pub certified_bounded : (t : ℕ) (xs : List (Option RuleCost)) (nodes : List CostNode) → AreCertified p pivots b t xs nodes
       → All (IsBoundedCost p pivots (over b)) nodes
   certified_bounded t [] nodes h =
@@ -43,7 +43,7 @@ module _ (p : Program) (pivots : ℕ) (b : Bounds) where
       subst (All (IsBoundedCost p pivots (over b))) (sym e)
       (All-cons (IsBoundedCost p pivots (over b)) (cost_node t by) rest is (certified_bounded (suc t) xs rest h))
 
-  -- there are no more of them than rules
+  -- there are no more cost nodes than rules
   pub certified_few : (t : ℕ) (xs : List (Option RuleCost)) (nodes : List CostNode) → AreCertified p pivots b t xs nodes
       → length nodes ≤ length xs
   certified_few t [] nodes h = omega (arith, ap (λ (ns : List CostNode). length ns) h)
@@ -52,11 +52,11 @@ module _ (p : Program) (pivots : ℕ) (b : Bounds) where
   certified_few t (Some (Costed x) ∷ xs) nodes (by, is, (rest, e, h)) =
       omega (arith, ap (λ (ns : List CostNode). length ns) e, certified_few (suc t) xs rest h)
 
-  -- what the lemma of a node states
+  -- the facts that the lemma of a cost node states
   stated : CostNode → List Fact
   stated node = cost_fact (setting_of p) (over b) node ∷ []
 
-  -- what holds of the entries behind one without a known cost holds with it
+  -- a known cost after an entry without one is in the list without that entry
   skipped : (facts : List (List Fact)) (t i : ℕ) (x : Option CostEntry) (entries : List (Option CostEntry)) (s : Stored)
       → (x ≡ Some (costs.Known s) → ⊥) → slice_get (x ∷ entries) i ≡ Some (Some (costs.Known s))
       → ((j : ℕ) → slice_get entries j ≡ Some (Some (costs.Known s))
@@ -66,7 +66,7 @@ module _ (p : Program) (pivots : ℕ) (b : Bounds) where
   skipped facts t (suc i) x entries s differ e rest =
       rest i e ∙ ap (λ (n : ℕ). Cost n (bound_of s.bound) ∷ []) (let z : suc t + i ≡ t + suc i = omega arith in z)
 
-  -- each lemma of a known cost states it, where its number is that behind these lemmas
+  -- each lemma of a known cost states it, if its number is counted from these lemmas on
   from : (past : List (List Fact)) (t i : ℕ) (entries : List (Option CostEntry)) (nodes : List CostNode) (s : Stored)
       → AreCostsOver p pivots b t (map (option_map cost_of) entries)
       → AreCertified p pivots b t (map (option_map cost_of) entries) nodes → CarryCosts (length past) entries

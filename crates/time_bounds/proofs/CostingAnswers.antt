@@ -1,4 +1,4 @@
--- What the entries of costs add, by the answers of the code.
+-- What the entries of costs add, for each answer of the code.
 use Rattle.std.proofs.Common.{◌≡◌, ℕ, List, [], ◌∷◌, ◌++◌, length, map, Some, ap, sym, ◌∙◌, subst, arith}
 use Rattle.std.proofs.lemmas.List.{length-append, length-map, map-append}
 use Rattle.model.specs.Bounds.{Bound}
@@ -22,7 +22,7 @@ use Rattle.time_bounds.specs.CostEntries.{AddsCost}
 use Rattle.time_bounds.proofs.TablesOver.{table_over}
 
 module _ (p : Program) (pivots : ℕ) (tab : Table) (t : ℕ) where
-  -- an answer over the table is one over its bounds by key
+  -- an answer over the table is one over the table of its bounds by key
   pub over_keys : (a : CostAnswer) → IsCostAnswer p pivots (table_of tab) (number_at tab) t a
       → IsCostAnswer p pivots (over (bounds_in tab)) (number_at tab) t a
   over_keys a h = subst (λ (x : plain.Table). IsCostAnswer p pivots x (number_at tab) t a) (table_over tab) h

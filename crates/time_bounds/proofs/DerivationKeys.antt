@@ -1,4 +1,4 @@
--- The keys of justified derivations are those of rules and of the places after them, so nothing else is known.
+-- The keys of justified derivations are those of rules and of the places after them, so no other bound is known.
 use Rattle.std.proofs.Common.{◌≡◌, inl, inr, ℕ, zero, suc, true, List, [], ◌∷◌, ◌++◌, map, Option, Some, None}
 use Rattle.std.proofs.Common.{refl, ap, subst}
 use Rattle.std.specs.List.{Contains}
@@ -13,19 +13,19 @@ use Rattle.cert_types.specs.cert_rules.Setting.{Setting}
 use Rattle.bound_fixpoint.specs.Derivations.{Node, EmptyBy, UnreachedBy, NeverBy, RankBy, SpreadBy, CycleBy, Derivation, keys_of}
 use Rattle.bound_fixpoint.specs.Derivations.{bound_found}
 use Rattle.bound_fixpoint.specs.Keys.{Bounds, IsPlace, key, time_key, has_key}
-use Rattle.bound_fixpoint.specs.Standing.{AcceptsOver, Stands, StandAfter, AllStand}
+use Rattle.bound_fixpoint.specs.Justification.{AcceptsOver, IsJustified, AreJustifiedAfter, AreJustified}
 use Rattle.bound_fixpoint.proofs.Cases.{either}
 use Rattle.bound_fixpoint.proofs.DerivationLists.{found-derivation}
-use Rattle.bound_fixpoint.proofs.FirstDerivationsStand.{keys_after-sound}
+use Rattle.bound_fixpoint.proofs.FirstDerivationsAreJustified.{keys_after-sound}
 use Rattle.bound_fixpoint.proofs.Keys.{has_key-cases, has_key-none, has_key-contained}
 use Rattle.bound_fixpoint.proofs.ListMembers.{contains-cases, contains-none, map-contains, contained-all}
 use Rattle.bound_fixpoint.proofs.MissingFalls.{IsKeyOfRule}
 
--- a key that is the only one
+-- a key among a single key is that key
 only_key : (k : ResultVariable) (t i : ℕ) → has_key (k ∷ []) t i ≡ true → k ≡ key t i
 only_key k t i m = either (has_key-cases k [] t i m) (λ e. e) (λ later. absurd (has_key-none t i later))
 
--- the time of a rule alone
+-- the key of a rule's time, as the only key
 time_alone : (p : Program) (u : ℕ) → IsRule p u → (t i : ℕ) → has_key (time_key u ∷ []) t i ≡ true → IsKeyOfRule p t i
 time_alone p u rule t i m =
     let same = only_key (time_key u) t i m in (
@@ -72,25 +72,25 @@ node_key s b (NeverBy u) premises ok t i m =
     )
 
 -- each derivation of a justified list is justified over some bounds
-stands_there : (s : Setting) (earlier fs : List Derivation) → StandAfter s earlier fs → (f : Derivation) → Contains fs f
-    → (b : Bounds) × Stands s b f
-stands_there s earlier [] h f m = absurd (contains-none f m)
-stands_there s earlier (g ∷ fs) h f m =
+true_there : (s : Setting) (earlier fs : List Derivation) → AreJustifiedAfter s earlier fs → (f : Derivation) → Contains fs f
+    → (b : Bounds) × IsJustified s b f
+true_there s earlier [] h f m = absurd (contains-none f m)
+true_there s earlier (g ∷ fs) h f m =
     either (contains-cases f g fs m)
-    (λ e. subst (λ (x : Derivation). (b : Bounds) × Stands s b x) e (_, h.0.stands))
-    (λ later. stands_there s (earlier ++ g ∷ []) fs h.1 f later)
+    (λ e. subst (λ (x : Derivation). (b : Bounds) × IsJustified s b x) e (_, h.0.stands))
+    (λ later. true_there s (earlier ++ g ∷ []) fs h.1 f later)
 
--- what is found has the key of a rule, or of a place after one
-pub found_key : (s : Setting) (fs : List Derivation) → AllStand s fs → (t i : ℕ) (b : Bound) → bound_found fs t i ≡ Some b
+-- a derived key is that of a rule, or of a place after one
+pub found_key : (s : Setting) (fs : List Derivation) → AreJustified s fs → (t i : ℕ) (b : Bound) → bound_found fs t i ≡ Some b
     → IsKeyOfRule s.program t i
 found_key s fs all t i b e =
     let derivation = found-derivation fs t i b e in
-    let over = stands_there s [] fs all.each derivation.0 derivation.1 in
+    let over = true_there s [] fs all.each derivation.0 derivation.1 in
     node_key s over.0 derivation.0.node derivation.0.premises over.1.accepted t i
     (subst (λ (keys : List ResultVariable). has_key keys t i ≡ true) over.1.keys derivation.2)
 
--- so nothing is found of another
-pub none_found : (s : Setting) (fs : List Derivation) → AllStand s fs → (t i : ℕ) → (IsKeyOfRule s.program t i → ⊥)
+-- no bound of another key is derived
+pub none_found : (s : Setting) (fs : List Derivation) → AreJustified s fs → (t i : ℕ) → (IsKeyOfRule s.program t i → ⊥)
     → bound_found fs t i ≡ None
 none_found s fs all t i other = go (bound_found fs t i) refl
   where

@@ -1,4 +1,4 @@
--- What follows where a check of a size is the first that fails: what follows of that check.
+-- If a check of a size is the first that fails, what follows from its failure holds.
 use Rattle.std.proofs.Common.{◌≡◌, inl, inr, ℕ, List, [], ◌∷◌}
 use Rattle.std.specs.List.{AllByRecursion}
 use Rattle.model.specs.Bounds.{Bound}
@@ -14,48 +14,49 @@ use Rattle.cert_types.specs.cert_rules.Reasons.{Reason, Shape, SideBoundUp, Side
 use Rattle.cert_types.specs.cert_rules.Reasons.{Check, for_each, IsFirstAmong}
 use Rattle.cert_types.specs.cert_rules.Setting.{Setting}
 
--- what holds of each thing holds of all of a list
+-- a property of each element is one of all elements of a list
 pub of_all : {A : Type 0} (P : A → Type 0) → ((x : A) → P x) → (xs : List A) → AllByRecursion P xs
 of_all P h [] = tt
 of_all P h (x ∷ xs) = (h x, of_all P h xs)
 
 module _ (r : Reason) (S : Type 0) where
-  -- of each check, if it fails with the reason, this follows
+  -- for each check: if it fails with the reason, the conclusion follows
   abbrev pub AllGive : List Check → Type 0
   AllGive [] = Unit {0}
   AllGive (c ∷ cs) = ((c.holds → ⊥) → c.reason ≡ r → S) × AllGive cs
 
-  -- so it follows where the first that fails has the reason
+  -- if the first check that fails has the reason, the conclusion follows
   pub first_gives : (cs : List Check) → IsFirstAmong cs r → AllGive cs → S
   first_gives [] h all = absurd h
   first_gives (c ∷ cs) (inl h) all = all.0 h.0 h.1
   first_gives (c ∷ cs) (inr h) all = first_gives cs h.1 all.1
 
-  -- the same for a check for each element of a list
+  -- the conclusion follows from checks for each element of a list, if it follows from each
   pub each_gives : {A : Type 0} (f : A → Check) (xs : List A) (rest : List Check)
       → AllByRecursion (λ x. ((f x).holds → ⊥) → (f x).reason ≡ r → S) xs → AllGive rest → AllGive (for_each f xs rest)
   each_gives f [] rest h all = all
   each_gives f (x ∷ xs) rest h all = (h.0, each_gives f xs rest h.1 all)
 
   module _ (s : Setting) (members : List Member) where
-    -- of both side bounds of a member after a rule, if one bends with the reason, this follows
-    abbrev pub BendGives : Member → ℕ → Type 0
-    BendGives m e = ((IsStraightSideBound s members m e m.local.up → ⊥) → Nonlinear m.result_variable.rule m.result_variable.place ≡ r → S)
+    -- if one of both side bounds of a member after a rule is nonlinear with the reason, the conclusion follows
+    abbrev pub NonlinearGives : Member → ℕ → Type 0
+    NonlinearGives m e = ((IsStraightSideBound s members m e m.local.up → ⊥) → Nonlinear m.result_variable.rule m.result_variable.place ≡ r → S)
         × ((IsStraightSideBound s members m e m.local.low → ⊥) → Nonlinear m.result_variable.rule m.result_variable.place ≡ r → S)
 
-    pub from_gives : (m : Member) (es : List ℕ) (rest : List Check) → AllByRecursion (BendGives m) es → AllGive rest
+    pub from_gives : (m : Member) (es : List ℕ) (rest : List Check) → AllByRecursion (NonlinearGives m) es → AllGive rest
         → AllGive (straight_from s members m es rest)
     from_gives m [] rest h all = all
     from_gives m (e ∷ es) rest h all = (h.0.0, (h.0.1, from_gives m es rest h.1 all))
 
     pub into_gives : (ms : List Member) (rest : List Check)
-        → AllByRecursion (λ m. AllByRecursion (BendGives m) (pre s.program m.result_variable.rule)) ms → AllGive rest
+        → AllByRecursion (λ m. AllByRecursion (NonlinearGives m) (pre s.program m.result_variable.rule)) ms → AllGive rest
         → AllGive (straight_into s members ms rest)
     into_gives [] rest h all = all
     into_gives (m ∷ ms) rest h all =
         from_gives m (pre s.program m.result_variable.rule) (straight_into s members ms rest) h.0 (into_gives ms rest h.1 all)
 
-  -- where neither the shape nor a side bound is what fails, and what is missing, bends or is large gives this
+  -- the conclusion follows if what fails is neither the shape nor a side bound, and follows from what is missing,
+  -- nonlinear or large
   module _ (s : Setting) (tab : Table) (shape : Shape ≡ r → ⊥) (up : (t i : ℕ) → SideBoundUp t i ≡ r → ⊥)
       (low : (t i : ℕ) → SideBoundLow t i ≡ r → ⊥) where
     abbrev pub SizeGives : ResultVariable → Type 0
@@ -67,7 +68,7 @@ module _ (r : Reason) (S : Type 0) where
     abbrev pub LargeGives : Bound → Type 0
     LargeGives b = (IsSmallComposed s.rewrite b → ⊥) → Large (large_nodes s.rewrite b) ≡ r → S
 
-    -- of a place that doesn't loop
+    -- the conclusion follows from the checks of a place that doesn't loop
     pub spread_gives : (m : Member) → AllByRecursion SizeGives (needed_into s [] (m ∷ [])) → LargeGives (spread_size s tab m)
         → IsFirstAmong (spread_checks s tab m) r → S
     spread_gives m sizes large h =
@@ -95,9 +96,9 @@ module _ (r : Reason) (S : Type 0) where
     abbrev needed_checks : List Member → List Check
     needed_checks ms = for_each (check_size tab) (needed_into s ms ms) (nonlinear_checks ms)
 
-    -- and of members that do
+    -- the conclusion follows from the checks of members that loop
     pub cycle_gives : (ms : List Member) → AllByRecursion SizeGives (needed_into s ms ms)
-        → AllByRecursion (λ m. AllByRecursion (BendGives s ms m) (pre s.program m.result_variable.rule)) ms
+        → AllByRecursion (λ m. AllByRecursion (NonlinearGives s ms m) (pre s.program m.result_variable.rule)) ms
         → AllByRecursion TimeGives (needed_times s tab ms) → LargeGives (cycle_size s tab ms)
         → IsFirstAmong (cycle_checks s tab ms) r → S
     cycle_gives ms sizes bends times large h =

@@ -16,14 +16,14 @@ use Rattle.bound_fixpoint.specs.Derivations.{Derivation, keys_after}
 use Rattle.bound_fixpoint.specs.Searches.{Searches}
 use Rattle.bound_fixpoint.specs.Beginning.{AreFirst, AreEmptyDerivations, empty_derivation, unreached_derivation, never_derivation, has_places, is_cut, is_dead}
 use Rattle.bound_fixpoint.specs.Beginning.{zeroed}
-use Rattle.bound_fixpoint.proofs.FirstDerivationsStand.{keys_after-sound}
+use Rattle.bound_fixpoint.proofs.FirstDerivationsAreJustified.{keys_after-sound}
 use Rattle.bound_fixpoint.proofs.MissingBounds.{all-has_key}
 use Rattle.bound_fixpoint.proofs.RuleNumbers.{in_rules}
 use Rattle.bound_derivations.specs.Books.{IsKey}
 use Rattle.time_bounds.proofs.OpenDerivations.{HasKeysOfRules}
 
 module _ (p : Program) where
-  -- the key of the time of a rule
+  -- the key of the time of a rule is a key of a rule
   time_keyed : (t : ℕ) (f : Derivation) → f.keys ≡ time_key t ∷ [] → IsRule p t → HasKeysOfRules p f
   time_keyed t f e rule = record {
     some = subst (λ (ks : List ResultVariable). 1 ≤ length ks) (sym e) (let z : 1 ≤ 1 = omega arith in z);
@@ -50,7 +50,7 @@ module _ (p : Program) where
       (time_keyed t (unreached_derivation dead t) refl (rules t (or_left (t == t) (is_in t ts) (same_number t))))
       (unreached_keyed dead ts (λ u k. rules u (or_right (u == t) (is_in u ts) k)))
 
-  -- those of the places after one that has some
+  -- the keys of the places after a rule that has some are keys of a rule
   some_keys : (t : ℕ) (o : Option ℕ) → has_places p o ≡ true → 1 ≤ length (map (λ i. key t i) (places_at p o))
   some_keys t None e = absurd (let f : ⊥ = cc in f)
   some_keys t (Some a) e = go (arity_of p a) e
@@ -80,7 +80,7 @@ module _ (p : Program) where
             place = inr (subst (λ (n : ℕ). IsPlace p n i) told.0 told.1);
           }
 
-  -- all of them
+  -- all derivations before the first round have keys of rules
   pub first_keyed : (q : Searches) (fs : List Derivation) → AreFirst q p fs → All (HasKeysOfRules p) fs
   first_keyed q fs h =
       subst (λ (xs : List Derivation). All (HasKeysOfRules p) xs) (sym h.in_order)

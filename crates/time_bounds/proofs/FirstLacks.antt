@@ -1,4 +1,4 @@
--- What the first check of a size that fails says of the members of a component.
+-- What the first check that fails says of the members of a component.
 use Rattle.std.proofs.Common.{◌≡◌, ℕ, ◌||◌, Bool, true, false, List, [], ◌∷◌, map, None, refl}
 use Rattle.std.proofs.Common.{sym, ap, subst}
 use Rattle.std.specs.List.{AllByRecursion, Contains}
@@ -27,23 +27,23 @@ use Rattle.bound_fixpoint.proofs.Cases.{either}
 use Rattle.bound_fixpoint.proofs.ListMembers.{contains-cases, contains-none}
 use Rattle.time_bounds.specs.ProgramSizes.{AnswersMembers}
 use Rattle.time_bounds.specs.SizeWhys.{IsComponentOf, LacksFirst, RestsOnSize}
-use Rattle.time_bounds.specs.SizeWhys.{TakesFrom, BendsAt, GrowsUntimed, composed_size, SizeIsLarge}
+use Rattle.time_bounds.specs.SizeWhys.{TakesFrom, MultipliesAt, GrowsUntimed, composed_size, SizeIsLarge}
 use Rattle.time_bounds.specs.SizeWhys.{HasNoSize}
-use Rattle.time_bounds.proofs.FailingChecks.{of_all, BendGives, spread_gives, cycle_gives}
+use Rattle.time_bounds.proofs.FailingChecks.{of_all, NonlinearGives, spread_gives, cycle_gives}
 use Rattle.time_bounds.proofs.NeededMembers.{IsNeeded, into_needed, outside_keys, outside_alone, size_missing, time_missing}
 
--- what holds of each of a list by two facts of it
+-- a property of each element of a list follows from two properties of it
 pub from_both : {A : Type 0} (P Q R : A → Type 0) → ((x : A) → P x → Q x → R x) → (xs : List A) → AllByRecursion P xs → AllByRecursion Q xs
     → AllByRecursion R xs
 from_both P Q R f [] h k = tt
 from_both P Q R f (x ∷ xs) h k = (f x h.0 k.0, from_both P Q R f xs h.1 k.1)
 
--- each of a list, with the fact that it is one of it, gives what follows
+-- if each element of a list gives the conclusion, knowing that it is in the list, the conclusion follows
 each_member : {A : Type 0} (P Q : A → Type 0) (xs : List A) → ((x : A) → Contains xs x → P x → Q x) → AllByRecursion P xs → AllByRecursion Q xs
 each_member P Q xs f h =
     from_both (Contains xs) P Q f xs (recursion_from_All (Contains xs) xs (All-contains_itself xs)) h
 
--- result variables with the same parts are the same
+-- result variables with the same rule and place are equal
 same_result_variable : (m n : ResultVariable) → m.rule ≡ n.rule → m.place ≡ n.place → m ≡ n
 same_result_variable m n rule place = λ i. record { rule = rule i; place = place i }
 
@@ -52,7 +52,7 @@ module _ (p : Program) (pivots : ℕ) where
   s = setting_of p
 
   module _ (b : Bounds) (t i : ℕ) where
-    -- a size that is needed and isn't known, where the places that are needed are no members
+    -- a size that is a premise and isn't known; no premise is a member
     module _ (m : ResultVariable) (members : List Member) (component : IsComponentOf p pivots t i members)
         (first : LacksFirst s b members (SizeMissing m)) (inside : List Member)
         (outer : (x : ResultVariable) → IsNeeded s inside members x → has_key (map (λ k. k.result_variable) members) x.rule x.place ≡ false) where
@@ -80,7 +80,7 @@ module _ (p : Program) (pivots : ℕ) where
       all_rest [] h = tt
       all_rest (x ∷ result_variables) h = (rests x h.0, all_rest result_variables h.1)
 
-    -- a size that is the first to be missing
+    -- the reason if a size is the first premise that is missing
     size_so : (m : ResultVariable) (members : List Member) → IsComponentOf p pivots t i members → (v : Bool) → do_loop s members ≡ v
         → AnswersMembers v s (over b) members (Unsized (SizeMissing m)) → RestsOnSize p pivots b t i m
     size_so m [] component false e h = absurd h
@@ -116,30 +116,30 @@ module _ (p : Program) (pivots : ℕ) where
         (λ fails k. absurd (let none : ⊥ = cc in none))
         (subst (λ (q : Reason). reasons.IsFirstAmong (cycle_checks s (over b) members) q) is failed)
 
-    -- a member that bends first
+    -- the reason if a member is the first that is nonlinear
     nonlinear_so : (m : ResultVariable) (members : List Member) → IsComponentOf p pivots t i members → (v : Bool) → do_loop s members ≡ v
-        → AnswersMembers v s (over b) members (Unsized (SizeNonlinear m)) → BendsAt p pivots b t i m
+        → AnswersMembers v s (over b) members (Unsized (SizeNonlinear m)) → MultipliesAt p pivots b t i m
     nonlinear_so m [] component false e h = absurd h
     nonlinear_so m (n ∷ []) component false e (r, is, failed) =
-        spread_gives (reasons.Nonlinear m.rule m.place) (BendsAt p pivots b t i m) s (over b)
+        spread_gives (reasons.Nonlinear m.rule m.place) (MultipliesAt p pivots b t i m) s (over b)
         (λ k. let none : ⊥ = cc in none) (λ a c k. let none : ⊥ = cc in none) (λ a c k. let none : ⊥ = cc in none) n
         (of_all _ (λ x fails k. absurd (let none : ⊥ = cc in none)) (needed_into s [] (n ∷ [])))
         (λ fails k. absurd (let none : ⊥ = cc in none))
         (subst (λ (q : Reason). reasons.IsFirstAmong (spread_checks s (over b) n) q) is failed)
     nonlinear_so m (n ∷ k ∷ members) component false e h = absurd h
     nonlinear_so m members component true e (r, is, failed) =
-        cycle_gives (reasons.Nonlinear m.rule m.place) (BendsAt p pivots b t i m) s (over b)
+        cycle_gives (reasons.Nonlinear m.rule m.place) (MultipliesAt p pivots b t i m) s (over b)
         (λ k. let none : ⊥ = cc in none) (λ a c k. let none : ⊥ = cc in none) (λ a c k. let none : ⊥ = cc in none) members
         (of_all _ (λ x fails k. absurd (let none : ⊥ = cc in none)) (needed_into s members members))
-        (each_member (λ n. Unit {0}) (λ n. AllByRecursion (BendGives (reasons.Nonlinear m.rule m.place) (BendsAt p pivots b t i m) s members n)
+        (each_member (λ n. Unit {0}) (λ n. AllByRecursion (NonlinearGives (reasons.Nonlinear m.rule m.place) (MultipliesAt p pivots b t i m) s members n)
         (pre p n.result_variable.rule)) members (λ n among one. bends n among) (of_all (λ n. Unit {0}) (λ n. tt) members))
         (of_all _ (λ u fails k. absurd (let none : ⊥ = cc in none)) (needed_times s (over b) members))
         (λ fails k. absurd (let none : ⊥ = cc in none))
         (subst (λ (q : Reason). reasons.IsFirstAmong (cycle_checks s (over b) members) q) is failed)
       where
-        bends_at : (n : Member) → Contains members n → (IsStraight s members n → ⊥)
-            → reasons.Nonlinear n.result_variable.rule n.result_variable.place ≡ reasons.Nonlinear m.rule m.place → BendsAt p pivots b t i m
-        bends_at n among fails k =
+        multiplies_at : (n : Member) → Contains members n → (IsStraight s members n → ⊥)
+            → reasons.Nonlinear n.result_variable.rule n.result_variable.place ≡ reasons.Nonlinear m.rule m.place → MultipliesAt p pivots b t i m
+        multiplies_at n among fails k =
             let rule : n.result_variable.rule ≡ m.rule = cc in
             let place : n.result_variable.place ≡ m.place = cc in
             record {
@@ -154,15 +154,15 @@ module _ (p : Program) (pivots : ℕ) where
             }
 
         bends : (n : Member) → Contains members n
-            → AllByRecursion (BendGives (reasons.Nonlinear m.rule m.place) (BendsAt p pivots b t i m) s members n) (pre p n.result_variable.rule)
+            → AllByRecursion (NonlinearGives (reasons.Nonlinear m.rule m.place) (MultipliesAt p pivots b t i m) s members n) (pre p n.result_variable.rule)
         bends n among =
-            in-each (BendGives (reasons.Nonlinear m.rule m.place) (BendsAt p pivots b t i m) s members n) (pre p n.result_variable.rule)
+            in-each (NonlinearGives (reasons.Nonlinear m.rule m.place) (MultipliesAt p pivots b t i m) s members n) (pre p n.result_variable.rule)
             (λ u k. (
-              (λ fails same. bends_at n among (λ straight. fails (straight.up u k)) same),
-              λ fails same. bends_at n among (λ straight. fails (straight.low u k)) same,
+              (λ fails same. multiplies_at n among (λ straight. fails (straight.up u k)) same),
+              λ fails same. multiplies_at n among (λ straight. fails (straight.low u k)) same,
             ))
 
-    -- a time that is the first to be missing
+    -- the reason if a time is the first premise that is missing
     untimed_so : (u : ℕ) (members : List Member) → IsComponentOf p pivots t i members → (v : Bool) → do_loop s members ≡ v
         → AnswersMembers v s (over b) members (Unsized (SizeUntimed u)) → GrowsUntimed p pivots b t i u
     untimed_so u [] component false e h = absurd h
@@ -202,7 +202,7 @@ module _ (p : Program) (pivots : ℕ) where
               first = subst (λ (x : Bool). AnswersMembers x s (over b) members (Unsized (SizeUntimed u))) (sym e) (r, is, failed);
             }
 
-    -- a composed size that is large
+    -- the reason if the composed size is large
     large_so : (n : ℕ) (members : List Member) → IsComponentOf p pivots t i members → (v : Bool) → do_loop s members ≡ v
         → AnswersMembers v s (over b) members (Unsized (SizeLarge n)) → SizeIsLarge p pivots b t i n
     large_so n [] component false e h = absurd h
@@ -259,7 +259,7 @@ module _ (p : Program) (pivots : ℕ) where
     never w fails (n ∷ k ∷ members) false h = h
     never w fails members true (r, is, failed) = fails r is
 
-    -- what is judged of members with local bounds
+    -- the reason that the answer for members with local bounds gives is true
     pub judged_so : (why : NoSize) (members : List Member) → IsComponentOf p pivots t i members
         → AnswersMembers (do_loop s members) s (over b) members (Unsized why) → HasNoSize p pivots b t i why
     judged_so (SizeUnbounded side ray kept) members component h =

@@ -21,7 +21,7 @@ use Rattle.local_size.specs.Places.{value_on}
 use Rattle.time_bounds.specs.SizeWhys.{PassesEveryForm}
 use Rattle.time_bounds.specs.WorkedReports.{along_free, from_one}
 
--- what follows of a rule that has this number follows of the rule there
+-- a property of the rule with this number is one of the rule there
 pub of_rule : (P : Rule → Type 0) (r q : Rule) → Some r ≡ Some q → P q → P r
 of_rule P r q e h = subst P (sym (some_same r q e)) h
 

@@ -1,4 +1,4 @@
--- A composed bound stays over a table that has grown, where each bound that it reads was known.
+-- A composed bound is unchanged over a table that has grown, if each bound that it reads was known.
 use Rattle.std.proofs.Common.{◌≡◌, ℕ, zero, suc, ◌||◌, not, Bool, true, false, List, [], ◌∷◌, ◌++◌, ℤ, nat_abs, filter}
 use Rattle.std.proofs.Common.{Option, Some, None, refl, sym, ◌∙◌, ap}
 use Rattle.std.specs.List.{AllByRecursion, list_any}
@@ -30,12 +30,12 @@ use Rattle.cert_types.proofs.cert_rules.CheckLists.{each-in, in-each}
 use Rattle.bound_fixpoint.specs.Keys.{Bounds, over, size_by}
 use Rattle.time_bounds.specs.EarlierAnswers.{HasGrown}
 
--- all times and sizes that were known in a table are
+-- all times and sizes that were known in the old table are known in the new one, with the same bounds
 pub record TableHasGrown (old new : Table) : Type 0 where
   pub times : (t : ℕ) (b : Bound) → old.time t ≡ Some b → new.time t ≡ Some b
   pub sizes : (t i : ℕ) (b : Bound) → old.size t i ≡ Some b → new.size t i ≡ Some b
 
--- the same for tables of bounds in which all that was known still is
+-- tables have grown if their bounds have
 pub table_grown : (old new : Bounds) → HasGrown old new → TableHasGrown (over old) (over new)
 table_grown old new h = record { times = λ t b e. h.each t 0 b e; sizes = sizes }
   where
@@ -81,7 +81,7 @@ polynomial-agrees : (o : Option Polynomial) (a b : ℕ → Bound) → ((j : ℕ)
 polynomial-agrees None a b h = refl
 polynomial-agrees (Some q) a b h = ap SumOf (monomials-agree q a b h)
 
--- the same for a side bound's where those of the places that it reads do
+-- the bounds of a side bound agree if those of the places that it reads do
 side_bound-agrees : (o : Option Polynomial) (side_bound : SideBound) (a b : ℕ → Bound) → ((j : ℕ) → reads o side_bound j ≡ true → a j ≡ b j)
     → composed_side_bound o side_bound a ≡ composed_side_bound o side_bound b
 side_bound-agrees o (Linear den form multipliers) a b h =
@@ -90,14 +90,14 @@ side_bound-agrees o (Linear den form multipliers) a b h =
 side_bound-agrees o Poly a b h = polynomial-agrees o a b h
 
 module _ (s : Setting) (old new : Table) (grown : TableHasGrown old new) where
-  -- a known size stays, and so does a known time
+  -- a known size, and a known time, is unchanged
   size-stays : (e j : ℕ) → IsKnown (old.size e (suc j)) → sizes_after old.size e j ≡ sizes_after new.size e j
   size-stays e j k = ap known (k.1 ∙ sym (grown.sizes e (suc j) k.0 k.1))
 
   time-stays : (t : ℕ) → IsKnown (old.time t) → known (old.time t) ≡ known (new.time t)
   time-stays t k = ap known (k.1 ∙ sym (grown.times t k.0 k.1))
 
-  -- the size of a place that doesn't loop stays
+  -- the size of a place that doesn't loop is unchanged
   pub spread-stays : (m : Member) → HasSizesBefore s old [] m → spread_size s old m ≡ spread_size s new m
   spread-stays m h =
       ap MaximumOf (parts_for-agree (spread_part s m old.size) (spread_part s m new.size) (pre s.program m.result_variable.rule)
@@ -117,7 +117,7 @@ module _ (s : Setting) (old new : Table) (grown : TableHasGrown old new) where
     abbrev pub AreStraight : Member → ℕ → Type 0
     AreStraight m e = IsStraightSideBound s members m e m.local.up × IsStraightSideBound s members m e m.local.low
 
-    -- what a side bound adds stays, and so does what flows by it
+    -- what a side bound adds, and what flows by it, is unchanged
     offset-stays : (m : Member) (side_bound : SideBound) (e : ℕ) → SideBoundHasSizes s old members m.result_variable side_bound e → IsStraightSideBound s members m e side_bound
         → offset_of (poly_at s m.result_variable) side_bound (is_member members e) (sizes_after old.size e)
         ≡ offset_of (poly_at s m.result_variable) side_bound (is_member members e) (sizes_after new.size e)
@@ -144,7 +144,7 @@ module _ (s : Setting) (old new : Table) (grown : TableHasGrown old new) where
         let rest = from-stays m es h.1 k.1 in
         λ i. up i ∷ low i ∷ rest i
 
-    -- what flows into members stays
+    -- what flows into members is unchanged
     pub into-stays : (ms : List Member) → AllByRecursion (HasSizesBefore s old members) ms → AllByRecursion (IsStraight s members) ms
         → flows_into s members old.size ms ≡ flows_into s members new.size ms
     into-stays [] h k = refl
@@ -183,7 +183,7 @@ module _ (s : Setting) (old new : Table) (grown : TableHasGrown old new) where
           rw e (λ i. Part (ProductOf (both_parts (time i) (addition_of fs t))) (ih i))
       go false e ih = rw e ih
 
-  -- the size of the members of a loop stays
+  -- the size of the members of a loop is unchanged
   pub cycle-stays : (ms : List Member) → flows s ms old.size ≡ flows s ms new.size
       → AllByRecursion (λ t. IsKnown (old.time t))
       (filter (λ t. multiplies (flows s ms old.size) t || adds s (flows s ms old.size) t) (rules_of s ms))

@@ -1,5 +1,5 @@
--- The first check of a size that fails over a table is the first over one that has grown, while its reason remains
--- true.
+-- The first check of a size that fails over a table is the first over a table that has grown, as long as its reason
+-- remains true.
 use Rattle.std.proofs.Common.{◌≡◌, inl, inr, ℕ, ◌||◌, List, [], ◌∷◌, filter, Some, None, sym, ◌∙◌, ap, subst}
 use Rattle.std.specs.Prelude.{⊤}
 use Rattle.std.specs.List.{AllByRecursion}
@@ -21,23 +21,23 @@ use Rattle.cert_types.proofs.cert_rules.SizeReasons.{members-known}
 use Rattle.time_bounds.proofs.GrownBounds.{TableHasGrown, spread-stays, AreStraight, into-stays, cycle-stays}
 
 -- the reason of a check remains true over a table: what was missing is missing
-abbrev pub StandsFor : Table → Reason → Type 0
-StandsFor tab Shape = ⊤
-StandsFor tab NotEmpty = ⊤
-StandsFor tab Reached = ⊤
-StandsFor tab NotZero = ⊤
-StandsFor tab (Move t) = ⊤
-StandsFor tab Floor = ⊤
-StandsFor tab (SideBoundUp t i) = ⊤
-StandsFor tab (SideBoundLow t i) = ⊤
-StandsFor tab (MissingTime t) = tab.time t ≡ None
-StandsFor tab (MissingSize t i) = tab.size t i ≡ None
-StandsFor tab (Nonlinear t i) = ⊤
-StandsFor tab (Large n) = ⊤
-StandsFor tab NotWeaker = ⊤
+abbrev pub RemainsTrue : Table → Reason → Type 0
+RemainsTrue tab Shape = ⊤
+RemainsTrue tab NotEmpty = ⊤
+RemainsTrue tab Reached = ⊤
+RemainsTrue tab NotZero = ⊤
+RemainsTrue tab (Move t) = ⊤
+RemainsTrue tab Floor = ⊤
+RemainsTrue tab (SideBoundUp t i) = ⊤
+RemainsTrue tab (SideBoundLow t i) = ⊤
+RemainsTrue tab (MissingTime t) = tab.time t ≡ None
+RemainsTrue tab (MissingSize t i) = tab.size t i ≡ None
+RemainsTrue tab (Nonlinear t i) = ⊤
+RemainsTrue tab (Large n) = ⊤
+RemainsTrue tab NotWeaker = ⊤
 
--- a check for each element: where each that held holds, and one that fails fails for the same reason, the first that
--- fails stays the first
+-- checks of the same elements over two tables: if each that held holds, and one that failed fails for the same reason,
+-- the first that fails is the same
 each-still : {A : Type 0} (f g : A → Check) (r : Reason) → ((x : A) → (f x).holds → (g x).holds)
     → ((x : A) → ¬ (f x).holds → (f x).reason ≡ r → ¬ (g x).holds × ((g x).reason ≡ r)) → (xs : List A) (rest later : List Check)
     → IsFirstAmong (for_each f xs rest) r
@@ -47,7 +47,7 @@ each-still f g r keeps fails (x ∷ xs) rest later (inl h) k = inl (fails x h.0 
 each-still f g r keeps fails (x ∷ xs) rest later (inr h) k =
     inr (keeps x h.0, each-still f g r keeps fails xs rest later h.1 (λ all first. k (h.0, all) first))
 
--- the same checks
+-- checks that don't depend on the table fail alike
 same-still : {A : Type 0} (f : A → Check) (r : Reason) (xs : List A) (rest later : List Check) → IsFirstAmong (for_each f xs rest) r
     → (AllByRecursion (λ x. (f x).holds) xs → IsFirstAmong rest r → IsFirstAmong later r) → IsFirstAmong (for_each f xs later) r
 same-still f r xs rest later h k = each-still f f r (λ x y. y) (λ x y e. (y, e)) xs rest later h k
@@ -55,27 +55,27 @@ same-still f r xs rest later h k = each-still f f r (λ x y. y) (λ x y e. (y, e
 none-some : (b : Bound) → None ≡ Some b → ⊥
 none-some b e = cc
 
-module _ (s : Setting) (old new : Table) (grown : TableHasGrown old new) (r : Reason) (stands : StandsFor new r) where
-  -- the checks of sizes, and those of times
+module _ (s : Setting) (old new : Table) (grown : TableHasGrown old new) (r : Reason) (stands : RemainsTrue new r) where
+  -- the checks that sizes, or times, are known
   sizes-still : (result_variables : List ResultVariable) (rest later : List Check) → IsFirstAmong (for_each (check_size old) result_variables rest) r
       → (AllByRecursion (λ m. IsKnown (old.size m.rule m.place)) result_variables → IsFirstAmong rest r → IsFirstAmong later r)
       → IsFirstAmong (for_each (check_size new) result_variables later) r
   sizes-still result_variables rest later h k =
       each-still (check_size old) (check_size new) r (λ m y. (y.0, grown.sizes m.rule m.place y.0 y.1))
-      (λ m n e. ((λ y. none-some y.0 (sym (subst (StandsFor new) (sym e) stands) ∙ y.1)), e)) result_variables rest later h k
+      (λ m n e. ((λ y. none-some y.0 (sym (subst (RemainsTrue new) (sym e) stands) ∙ y.1)), e)) result_variables rest later h k
 
   times-still : (ts : List ℕ) (rest later : List Check) → IsFirstAmong (for_each (check_time old) ts rest) r
       → (AllByRecursion (λ t. IsKnown (old.time t)) ts → IsFirstAmong rest r → IsFirstAmong later r)
       → IsFirstAmong (for_each (check_time new) ts later) r
   times-still ts rest later h k =
       each-still (check_time old) (check_time new) r (λ t y. (y.0, grown.times t y.0 y.1))
-      (λ t n e. ((λ y. none-some y.0 (sym (subst (StandsFor new) (sym e) stands) ∙ y.1)), e)) ts rest later h k
+      (λ t n e. ((λ y. none-some y.0 (sym (subst (RemainsTrue new) (sym e) stands) ∙ y.1)), e)) ts rest later h k
 
-  -- the check that a composed bound is small, where the bound stays
+  -- the check that a composed bound is small, if the bound is unchanged
   small-still : (a b : Bound) → a ≡ b → IsFirstAmong (check_small s a ∷ []) r → IsFirstAmong (check_small s b ∷ []) r
   small-still a b e h = subst (λ (x : Bound). IsFirstAmong (check_small s x ∷ []) r) e h
 
-  -- of a place that doesn't loop
+  -- the checks of a place that doesn't loop
   pub spread-still : (m : Member) → IsFirstAmong (spread_checks s old m) r → IsFirstAmong (spread_checks s new m) r
   spread-still m (inl h) = inl h
   spread-still m (inr (shape, inl h)) = inr (shape, inl h)
@@ -120,7 +120,7 @@ module _ (s : Setting) (old new : Table) (grown : TableHasGrown old new) (r : Re
           low = λ e i. (each-in (AreStraight s old new grown ms m) (pre s.program m.result_variable.rule) here e i).1;
         }
 
-    -- the checks behind those of the sizes, of the bends
+    -- the checks after those of sizes: that side bounds are linear, of times, and that the size is small
     abbrev small_checks : Table → List Check
     small_checks tab = check_small s (cycle_size s tab ms) ∷ []
 
@@ -140,7 +140,7 @@ module _ (s : Setting) (old new : Table) (grown : TableHasGrown old new) (r : Re
         (times-still (needed_times s old ms) (small_checks old) (small_checks new) h
         (λ times first. small-still (cycle_size s old ms) (cycle_size s new ms) (cycle-stays s old new grown ms same times) first))
 
-    -- of the members of a loop
+    -- the checks of the members of a loop
     pub cycle-still : IsFirstAmong (cycle_checks s old ms) r → IsFirstAmong (cycle_checks s new ms) r
     cycle-still (inl h) = inl h
     cycle-still (inr (shape, h)) =

@@ -15,7 +15,7 @@ use Rattle.outcome.specs.declared.entry.CostEntry.{CostEntry}
 use Rattle.outcome.specs.declared.entry.TimeEntry.{TimeEntry}
 use Rattle.time_bounds.specs.Totals.{spent_by, spendings_by, before, known_parts, total_of}
 
--- these parts before others, where there are others
+-- these parts before others, if there are others
 abbrev pub all_before : Parts → Option Parts → Option Parts
 all_before done None = None
 all_before done (Some rest) = Some (joined done rest)
@@ -30,11 +30,11 @@ none_before : (done : Parts) → all_before done None ≡ None
 none_before done = refl
 
 module _ (times : List TimeEntry) (costs : List (Option CostEntry)) where
-  -- what is known of the rules from a position on
+  -- the known bounds on what the rules from a position on spend
   abbrev pub known_from : ℕ → Option Parts
   known_from i = known_parts (spendings_by (drop i times) (drop i costs))
 
-  -- it is what the rule there spends, before what is known of the others
+  -- these are the bound of the rule there, before those of the rules after it
   left_more : (i : ℕ) (d : TimeEntry) (e : Option CostEntry) → i < length times → i < length costs
       → known_from i ≡ before (spent_by (get_or times i d) (get_or costs i e)) (known_from (i + 1))
   left_more i d e low short =
@@ -42,7 +42,7 @@ module _ (times : List TimeEntry) (costs : List (Option CostEntry)) where
       ∙ at_drop_more (λ (cs : List (Option CostEntry)). known_parts (spendings_by (get_or times i d ∷ drop (i + 1) times) cs)) costs i
       e short
 
-  -- a bound was pushed
+  -- pushing the bound of a rule leaves all parts together the same
   pub pushed : (i : ℕ) (d : TimeEntry) (e : Option CostEntry) (all : Option Parts) (xs : List Bound) (x : Bound) (new : List Bound)
       → i < length times → i < length costs → all ≡ all_before (parts_of (bounds_of xs)) (known_from i)
       → spent_by (get_or times i d) (get_or costs i e) ≡ Some (bound_of x) → new ≡ xs ++ x ∷ []
@@ -55,7 +55,7 @@ module _ (times : List TimeEntry) (costs : List (Option CostEntry)) where
       ∙ (ap (λ (ps : Parts). all_before ps (known_from (i + 1))) (sym (parts_of-more xs x))
       ∙ ap (λ (ys : List Bound). all_before (parts_of (bounds_of ys)) (known_from (i + 1))) (sym n))))
 
-  -- one is missing
+  -- if the bound of a rule is missing, there aren't all parts
   pub missing : (i : ℕ) (d : TimeEntry) (e : Option CostEntry) (all : Option Parts) (done : Parts) → i < length times
       → i < length costs → all ≡ all_before done (known_from i) → spent_by (get_or times i d) (get_or costs i e) ≡ None → all ≡ None
   missing i d e all done low short inv spent =
@@ -63,7 +63,7 @@ module _ (times : List TimeEntry) (costs : List (Option CostEntry)) where
       (left_more i d e low short ∙ ap (λ (o : Option plain.Bound). before o (known_from (i + 1))) spent)
       ∙ none_before done)
 
-  -- none is left
+  -- after the last rule the pushed bounds are all parts
   pub all_pushed : (i : ℕ) (all : Option Parts) (done : Parts) → length times ≤ i → all ≡ all_before done (known_from i) → all ≡ Some done
   all_pushed i all done high inv =
       inv ∙ (ap (λ (ts : List TimeEntry). all_before done (known_parts (spendings_by ts (drop i costs))))
@@ -76,6 +76,6 @@ pub total_some : (times : List (Option plain.Bound)) (ps : Parts) (r : plain.Bou
 total_some times ps r e f =
     ap (λ (b : plain.Bound). Some b) f ∙ sym (ap (option_map (λ (parts : Parts). rewritten (SumOf parts))) e)
 
--- where a time is missing there is no total
+-- if a bound is missing there is no total
 pub total_none : (times : List (Option plain.Bound)) → known_parts times ≡ None → None ≡ total_of times
 total_none times e = sym (ap (option_map (λ (parts : Parts). rewritten (SumOf parts))) e)

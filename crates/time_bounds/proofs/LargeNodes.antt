@@ -18,12 +18,12 @@ mutual
   deep (MaximumOf bs) = let h = all_deep bs in omega (arith, h)
   deep (PowerOf c e) = let h = deep e in omega (arith, h)
 
-  -- and so have several
+  -- a list of bounds has at least as many nodes as levels
   all_deep : (bs : Parts) → maximum_depth bs ≤ node_count_of_all bs
   all_deep NoParts = omega arith
   all_deep (Part b bs) = let h = deep b in let k = all_deep bs in omega (arith, h, k)
 
--- so a large one has more than 200, also by the capped count
+-- a large bound has more than 200 nodes, also by the capped count
 many : (b : Bound) → is_large b ≡ true → 200 < capped_node_count b
 many b large = go (nat_lt node_limit (node_count b)) refl
   where
@@ -34,7 +34,7 @@ many b large = go (nat_lt node_limit (node_count b)) refl
         let d = deep b in
         omega (arith, l, d)
 
--- and so has one that is large before or after it is rewritten
+-- a bound that is large before or after it is rewritten has more than 200 nodes
 pub large_many : (rewrite : Bound → Bound) (b : Bound) → (IsSmallComposed rewrite b → ⊥) → 200 < large_nodes rewrite b
 large_many rewrite b large = before (is_large b) refl
   where

@@ -19,7 +19,7 @@ pub mod ResultVariableLists
 pub mod LiveResultVariables
 pub mod RightComponents
 pub mod RightSizings
--- and a program has one analysis
+-- a program has one analysis
 pub mod OneSizings
 pub mod OneSizes
 pub mod OneSearches
@@ -36,7 +36,7 @@ pub mod FirstKeys
 pub mod OpenDerivations
 pub mod TriedDerivations
 pub mod NeedLists
--- one more rule
+-- lists of rules and answers with one more element
 pub mod NumberedLists
 pub mod NamedGaps
 pub mod AnswerLaws
@@ -51,7 +51,7 @@ pub mod CandidateLaws
 pub mod SideBoundLists
 pub mod ComponentSideBounds
 pub mod PlacedLaws
--- what components answer
+-- the answers for components
 pub mod MemberLoops
 pub mod PolynomialUpdates
 pub mod CandidateComponents
@@ -60,7 +60,7 @@ pub mod ComponentTries
 pub mod GrownBounds
 pub mod GrownChecks
 pub mod OpenPlaces
-pub mod StandingAnswers
+pub mod TrueAnswers
 pub mod SizeRounds
 pub mod MadeRounds
 -- the entries of sizes
@@ -74,7 +74,7 @@ pub mod SizeNumbers
 pub mod CostEntries
 pub mod CostingAnswers
 pub mod CostNumbers
--- what is found of a program is its analysis
+-- the outcome that the code makes is the program's analysis
 pub mod ReportEntries
 pub mod AnalysisOfDerivations
 pub mod WholeAnalysis
@@ -84,7 +84,7 @@ pub mod DerivationKeys
 pub mod SaidKnown
 pub mod FailingChecks
 pub mod NeededMembers
-pub mod ArmlessPlaces
+pub mod PlacesWithoutSideBound
 pub mod PassedForms
 pub mod TrueTimeWhys
 pub mod FirstLacks
@@ -97,7 +97,7 @@ pub mod SoughtSets
 pub mod WorkedTimeWhys
 pub mod WorkedSizeWhys
 pub mod WorkedWhys
--- what is found can be printed
+-- derived bounds can be printed
 pub mod Printables
 pub mod PrintableOutcomes
 -- the lemmas of the crates below, which callers name through this one

@@ -1,4 +1,4 @@
--- The answers for the places of a live rule, by what is read of the rule.
+-- The answers for the places of a live rule, by the rows that were prepared of it.
 use Rattle.std.proofs.Common.{◌≡◌, ℕ, suc, ◌+◌, ◌<◌, List, [], length, get_or, Some, refl, sym, ◌∙◌, ap, subst, arith}
 use Rattle.std.specs.Prelude.{slice_get}
 use Rattle.std.proofs.lemmas.List.{length-map}
@@ -45,7 +45,7 @@ module _ (p : Program) (pivots : ℕ) (valid : IsValid (program_of p)) (prepared
   same : prepared_of m ≡ prepared (rule_of r)
   same = at.same ∙ ap prepared same_rule
 
-  -- the rows that are read are prepared from a rule
+  -- the rows that were read are prepared from a rule
   pub prepared_rule_prepared : IsPrepared m
   prepared_rule_prepared = record { rule = rule_of r; preparable = preparable (program_of p) (suc i) (rule_of r) valid numbered; same = same }
 
@@ -57,12 +57,12 @@ module _ (p : Program) (pivots : ℕ) (valid : IsValid (program_of p)) (prepared
       ∙ ((rule-of (program_of p) [] 0 [] (suc i) (rule_of r) valid numbered).values
       ∙ arity_read p r.target x (target_read p valid i r low r_is) k))
 
-  -- the answer that is read is the one at the rule's position
+  -- the answer that was read is the one at the rule's position
   pub empty_got : slice_get empties i ≡ Some e
   empty_got =
       slice_get_read empties (length empties) i e refl (omega (arith, low, known.one_each, length-map p.rules.items rule_of)) e_is
 
-  -- so these answers are those of the rule
+  -- these answers are those of the rule
   pub live_after : (f : RuleStatus) (answers : List LocalAnswer) (x : Symbol) → x ≡ get_or p.symbols.items r.target x → length answers ≡ x.arity
       → AreAnswersAt (prepared_of m) (i + 1) pivots e 1 answers → AreAnswersAfter (program_of p) pivots (i + 1) f answers
   live_after f answers x k long h =

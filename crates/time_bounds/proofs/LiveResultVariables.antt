@@ -1,4 +1,4 @@
--- The places of live rules: they ascend, and are those of the live rules.
+-- The places of live rules: they ascend, and contain just the places after live rules.
 use Rattle.std.proofs.Common.{◌≡◌, ◌⊎◌, inl, inr, ℕ, zero, suc, ◌+◌, ◌<◌, ◌≤◌, ◌==◌, ◌&&◌, ◌||◌, Bool, true, false}
 use Rattle.std.proofs.Common.{cond, List, []}
 use Rattle.std.proofs.Common.{◌∷◌, ◌++◌, length, map, Option, Some, None, refl, sym, ◌∙◌, ap, subst, arith}
@@ -27,7 +27,7 @@ row-ascend : (t a n : ℕ) → Ascend (map (result_variable t) (range_with_len a
 row-ascend t a zero = tt
 row-ascend t a (suc n) = (row-before t a (a + 1) n (omega arith), row-ascend t (a + 1) n)
 
--- all of these are after rules from k on
+-- all these places are after rules from rule k on
 abbrev AreFrom : ℕ → List ResultVariable → Type 0
 AreFrom k [] = Unit {0}
 AreFrom k (m ∷ ms) = (k ≤ m.rule) × AreFrom k ms
@@ -54,7 +54,7 @@ row-from t [] = tt
 row-from t (i ∷ is) = (omega arith, row-from t is)
 
 module _ (p : Program) (is_live : ℕ → Bool) where
-  -- the places after a rule, where it is live
+  -- the places after a rule, if it is live
   abbrev row : ℕ → Bool → List ResultVariable
   row t v = cond v (target_result_variables p t) []
 
@@ -139,7 +139,7 @@ module _ (p : Program) (is_live : ℕ → Bool) where
       go (inl k) later = here (is_live u) refl k
       go (inr k) later = later k
 
-  -- and each place of a live rule is one of the places of live rules
+  -- each place of a live rule among these rules is one of the places
   among : (ts : List ℕ) (t i : ℕ) → is_in t ts ≡ true → is_live t ≡ true → IsPlace p t i
       → has_key (result_variables_of p is_live ts) t i ≡ true
   among [] t i h live place = absurd (no_is_not_yes false refl h)

@@ -1,4 +1,4 @@
--- Lists of answers for the places of live rules are what is answered of them.
+-- Lists of answers for the places of live rules are the answers of the searches.
 use Rattle.std.proofs.Common.{◌≡◌, ℕ, zero, suc, ◌+◌, ◌<◌, Bool, true, false, not, List, [], ◌∷◌, ◌++◌, length, map}
 use Rattle.std.proofs.Common.{Some, refl, sym, ◌∙◌, ap, subst, arith}
 use Rattle.std.specs.Prelude.{slice_get, slice_index_or}
@@ -70,14 +70,14 @@ answers_after p pivots i r f e answers numbered is long h = record {
   };
 }
 
--- no question is asked about a rule that isn't live
+-- a rule that isn't live is not queried
 pub none_after : (p : Program) (pivots t : ℕ) (f : RuleStatus) → is_live_rule_status f ≡ false → AreAnswersAfter p pivots t f []
 none_after p pivots t f h = record {
   long = λ r n live. absurd (no_is_not_yes (is_live_rule_status f) h (ap is_live_rule_status live));
   each = λ i a live g. absurd (none_some a g);
 }
 
--- one rule more
+-- the answers with those of one rule more
 pub all_more : (p : Program) (pivots k : ℕ) (rule_statuses : List RuleStatus) (lists : List (List LocalAnswer)) (f : RuleStatus) (answers : List LocalAnswer)
     → AreAllAnswers p pivots k rule_statuses lists → AreAnswersAfter p pivots (k + length rule_statuses) f answers
     → AreAllAnswers p pivots k (rule_statuses ++ f ∷ []) (lists ++ answers ∷ [])
@@ -109,7 +109,7 @@ all_at p pivots k (x ∷ rule_statuses) (l ∷ lists) (suc i) f answers h e g =
     subst (λ (n : ℕ). AreAnswersAfter p pivots n f answers) (let z : suc k + i ≡ k + suc i = omega arith in z)
     (all_at p pivots (suc k) rule_statuses lists i f answers h.1 e g)
 
--- a rule that is flagged is live, and one of this many
+-- a flagged rule is live, and has a number up to the count of rules
 flagged_live : (rule_statuses : List RuleStatus) (i : ℕ) → slice_index_or (map is_live_rule_status rule_statuses) i false ≡ true → slice_get rule_statuses i ≡ Some Live
 flagged_live [] i h = absurd (no_is_not_yes false refl h)
 flagged_live (Live ∷ rule_statuses) zero h = refl
@@ -134,7 +134,7 @@ module _ (p : Program) (pivots : ℕ) (rule_statuses : List RuleStatus) (lists :
   abbrev pub flags : List Bool
   flags = map is_live_rule_status rule_statuses
 
-  -- the rules that are flagged are the live ones
+  -- the flagged rules are the live ones
   pub lives : AreLive p pivots (is_flagged (map is_live_rule_status rule_statuses))
   lives = record {
     is_empty = λ e. is_empty_rule_status (rule_status_at rule_statuses e);
@@ -165,7 +165,7 @@ module _ (p : Program) (pivots : ℕ) (rule_statuses : List RuleStatus) (lists :
           by true e = absurd (alive ((are.dead (suc i) rule).0 e))
           by false e = refl
 
-  -- the answers of a rule that is flagged
+  -- the answers for a flagged rule
   here : (i : ℕ) → is_flagged (map is_live_rule_status rule_statuses) (suc i) ≡ true
       → (answers : List LocalAnswer) × (slice_get lists i ≡ Some answers) × AreAnswersAfter p pivots (suc i) Live answers
   here i h =
@@ -195,7 +195,7 @@ module _ (p : Program) (pivots : ℕ) (rule_statuses : List RuleStatus) (lists :
         x.2.each j a.0 refl a.1,
       )
 
-  -- of each place after a live rule the answer that is read is its local bound, or why it has none
+  -- for each place after a live rule the stored answer is its local bound, or why it has none
   pub locals : AreLocals p pivots (is_flagged (map is_live_rule_status rule_statuses)) (local_from lists)
   locals t i h place =
       let x = answer_here t i h place in

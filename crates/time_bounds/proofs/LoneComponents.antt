@@ -1,4 +1,4 @@
--- A component that doesn't loop has one member, and so has one with a member into which no value flows.
+-- A component that doesn't loop has one member, and so has a component with a member into which no value flows.
 use Rattle.std.proofs.Common.{◌≡◌, inl, inr, ℕ, zero, suc, ◌<◌, ◌==◌, ◌||◌, Bool, true, false, List, [], ◌∷◌, ◌++◌}
 use Rattle.std.proofs.Common.{length, map, refl, sym, ◌∙◌, ap, subst, arith, Contains}
 use Rattle.std.specs.List.{list_any}
@@ -25,7 +25,7 @@ last_edge : (E : ℕ → ℕ → Type 0) (a b : ℕ) → Path E a b → (a ≡ b
 last_edge E a b (Here e) h = absurd (h e)
 last_edge E a b (Onward {b = z} q e) h = record { from = z; way = q; edge = e }
 
--- what holds of one of a list holds of some
+-- if a test succeeds for the image of an element, it succeeds for some image
 any_of : {A : Type 0} (f : ℕ → A) (g : A → Bool) (ps : List ℕ) (x : ℕ) → Contains ps x → g (f x) ≡ true → list_any g (map f ps) ≡ true
 any_of f g [] x (n, l, same) h = absurd (omega (arith, l))
 any_of f g (p ∷ ps) x (zero, l, same) h = first (g (f p)) (list_any g (map f ps)) (ap (λ (y : ℕ). g (f y)) same ∙ h)
@@ -63,7 +63,7 @@ module _ (s : Setting) (is_live : ℕ → Bool) (local : Locals) where
       any_of at (λ n. list_any (λ m. value_flows s local m n) (map at ps)) ps b in_b
       (any_of at (λ m. value_flows s local m (at b)) ps last.from in_from last.edge.flow)
 
-  -- so one that doesn't has one member
+  -- a component that doesn't loop has one member, by positions
   one_member : (ps : List ℕ) (nodes : ℕ) (before : List (List ℕ)) → IsNext flow nodes before ps → loops s local (map at ps) ≡ false
       → (m : ResultVariable) × (map at ps ≡ m ∷ [])
   one_member [] nodes before next h =
@@ -91,7 +91,7 @@ module _ (s : Setting) (is_live : ℕ → Bool) (local : Locals) where
   lone cs found c one h =
       found_member found.positions [] found.positions refl found.listing c (subst (λ (ds : List (List ResultVariable)). IsOneOf ds c) found.result_variables one) h
 
-  -- a member into which no value flows has no other beside it
+  -- if no value flows into a member, it is the only one, by positions
   alone_at : (ps : List ℕ) (nodes : ℕ) (before : List (List ℕ)) → IsNext flow nodes before ps → (b : ℕ) → Contains ps b
       → ((a : ℕ) → flow a b → ⊥) → (a : ℕ) → Contains ps a → a ≡ b
   alone_at ps nodes before next b in_b none a in_a = go (a == b) refl
@@ -131,7 +131,7 @@ module _ (s : Setting) (is_live : ℕ → Bool) (local : Locals) where
   found_alone positions before (ps ∷ rest) e listing c (inr one) m h none =
       found_alone positions (before ++ ps ∷ []) rest (e ∙ sym (append_assoc before (ps ∷ []) rest)) listing c one m h none
 
-  -- a component with a member into which no value flows has no other
+  -- a component with a member into which no value flows has no other member
   pub taking_none : (cs : List (List ResultVariable)) → AreComponents s is_live local cs → (c : List ResultVariable) → IsOneOf cs c → (m : ResultVariable)
       → has_key c m.rule m.place ≡ true → TakesNothing m → c ≡ m ∷ []
   taking_none cs found c one m h none =

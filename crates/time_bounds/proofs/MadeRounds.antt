@@ -26,7 +26,7 @@ module _ (cx : Context) (cs : List Candidate) (old new : List Derivation) (kept 
       subst (λ (fs : List plain.Derivation). IsMade (searches_of_program (program_in cx) cx.pivots) (setting_of (program_in cx)) fs) (sym h.grown)
       (Made made h.round)
 
-  -- and what is kept of it is kept for the next
+  -- the queries and attempts of a round are those that the next round gets
   pub round_kept : IsRoundMade cx cs old new kept → AreKeptFor cx cs new kept
   round_kept h = record {
     one_each = h.one_each;
@@ -35,14 +35,14 @@ module _ (cx : Context) (cs : List Candidate) (old new : List Derivation) (kept 
     attempts = h.attempts;
   }
 
-  -- this many were found
+  -- the derivations after a round are as many as before it, and those that it made
   count : (h : IsRoundMade cx cs old new kept) → length new ≡ length old + length h.more
   count h =
       sym (length-map new derivation_of)
       ∙ (ap (λ (fs : List plain.Derivation). length fs) h.grown
       ∙ (length-append (derivations_of old) h.more ∙ ap (λ (n : ℕ). n + length h.more) (length-map old derivation_of)))
 
-  -- where there are no more derivations than before, none was found
+  -- if there are no more derivations than before, the round made none
   nothing_more : (h : IsRoundMade cx cs old new kept) → length new ≡ length old → h.more ≡ []
   nothing_more h e = none h.more (omega (arith, count h, e))
     where
@@ -50,7 +50,7 @@ module _ (cx : Context) (cs : List Candidate) (old new : List Derivation) (kept 
       none [] l = refl
       none (f ∷ fs) l = absurd (omega (arith, l))
 
-  -- so a round that finds nothing is one over the derivations that it leaves
+  -- a round without a derivation is one over the derivations that it leaves
   pub same_derivations : (h : IsRoundMade cx cs old new kept) → length new ≡ length old → IsRoundMade cx cs new new kept
   same_derivations h e =
       let same : derivations_of new ≡ derivations_of old =
@@ -71,7 +71,7 @@ module _ (cx : Context) (cs : List Candidate) (old new : List Derivation) (kept 
             kept.attempts.items) (sym same) h.attempts;
       }
 
-  -- and one that finds something leaves fewer bounds missing
+  -- after a round with a derivation fewer bounds are missing
   pub fewer_missing : (h : IsRoundMade cx cs old new kept) → (¬ (length new ≡ length old))
       → missing (program_in cx) (known_with cx new) < missing (program_in cx) (known_with cx old)
   fewer_missing h more =
@@ -86,7 +86,7 @@ module _ (cx : Context) (cs : List Candidate) (old new : List Derivation) (kept 
           let found : length h.more ≡ 0 = ap (λ (fs : List plain.Derivation). length fs) none in
           absurd (more (omega (arith, count h, found)))
 
--- derivations over which a round finds nothing are the last
+-- derivations over which a round derives nothing are the last
 pub round_closed : (cx : Context) (cs : List Candidate) (fs : List Derivation) (kept : LastRound) → AreMade cx fs → IsRoundMade cx cs fs fs kept
     → IsLast (searches_of_program (program_in cx) cx.pivots) (setting_of (program_in cx)) (derivations_of fs)
 round_closed cx cs fs kept made h = record {

@@ -11,7 +11,7 @@ use Rattle.bound_fixpoint.specs.Loops.{reads_member, do_loop}
 use Rattle.rvg_components.specs.Flows.{Locals, local_reads, value_flows, loops}
 use Rattle.time_bounds.specs.ProgramSizes.{AreMembers}
 
--- a member has the local bound that is answered of its place
+-- a member has the local bound of the answer for its place
 abbrev HasItsBound : Locals → Member → Type 0
 HasItsBound local m = local m.result_variable.rule m.result_variable.place ≡ HasBound m.local
 

@@ -29,7 +29,7 @@ pub gap_added : (gaps : List Gap) (g : Gap) → numbered_gap (gaps ++ g ∷ []) 
 gap_added [] g = refl
 gap_added (h ∷ gaps) g = gap_added gaps g
 
--- so the entry stays right
+-- the entry of a time stays right when a gap is appended
 pub entry_kept : (gaps more : List Gap) (e : TimeEntry) → HasItsGap (length gaps) e → time_of (gaps ++ more) e ≡ time_of gaps e
 entry_kept gaps more (entries.Known s) h = refl
 entry_kept gaps more (entries.Gap n) h = ap (λ g. Untimed (NoFunction g)) (gap_kept gaps more n h.0 h.1)

@@ -1,4 +1,4 @@
--- What ranking nodes need, one place and one entry more at a time.
+-- The premises of ranking nodes, with one place and with one entry more.
 use Rattle.std.proofs.Common.{◌≡◌, ℕ, suc, ◌+◌, ◌<◌, Bool, true, false, cond, List, [], ◌∷◌, ◌++◌, length, map, take}
 use Rattle.std.proofs.Common.{get_or, refl, sym, ◌∙◌, ap, arith}
 use Rattle.std.specs.Prelude.{ℤ}
@@ -43,7 +43,7 @@ read-more e xs cs i d low =
         ∙ (read-append (take i cs) 1 (get_or cs i d)
         ∙ ap (λ (j : ℕ). read_places 1 (take i cs) ++ read_here (get_or cs i d) j) (let at_last : 1 + length (take i cs) ≡ i + 1 = omega (arith, long) in at_last))
 
--- what a node needs of one entry more
+-- the premises of a node with one entry more
 pub premises-append : (p : Program) (node : RankNode) (es : List ℕ) (e : ℕ)
     → premises_of_all p node (es ++ e ∷ []) ≡ premises_of_all p node es ++ entry_premises p node e
 premises-append p node [] e = append-nil (entry_premises p node e)

@@ -1,4 +1,4 @@
--- The sizes that members need are those of places from which one of them takes its value, and which are no members.
+-- The sizes that members need are those of places from which one of them takes its value, and which aren't members.
 use Rattle.std.proofs.Common.{◌≡◌, ℕ, zero, suc, ◌-◌, ◌≤◌, ◌==◌, ◌&&◌, ◌||◌, not, Bool, true, false, List, []}
 use Rattle.std.proofs.Common.{◌∷◌, ◌++◌, map, Option, Some, None, refl, sym, ◌∙◌, ap, subst, arith}
 use Rattle.std.specs.List.{AllByRecursion, Contains, list_any}
@@ -19,7 +19,7 @@ use Rattle.bound_fixpoint.proofs.Cases.{either}
 use Rattle.bound_fixpoint.proofs.Keys.{has_key-cases, has_key-none}
 use Rattle.time_bounds.specs.SizeWhys.{TakesFrom}
 
--- the number of a place before the rule, from 0
+-- a place from 1 on is one more than its number from 0
 one_less : (j : ℕ) → j ≡ suc j - 1
 one_less j = omega arith
 
@@ -32,7 +32,7 @@ module _ (s : Setting) (inside all : List Member) where
     pub outside : is_member inside m.rule (m.place - 1) ≡ false
 
   module _ (n : Member) (among : Contains all n) (e : ℕ) (before : is_in e (pre s.program n.result_variable.rule) ≡ true) where
-    -- a place that one of its side bounds reads, where it isn't inside
+    -- a place that one of a member's side bounds reads, and which isn't inside, is needed
     read_needed : (side_bound : SideBound) (j : ℕ)
         → (reads (poly_at s n.result_variable) side_bound j ≡ true
         → (reads (poly_at s n.result_variable) n.local.up j || reads (poly_at s n.result_variable) n.local.low j) ≡ true)
@@ -77,7 +77,7 @@ module _ (s : Setting) (inside all : List Member) where
       (λ j k. or_right (reads (poly_at s n.result_variable) n.local.up j) (reads (poly_at s n.result_variable) n.local.low j) k))
       (from_needed n among es h.1))
 
-  -- and of each of these members
+  -- the same for each of these members
   pub into_needed : (ms : List Member) → AllByRecursion (Contains all) ms
       → AllByRecursion IsNeeded (needed_into s inside ms)
   into_needed [] h = tt
@@ -98,7 +98,7 @@ outside_keys ms e zero l h = absurd (omega (arith, l))
 outside_keys ms e (suc j) l h =
     members_keys ms e j ∙ subst (λ (n : ℕ). is_member ms e n ≡ false) (sym (one_less j)) h
 
--- where a member alone doesn't loop, the places from which it takes its value are others
+-- if a single member doesn't loop, it takes its value from other places
 pub outside_alone : (s : Setting) (n : Member) (m : ResultVariable) → do_loop s (n ∷ []) ≡ false → TakesFrom s n m
     → has_key (map (λ k. k.result_variable) (n ∷ [])) m.rule m.place ≡ false
 outside_alone s n m alone takes = go (has_key (n.result_variable ∷ []) m.rule m.place) refl
@@ -132,7 +132,7 @@ size_missing b t (suc i) l fails = go (b t (suc i)) refl
     go None e = e
     go (Some c) e = absurd (fails (c, e))
 
--- and so is a time
+-- a time that isn't known is missing
 pub time_missing : (b : Bounds) (t : ℕ) → (IsKnown (b t 0) → ⊥) → b t 0 ≡ None
 time_missing b t fails = go (b t 0) refl
   where

@@ -1,8 +1,8 @@
--- What holds of each of a list by its number holds of one more, and of the one at a position.
+-- A property of each element by its number, for a list with one element more, and for the element at a position.
 use Rattle.std.proofs.Common.{◌≡◌, ℕ, zero, suc, ◌+◌, ◌<◌, List, [], ◌∷◌, ◌++◌, length, get_or, sym, subst, arith}
 use Rattle.time_bounds.specs.Numbered.{EachNumbered}
 
--- one more element is appended to those before it
+-- the property of each element holds with one more, which has the property of its number
 pub each_pushed : {A : Type 0} (P : ℕ → A → Type 0) (k : ℕ) (xs : List A) (x : A) → EachNumbered P k xs
     → P (k + length xs) x → EachNumbered P k (xs ++ x ∷ [])
 each_pushed P k [] x h g = (subst (λ (n : ℕ). P n x) (let z : k + 0 ≡ k = omega arith in z) g, tt)
@@ -12,7 +12,7 @@ each_pushed P k (y ∷ xs) x h g = (
       (subst (λ (n : ℕ). P n x) (let z : k + suc (length xs) ≡ suc k + length xs = omega arith in z) g),
 )
 
--- what holds of the one at a position
+-- the element at a position has the property of its number
 pub each_read : {A : Type 0} (P : ℕ → A → Type 0) (k i : ℕ) (xs : List A) (x : A) → EachNumbered P k xs → i < length xs
     → x ≡ get_or xs i x → P (k + i) x
 each_read P k i [] x h l e = absurd (omega (arith, l))

@@ -1,4 +1,4 @@
--- Where each question has one answer, each program has one analysis.
+-- If each question has one answer, each program has one analysis.
 use Rattle.std.proofs.Common.{◌≡◌, ℕ, suc, List, [], ◌∷◌, length, map, Some, None, refl, sym, ◌∙◌, ap, subst, arith}
 use Rattle.model.specs.Programs.{Program}
 use Rattle.model.specs.Bounds.{Bound}
@@ -24,7 +24,7 @@ some_none b e = cc
 same_report : (r q : Report) → r.times ≡ q.times → r.costs ≡ q.costs → r.total ≡ q.total → r.sizes ≡ q.sizes → r ≡ q
 same_report r q times costs total sizes = λ i. record { times = times i; costs = costs i; total = total i; sizes = sizes i }
 
--- one reason for a time has one form, and so has one for a size
+-- equal reasons for missing times, and for missing sizes, in one type are equal
 one_time : (v w : NoTime) → OfTime v ≡ OfTime w → v ≡ w
 one_time v w e = cc
 
@@ -35,7 +35,7 @@ module _ (p : Program) (pivots : ℕ) (one : AreOne (searches_of_program p pivot
   abbrev q : searches.Searches
   q = searches_of_program p pivots
 
-  -- each rule has one entry
+  -- the entry of each rule is unique
   said_one : (fs : List Derivation) (t : ℕ) (x y : Time) → IsTimeOf q p fs t x → IsTimeOf q p fs t y → x ≡ y
   said_one fs t (Timed b) (Timed c) h k = ap (λ (d : Bound). Timed d) (same_bound b c (sym h ∙ k))
   said_one fs t (Timed b) (Untimed w) h k = absurd (some_none b (sym h ∙ k.missing))
@@ -53,7 +53,7 @@ module _ (p : Program) (pivots : ℕ) (one : AreOne (searches_of_program p pivot
       let long : suc (length xs) ≡ suc (length ys) = e in
       joined x y xs ys (said_one fs k x y h.0 g.0) (all_one fs (suc k) xs ys (omega (arith, long)) h.1 g.1)
 
-  -- and of each place after it, by one list of components
+  -- the entry of each place after a rule is unique, by the same list of components
   module _ (cs : List (List ResultVariable)) (are : (searches_of_program p pivots).AreComponents cs) (apart : AreApart cs)
       (fs : List Derivation) where
     size_one : (t i : ℕ) (x y : Size) → IsSizeOf q p fs t i x → IsSizeOf q p fs t i y → x ≡ y

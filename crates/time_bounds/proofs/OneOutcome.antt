@@ -32,7 +32,7 @@ use Rattle.time_bounds.specs.ProgramSearches.{searches_of_program}
 use Rattle.time_bounds.proofs.CostEntries.{certified_one, joined}
 use Rattle.time_bounds.proofs.OneAnalysis.{analysis_one}
 
--- the numbers that times of a report carry, from rule t on, behind n earlier gaps
+-- the numbers that times of a report carry, from rule t on, after n earlier gaps
 abbrev time_numbers : (ℕ → ℕ → ℕ) → ℕ → ℕ → List Time → List ℕ
 time_numbers number t n [] = []
 time_numbers number t n (Timed b ∷ told) = number t 0 ∷ time_numbers number (suc t) n told
@@ -40,7 +40,7 @@ time_numbers number t n (Untimed (NoFunction g) ∷ told) = suc n ∷ time_numbe
 time_numbers number t n (Untimed (TimeHitLimit x) ∷ told) = 0 ∷ time_numbers number (suc t) n told
 time_numbers number t n (Untimed (TimeLarge k) ∷ told) = 0 ∷ time_numbers number (suc t) n told
 
--- entries that carry numbers carry those
+-- entries that carry numbers of their lemmas and gaps carry these
 times-sound : (number : ℕ → ℕ → ℕ) (gaps : List code.Gap) (t n : ℕ) (entries : List TimeEntry) (count : ℕ)
     → EachNumbered (CarriesTime number) t entries → AreGapsInOrder n entries count
     → map number_of_time entries ≡ time_numbers number t n (map (time_of gaps) entries)
@@ -64,20 +64,20 @@ gaps_in (Untimed (NoFunction g) ∷ told) = g ∷ gaps_in told
 gaps_in (Untimed (TimeHitLimit x) ∷ told) = gaps_in told
 gaps_in (Untimed (TimeLarge k) ∷ told) = gaps_in told
 
--- the gaps behind the first n
+-- the gaps after the first n
 abbrev gaps_behind : ℕ → List code.Gap → List Gap
 gaps_behind zero gaps = map gap_of gaps
 gaps_behind (suc n) [] = []
 gaps_behind (suc n) (g ∷ gaps) = gaps_behind n gaps
 
--- the next of them
+-- the next gap after the first n
 next_gap : (n : ℕ) (gaps : List code.Gap) → n < length gaps
     → gaps_behind n gaps ≡ numbered_gap gaps (suc n) ∷ gaps_behind (suc n) gaps
 next_gap n [] l = absurd (omega (arith, l))
 next_gap zero (g ∷ gaps) l = refl
 next_gap (suc n) (g ∷ gaps) l = next_gap n gaps (omega (arith, l))
 
--- behind the last there is none
+-- after the last gap there is none
 no_more : (n : ℕ) (gaps : List code.Gap) → n ≡ length gaps → gaps_behind n gaps ≡ []
 no_more zero [] e = refl
 no_more zero (g ∷ gaps) e = absurd (let none : ⊥ = cc in none)
@@ -92,7 +92,7 @@ order_rises n (times.Gap k ∷ entries) count g = let more = order_rises (suc n)
 order_rises n (times.OutOfLimits x ∷ entries) count g = order_rises n entries count g
 order_rises n (times.Large k ∷ entries) count g = order_rises n entries count g
 
--- so gaps in order are those of the report
+-- gaps in order are those of the report
 gaps_in_order : (gaps : List code.Gap) (n : ℕ) (entries : List TimeEntry) → AreGapsInOrder n entries (length gaps)
     → gaps_behind n gaps ≡ gaps_in (map (time_of gaps) entries)
 gaps_in_order gaps n [] g = no_more n gaps g
@@ -111,12 +111,12 @@ size_numbers number t i [] = []
 size_numbers number t i (Sized b ∷ told) = number t i ∷ size_numbers number t (suc i) told
 size_numbers number t i (Unsized w ∷ told) = 0 ∷ size_numbers number t (suc i) told
 
--- the same for the places after each rule from t on
+-- the same for the places after each rule from rule t on
 abbrev row_numbers : (ℕ → ℕ → ℕ) → ℕ → List (List Size) → List (List ℕ)
 row_numbers number t [] = []
 row_numbers number t (row ∷ rows) = size_numbers number t 1 row ∷ row_numbers number (suc t) rows
 
--- entries that carry numbers carry those
+-- entries that carry numbers of their lemmas carry these
 sizes_numbered : (number : ℕ → ℕ → ℕ) (t i : ℕ) (entries : List SizeEntry) → EachNumbered (CarriesSize number t) i entries
     → map number_of_size entries ≡ size_numbers number t i (map size_of entries)
 sizes_numbered number t i [] h = refl
@@ -144,14 +144,14 @@ rows_numbered number t (row ∷ rows) h =
     (map (λ r. map number_of_size r.items) rows) (row_numbers number (suc t) (map (λ r. map size_of r.items) rows))
     (sizes_numbered number t 1 row.items h.0) (rows_numbered number (suc t) rows h.1)
 
--- the numbers that costs of a report carry, behind n lemmas
+-- the numbers that costs of a report carry, after n lemmas
 abbrev cost_numbers : ℕ → List (Option RuleCost) → List ℕ
 cost_numbers n [] = []
 cost_numbers n (None ∷ told) = 0 ∷ cost_numbers n told
 cost_numbers n (Some (Costed b) ∷ told) = suc n ∷ cost_numbers (suc n) told
 cost_numbers n (Some (Uncosted w) ∷ told) = 0 ∷ cost_numbers n told
 
--- entries that carry numbers in order carry those
+-- entries that carry numbers in order carry these
 costs_numbered : (n : ℕ) (entries : List (Option CostEntry)) → CarryCosts n entries
     → map number_of_cost entries ≡ cost_numbers n (map (option_map cost_of) entries)
 costs_numbered n [] h = refl

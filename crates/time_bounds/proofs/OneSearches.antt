@@ -1,4 +1,4 @@
--- Of the rules of a program one thing is answered: of emptiness, and to each rank question.
+-- The rules of a program have one answer on emptiness, and one to each rank question.
 use Rattle.std.proofs.Common.{◌≡◌, ◌⊎◌, inl, inr, ℕ, zero, suc, ◌<◌, ◌≤◌, List, [], ◌∷◌, length, map, Option, Some}
 use Rattle.std.proofs.Common.{None, refl, sym, ◌∙◌, ap, subst, arith, slice_get}
 use Rattle.model.specs.Programs.{Program, Rule}
@@ -41,7 +41,7 @@ parts_one (empties.OutOfLimits t) (empties.Empty k) h = absurd h
 parts_one (empties.OutOfLimits t) (empties.Point w) h = absurd h
 parts_one (empties.OutOfLimits t) (empties.OutOfLimits u) h = (refl, ap (λ (x : LimitHit). Some x) (limit_hit_one t u h))
 
--- and they give the same answer
+-- answers with the same point and the same limit hit are the same, as plain data
 same_emptiness : (a b : GuardFeasibility) → IsSameEmptyAnswer a b → emptiness_of a ≡ emptiness_of b
 same_emptiness (empties.Empty n) (empties.Empty k) h = ap (λ (ms : List ℕ). NoPoint ms) h.1
 same_emptiness (empties.Empty n) (empties.Point z) h = absurd h
@@ -112,7 +112,7 @@ module _ (empties_one : EmptyAnswersAreOne) (ranks_one : RankAnswersAreOne) (p :
     see_the_same : (set : List ℕ) → SeeTheSame xs ys set
     see_the_same set = record { points = same_points set; hits_limit = same_hits_limit set }
 
-  -- one thing is answered of the emptiness of a rule
+  -- the answer on the emptiness of a rule is unique
   pub emptiness_one : (t : ℕ) (x y : Emptiness) → IsEmptinessOf p pivots t x → IsEmptinessOf p pivots t y → x ≡ y
   emptiness_one t x y (r, numbered, (a, same, is)) (s, there, (b, same_too, is_too)) =
       sym same ∙ (same_emptiness a b (empties_one.each (prepared s) t pivots a b
@@ -121,7 +121,7 @@ module _ (empties_one : EmptyAnswersAreOne) (ranks_one : RankAnswersAreOne) (p :
       one_rule : r ≡ s
       one_rule = some_same r s (sym numbered ∙ there)
 
-  -- and each rank question has one answer
+  -- the answer to each rank question is unique
   pub ranking_question_one : (set : List ℕ) (t : ℕ) (shut : List SymbolPlace) (x y : Ranking)
       → IsRankingOf p pivots set t shut x → IsRankingOf p pivots set t shut y → x ≡ y
   ranking_question_one set t shut x y (xs, a, (v, same, is)) (ys, b, (w, same_too, is_too)) =

@@ -47,7 +47,7 @@ module _ (p : Program) (pivots : ℕ) where
   live_one f g h k t = same_test (f t) (g t) (live_on f g h k t) (live_on g f k h t)
 
   module _ (empties_one : EmptyAnswersAreOne) (locals_one : LocalAnswersAreOne) where
-    -- what is answered of a place is one
+    -- the answer for a place is unique
     pub local_one : (t i : ℕ) (x y : Local) → IsLocalOf p pivots t i x → IsLocalOf p pivots t i y → x ≡ y
     local_one t i x y h k =
         by (code_answered p pivots k.rule t k.numbered i x
@@ -79,7 +79,7 @@ module _ (p : Program) (pivots : ℕ) where
     all_one f g (m ∷ result_variables) h k =
         (local_one m.rule m.place (f m.rule m.place) (g m.rule m.place) h.0 k.0, all_one f g result_variables h.1 k.1)
 
-    -- the answer about a component is one
+    -- the answer for a component is unique
     sizes_one : (b : Bounds) (result_variables : List ResultVariable) (x y : SizeOutcome) → (searches_of_program p pivots).Sizes b result_variables x
         → (searches_of_program p pivots).Sizes b result_variables y → x ≡ y
     sizes_one b result_variables x y (f, fs, is) (g, gs, is_too) =
@@ -108,7 +108,7 @@ module _ (p : Program) (pivots : ℕ) where
                   (same_on to (at-member (live_result_variables p is_live) b to.rule to.place h.to refl))) ∙ h.flow;
             }
 
-    -- so they have the same components
+    -- the same live rules with the same answers have the same components
     listings_one : (is_live : ℕ → Bool) (f g : Locals) → AreLocals p pivots is_live f → AreLocals p pivots is_live g
         → (cs ds : List (List ResultVariable)) → AreComponents (setting_of p) is_live f cs → AreComponents (setting_of p) is_live g ds
         → cs ≡ ds
@@ -121,7 +121,7 @@ module _ (p : Program) (pivots : ℕ) where
         h.listing moved in
         h.result_variables ∙ (ap (λ (pss : List (List ℕ)). map (map (result_variable_at (live_result_variables p is_live))) pss) same ∙ sym k.result_variables)
 
-    -- by live rules that are the same too
+    -- equal live rules have the same components
     components_one : (cs ds : List (List ResultVariable)) → (searches_of_program p pivots).AreComponents cs
         → (searches_of_program p pivots).AreComponents ds → cs ≡ ds
     components_one cs ds (live, lives, (f, fs, h)) (other, others, (g, gs, k)) =

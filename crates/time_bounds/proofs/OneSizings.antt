@@ -1,4 +1,4 @@
--- What is answered of a component is one, where what is answered of its places is.
+-- The answer for a component is unique, if the answers for its places are.
 use Rattle.std.proofs.Common.{◌≡◌, ◌-◌, ◌&&◌, ◌||◌, Bool, true, false, List, [], ◌∷◌, map, Option, Some, None, refl}
 use Rattle.std.proofs.Common.{sym}
 use Rattle.std.proofs.Common.{◌∙◌, ap, subst}
@@ -24,7 +24,7 @@ use Rattle.bound_fixpoint.proofs.Cases.{some_same}
 use Rattle.time_bounds.specs.ProgramSizes.{unbounded_reason, limit_hit_reason, or_else, first_reason, lacks_side_bounds}
 use Rattle.time_bounds.specs.ProgramSizes.{AnswersAlone, AnswersLoop, AnswersMembers, IsJudged, AnswersPlaces}
 
--- a test that is the same for each element
+-- if two tests agree on each element, they agree on whether some element passes
 any_same : (f g : ResultVariable → Bool) (ms : List ResultVariable) → AllByRecursion (λ m. f m ≡ g m) ms → list_any f ms ≡ list_any g ms
 any_same f g [] h = refl
 any_same f g (m ∷ ms) h =
@@ -54,21 +54,22 @@ size_reason_is (SizeNonlinear m) r h = ap size_reason_of h
 size_reason_is (SizeUntimed t) r h = ap size_reason_of h
 size_reason_is (SizeLarge n) r h = ap size_reason_of h
 
--- one reason has one form
+-- the reason of a check gives at most one reason for a missing size
 size_reason_is_one : (v w : NoSize) (q r : Reason) → IsReasonFor v q → IsReasonFor w r → q ≡ r → v ≡ w
 size_reason_is_one v w q r h k e = some_same v w (sym (size_reason_is v q h) ∙ (ap size_reason_of e ∙ size_reason_is w r k))
 
 same_side_bounds : (l k : LocalBound) → HasBound l ≡ HasBound k → l ≡ k
 same_side_bounds l k e = cc
 
--- a value flows by one list of answers where it does by another with the same answer for the place that it flows into
+-- a value flows by one list of answers exactly if it does by another with the same answer for the place that it flows
+-- into
 pub flow_same : (s : Setting) (f g : Locals) (m n : ResultVariable) → f n.rule n.place ≡ g n.rule n.place
     → value_flows s f m n ≡ value_flows s g m n
 flow_same s f g m n e =
     ap (λ (x : Local). is_in m.rule (pre s.program n.rule) && local_reads s n x (m.place - 1)) e
 
 module _ (s : Setting) (tab : Table) where
-  -- what is judged of the same members is one
+  -- the answer for the same members is unique
   spread_one : (members : List Member) (x y : SizeOutcome) → AnswersAlone s tab members x → AnswersAlone s tab members y
       → x ≡ y
   spread_one [] x y h k = absurd h
@@ -98,7 +99,7 @@ module _ (s : Setting) (tab : Table) where
   by_one false members x y h k = spread_one members x y h k
   by_one true members x y h k = cycle_one members x y h k
 
-  -- of the places of a list the same is answered
+  -- two lists of answers that agree on the places of a list
   module _ (f g : Locals) where
     abbrev IsSameAt : ResultVariable → Type 0
     IsSameAt m = f m.rule m.place ≡ g m.rule m.place
@@ -157,7 +158,7 @@ module _ (s : Setting) (tab : Table) where
         joined : m ≡ n → ms ≡ ns → m ∷ ms ≡ n ∷ ns
         joined p q = ap (λ (z : Member). z ∷ ms) p ∙ ap (λ (zs : List Member). n ∷ zs) q
 
-    -- so the answer is one
+    -- the answer for the component is unique
     judged_one : (result_variables : List ResultVariable) → AllByRecursion IsSameAt result_variables → (x y : SizeOutcome) → IsJudged s tab f result_variables x
         → IsJudged s tab g result_variables y → x ≡ y
     judged_one result_variables same x y h k =

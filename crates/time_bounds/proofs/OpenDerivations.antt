@@ -1,4 +1,4 @@
--- Finds whose keys are open one after the other.
+-- Derivations whose keys are open one after the other.
 use Rattle.std.proofs.Common.{◌≡◌, ℕ, zero, suc, ◌<◌, ◌≤◌, List, [], ◌∷◌, ◌++◌, length, map, take}
 use Rattle.std.proofs.Common.{get_or, refl, sym, ◌∙◌, ap, subst, append_assoc, arith, All}
 use Rattle.std.proofs.lemmas.List.{append-nil}
@@ -6,13 +6,13 @@ use Rattle.std.proofs.lemmas.List.Elements.{All-head, All-tail}
 use Rattle.model.specs.Programs.{Program}
 use Rattle.cert_types.specs.cert_rules.Setting.{Setting}
 use Rattle.bound_fixpoint.specs.Derivations as plain
-use Rattle.bound_fixpoint.specs.Standing.{StandAfter}
+use Rattle.bound_fixpoint.specs.Justification.{AreJustifiedAfter}
 use Rattle.bound_derivations.specs.declared.derivation.Derivation.{Derivation}
 use Rattle.bound_derivations.specs.Books.{IsKey, AreOpen}
 use Rattle.bound_derivations.specs.Views.{derivation_of, derivations_of}
 use Rattle.time_bounds.specs.OpenDerivations.{AreOpenAfter}
 
--- a list that is mapped to itself
+-- mapping the identity leaves a list unchanged
 pub map-same : {A : Type 0} (xs : List A) → map (λ x. x) xs ≡ xs
 map-same [] = refl
 map-same (x ∷ xs) = ap (λ (ys : List _). x ∷ ys) (map-same xs)
@@ -38,17 +38,17 @@ open_read p earlier taken xs yielded x h is so_far low e =
     (subst (λ (y : Derivation). AreOpen p (earlier ++ derivations_of (take (length yielded) xs)) (derivation_of y).keys) (sym e)
     (open_at p earlier xs (length yielded) x h low))
 
--- the keys of each of these derivations are keys of rules, and there is one
+-- the keys of each of these derivations are keys of rules, and there is at least one
 pub record HasKeysOfRules (p : Program) (f : plain.Derivation) : Type 0 where
   pub some : 1 ≤ length f.keys
   pub each : All (λ k. IsKey p k.rule k.place) f.keys
 
 -- derivations that are justified one after the other are open
-pub open_standing : (s : Setting) (earlier fs : List plain.Derivation) → All (HasKeysOfRules s.program) fs → StandAfter s earlier fs
+pub open_still_true : (s : Setting) (earlier fs : List plain.Derivation) → All (HasKeysOfRules s.program) fs → AreJustifiedAfter s earlier fs
     → AreOpenAfter s.program earlier fs
-open_standing s earlier [] keys h = tt
-open_standing s earlier (f ∷ fs) keys h =
+open_still_true s earlier [] keys h = tt
+open_still_true s earlier (f ∷ fs) keys h =
     let own = All-head (HasKeysOfRules s.program) f fs keys in (
       record { some = own.some; each = own.each; unknown = h.0.fresh },
-      open_standing s (earlier ++ f ∷ []) fs (All-tail (HasKeysOfRules s.program) f fs keys) h.1,
+      open_still_true s (earlier ++ f ∷ []) fs (All-tail (HasKeysOfRules s.program) f fs keys) h.1,
     )

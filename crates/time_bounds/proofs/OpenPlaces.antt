@@ -1,4 +1,4 @@
--- Whether one of some places has no size, one place more at a time.
+-- Whether one of some places has no size, for one place more at a time.
 use Rattle.std.proofs.Common.{◌≡◌, ℕ, zero, suc, ◌<◌, ◌||◌, Bool, true, false, not, List, [], ◌∷◌, ◌++◌, length, map, take, get_or, Option, Some, None}
 use Rattle.std.proofs.Common.{refl, sym, ◌∙◌, arith}
 use Rattle.std.specs.Prelude.{is_some}
@@ -11,7 +11,7 @@ use Rattle.size_bounds.specs.Tables.{bound_stored}
 use Rattle.bound_fixpoint.specs.Keys.{Bounds, at_key, lacks}
 use Rattle.bound_fixpoint.specs.Answers.{are_open}
 
--- one that is known more
+-- if one place more has a size, none is open
 closed-append : (b : Bounds) (xs : List ResultVariable) (k : ResultVariable) → are_open b xs ≡ false → lacks (at_key b k) ≡ false
     → are_open b (xs ++ k ∷ []) ≡ false
 closed-append b [] k h e = join (lacks (at_key b k)) e
@@ -40,7 +40,7 @@ closed_more b (x ∷ result_variables) (suc i) d l h e =
     go true w m rest = m
     go false w m rest = rest m
 
--- one that is missing
+-- if one place is without a size, some place is open
 pub open_at : (b : Bounds) (result_variables : List code.ResultVariable) (i : ℕ) (d : code.ResultVariable) → i < length result_variables
     → lacks (at_key b (result_variable_of (get_or result_variables i d))) ≡ true → are_open b (map result_variable_of result_variables) ≡ true
 open_at b [] i d l e = absurd (omega (arith, l))
@@ -48,7 +48,7 @@ open_at b (x ∷ result_variables) zero d l e = or_left (lacks (at_key b (result
 open_at b (x ∷ result_variables) (suc i) d l e =
     or_right (lacks (at_key b (result_variable_of x))) (are_open b (map result_variable_of result_variables)) (open_at b result_variables i d (omega (arith, l)) e)
 
--- what a test says of a bound that is known, and of one that is missing
+-- the values of a test and its negation, for a bound that is known, and for one that is missing
 pub known-sound : (v w : Bool) → v ≡ not w → v ≡ true → w ≡ false
 known-sound v true e h = sym (sym e ∙ h)
 known-sound v false e h = refl
@@ -57,7 +57,7 @@ pub missing-sound : (v w : Bool) → v ≡ not w → v ≡ false → w ≡ true
 missing-sound v true e h = refl
 missing-sound v false e h = sym h ∙ e
 
--- a bound is stored where one is known
+-- an entry is stored exactly if a bound is known
 pub stored_known : (o : Option Stored) → is_some o ≡ not (lacks (bound_stored o))
 stored_known None = refl
 stored_known (Some s) = refl

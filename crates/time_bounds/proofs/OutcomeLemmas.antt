@@ -1,4 +1,4 @@
--- The lemmas of an analysis are those of its derivations, and what is known carries their numbers.
+-- The lemmas of an analysis are those of its derivations, and entries carry the numbers of these.
 use Rattle.std.proofs.Common.{◌≡◌, ℕ, List, [], ◌∷◌, ◌++◌, length, map, All, sym, ◌∙◌, ap, subst}
 use Rattle.std.proofs.lemmas.List.{length-map}
 use Rattle.std.specs.List.{Contains}
@@ -19,8 +19,8 @@ use Rattle.bound_fixpoint.specs.Derivations.{bounds_of, facts_of_derivation, num
 use Rattle.bound_fixpoint.specs.Keys.{Bounds, place_fact}
 use Rattle.bound_fixpoint.specs.Needs.{lemma_by, lemmas_of}
 use Rattle.bound_fixpoint.specs.Rounds.{IsLast}
-use Rattle.bound_fixpoint.specs.Standing.{AllStand}
-use Rattle.bound_fixpoint.proofs.StandingLaws.{are_numbered, have_lemmas}
+use Rattle.bound_fixpoint.specs.Justification.{AreJustified}
+use Rattle.bound_fixpoint.proofs.JustificationLaws.{are_numbered, have_lemmas}
 use Rattle.bound_derivations.specs.declared.derivation.Derivation.{Derivation}
 use Rattle.bound_derivations.specs.Books.{AreDerivedBounds}
 use Rattle.size_bounds.specs.Tables.{bounds_in, number_at}
@@ -36,13 +36,13 @@ use Rattle.time_bounds.specs.CostEntries.{AreCostEntries}
 use Rattle.time_bounds.specs.Numbered.{EachNumbered}
 use Rattle.time_bounds.specs.ProgramSearches.{searches_of_program}
 use Rattle.time_bounds.proofs.AnalysisOfDerivations.{IsAnalysisWith}
-use Rattle.bound_fixpoint.proofs.SizesStand.{all_stand}
+use Rattle.bound_fixpoint.proofs.SizesAreJustified.{all_justified}
 use Rattle.time_bounds.proofs.OneProgram.{program_searches_one}
 use Rattle.time_bounds.proofs.RightSizings.{program_searches_right}
 use Rattle.time_bounds.proofs.CostNumbers.{certified_bounded, costs_stated}
 use Rattle.time_bounds.proofs.TablesOver.{bounds_same, numbers_same}
 
--- an analysis over the derivations of a book, with their lemmas, has lemmas
+-- an analysis over derived bounds, with their lemmas, has lemmas
 pub has_lemmas : (p : Program) (pivots : ℕ) (tab : Table) (derivations : List Derivation) (o : Outcome) → IsValid p → AreDerivedBounds p tab derivations
     → IsAnalysisWith p pivots (derivations_of derivations) (report_of o)
     → AreCostEntries p pivots (bounds_in tab) (number_at tab) (lemmas_of (derivations_of derivations)) o.costs.items
@@ -85,12 +85,12 @@ has_lemmas p pivots tab derivations o valid derived analysis entries times sizes
     last : IsLast (searches_of_program p pivots) (setting_of p) (derivations_of derivations)
     last = subst (λ (fs : List plain.Derivation). IsLast (searches_of_program p pivots) (setting_of p) fs) analysis.1 analysis.0.last
 
-    stand : AllStand (setting_of p) (derivations_of derivations)
+    stand : AreJustified (setting_of p) (derivations_of derivations)
     stand =
-        all_stand (searches_of_program p pivots) (setting_of p) (program_searches_right.each p pivots valid)
+        all_justified (searches_of_program p pivots) (setting_of p) (program_searches_right.each p pivots valid)
         (program_searches_one.each p pivots) (derivations_of derivations) last.made
 
-    -- the table is what is known with the derivations
+    -- the table has the bounds that are known with the derivations
     same : bounds_in tab ≡ bounds_of p (derivations_of derivations)
     same = bounds_same p tab derivations derived
 

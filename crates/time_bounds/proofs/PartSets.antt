@@ -44,7 +44,7 @@ set_by_table p tab flags of_rules h size same t u m open_t open_u et eu e inside
 abbrev nothing : Option OpenSet
 nothing = None
 
--- in a list of none nothing is found
+-- an empty list has no set
 none_there : (n m : ℕ) (s : OpenSet) → get_or (replicate n nothing) m nothing ≡ Some s → ⊥
 none_there n m s e = go (cases_lt m n)
   where
@@ -53,7 +53,7 @@ none_there n m s e = go (cases_lt m n)
     go (inr high) =
         none_some s (sym (get_or_past (replicate n nothing) m nothing (omega (arith, high, length-replicate n nothing))) ∙ e)
 
--- before anything is found
+-- before a set is computed, the parts are right
 pub parts_begin : (p : Program) (tab : code.Table) (n : ℕ) (parts : Parts) → AreUntimed p tab parts.untimed.items
     → length parts.of_rules.items ≡ length parts.untimed.items → ArePartsBelow n parts.of_rules.items
     → HaveSameSets p (flagged parts.untimed.items) parts.of_rules.items → parts.found.items ≡ replicate n None
@@ -75,7 +75,7 @@ open_copy p tab t s r e f h = record {
       (subst (λ (ys : List (ℕ × ℕ)). AreShutOf p (bounds_in tab) s.set.items (places_of ys)) (sym f) h.shut);
 }
 
--- the set of another rule of the component
+-- the set of a rule is that of each other rule of its component
 open_other : (p : Program) (tab : code.Table) (t u : ℕ) (s : OpenSet)
     → ((e : ℕ) → IsInSet p (is_untimed (bounds_in tab)) t e → IsInSet p (is_untimed (bounds_in tab)) u e)
     → ((e : ℕ) → IsInSet p (is_untimed (bounds_in tab)) u e → IsInSet p (is_untimed (bounds_in tab)) t e)
@@ -88,7 +88,7 @@ open_other p tab t u s onto back h = record {
   shut = h.shut;
 }
 
--- the set of a rule is found for its component
+-- the computed set of a rule is stored for its component
 pub found_more : (p : Program) (tab : code.Table) (old new : Parts) (u part : ℕ) (r : OpenSet)
     → new.untimed.items ≡ old.untimed.items → new.of_rules.items ≡ old.of_rules.items → new.found.items ≡ set old.found.items part (Some r)
     → is_untimed (bounds_in tab) u ≡ true → get_or old.of_rules.items u None ≡ Some part → IsOpenSet p tab u r

@@ -1,4 +1,4 @@
--- Along an unbounded ray, from a point of the rows, the value passes every affine form in the left arguments.
+-- Along an unbounded ray, from a point of the rows, the value exceeds every affine form in the left arguments.
 use Rattle.std.proofs.Common.{◌≡◌, ◌⊎◌, inl, inr, ℕ, suc, ◌+◌, ◌<◌, ◌≤◌, List, [], ◌∷◌, refl, ◌∙◌, ap, arith}
 use Rattle.std.specs.Prelude.{ℤ, pos, negsuc, ◌+ℤ◌, ◌*ℤ◌, ◌≤ℤ◌, ◌<ℤ◌, nat_abs}
 use Rattle.std.proofs.lemmas.Bool.{cases_lt}
@@ -17,7 +17,7 @@ use Rattle.cert_types.specs.rule_forms.Kinds.{Affine, IsOfKind}
 use Rattle.cert_types.proofs.rule_forms.Rays.{unmoved}
 use Rattle.time_bounds.specs.SizeWhys.{moved, PassesForms}
 
--- the coefficients at a moved point
+-- the sum of products at a moved point
 dot_moved : (xs : List ℤ) (z r : ℕ → ℤ) (n : ℤ) → list_dot xs (λ u. z u +ℤ n *ℤ r u) ≡ list_dot xs z +ℤ n *ℤ list_dot xs r
 dot_moved [] z r n = nothing n
   where
@@ -64,7 +64,7 @@ module _ (rows : List Form) (left : ℕ) (value : Form) (kept : ScaledPoint) (ra
       above : (s a b : ℤ) → s ≡ a +ℤ b → pos 0 ≤ℤ a → pos 0 ≤ℤ b → pos 0 ≤ℤ s
       above s a b e l m = omega (arith, ints, e, l, m)
 
-  -- a form in left arguments stays where they do
+  -- a form in left arguments is unchanged along a ray that changes none of them
   still : (g : Form) → ((u : ℕ) → left ≤ u → at g.coefs u ≡ pos 0) → (u : ℕ) → (u < left) ⊎ (left ≤ u)
       → at g.coefs u *ℤ at ray u ≡ pos 0
   still g is u (inl l) = mul-zero_ℤ _ _ (unbounded.still u l)
@@ -86,7 +86,7 @@ module _ (rows : List Form) (left : ℕ) (value : Form) (kept : ScaledPoint) (ra
   least (pos n) = omega (arith, ints)
   least (negsuc n) = omega (arith, ints)
 
-  -- what a value gains on the way is at least how far it is
+  -- m times a positive number, multiplied by a number of at least 1, is at least m
   gains : (q m : ℕ) (r : ℤ) → 1 ≤ q → pos 0 <ℤ r → pos m ≤ℤ (pos q *ℤ (pos m *ℤ r))
   gains q m r l rises =
       both _ _ (mul-le-mul_ℤ (pos m) (pos 1) r (omega (arith, ints)) (omega (arith, ints, rises)))
@@ -96,7 +96,7 @@ module _ (rows : List Form) (left : ℕ) (value : Form) (kept : ScaledPoint) (ra
       both : (x y : ℤ) → (pos m *ℤ pos 1) ≤ℤ x → (x *ℤ pos 1) ≤ℤ y → y ≡ pos q *ℤ x → pos m ≤ℤ (pos q *ℤ x)
       both x y a b e = omega (arith, ints, a, b, e)
 
-  -- so the value passes each form
+  -- the value exceeds each form
   passed : (g : Form) (q : ℕ) → 1 ≤ q → IsOfKind left Affine g q → (m : ℕ)
       → nat_abs (form_value g (at kept.parts) den) + (nat_abs (pos q *ℤ form_value value (at kept.parts) den) + 1) ≤ m
       → form_value g (moved kept ray m) den <ℤ (pos q *ℤ form_value value (moved kept ray m) den)

@@ -1,4 +1,4 @@
--- What is answered of a place, by the answers of the code.
+-- The answers for places, by the answers of the code.
 use Rattle.std.proofs.Common.{◌≡◌, ◌⊎◌, inl, inr, ℕ, Some, refl, sym, ◌∙◌, ap, subst}
 use Rattle.std.specs.Prelude.{List, ℤ}
 use Rattle.model.specs.Programs.{Program, Rule, rule_at}
@@ -24,7 +24,7 @@ use Rattle.time_bounds.specs.ProgramSizes.{IsAnswerAt}
 abbrev pub any_answer : GuardFeasibility
 any_answer = empties.OutOfLimits (record { question = asked.Empty 0; cause = causes.Scale })
 
--- this is answered of a place of a rule, whatever is answered of emptiness; and by an answer of the code
+-- the answer for a place of a rule, whatever the answer on its emptiness is; and the one by an answer of the code
 abbrev pub AnyAnswers : ℕ → ℕ → ℕ → Rule → Local → Type 0
 AnyAnswers pivots t i r x = (a : GuardFeasibility) → IsLocal (prepared r) (key t i) pivots a x
 
@@ -33,7 +33,7 @@ OneAnswers pivots t i r x =
     (a : GuardFeasibility) × IsEmptyAnswer (prepared r) t pivots a × IsLocal (prepared r) (key t i) pivots a x
 
 module _ (p : Program) (pivots : ℕ) (r : Rule) (t : ℕ) (numbered : rule_at p t ≡ Some r) where
-  -- a point that a rule is answered to have is that of an answer of the code
+  -- the point in an answer on a rule's emptiness is that of an answer of the code
   pub point_answered : (kept : ScaledPoint) → IsEmptinessOf p pivots t (HasPoint kept)
       → (a : GuardFeasibility) × IsEmptyAnswer (prepared r) t pivots a × (point_in (Some a) ≡ Some kept)
   point_answered kept (x, there, (a, same, is)) =
@@ -44,7 +44,7 @@ module _ (p : Program) (pivots : ℕ) (r : Rule) (t : ℕ) (numbered : rule_at p
       told (empties.Point z) e = let point : scaled_of z ≡ kept = cc in ap (λ (k : ScaledPoint). Some k) point
       told (empties.OutOfLimits x) e = absurd (let none : ⊥ = cc in none)
 
-  -- and each point of an answer of the code is answered, and each of its limit hits
+  -- each point, and each limit hit, of an answer of the code is one of an answer on emptiness
   answered_point : (a : GuardFeasibility) (kept : ScaledPoint) → IsEmptyAnswer (prepared r) t pivots a
       → point_in (Some a) ≡ Some kept → IsEmptinessOf p pivots t (HasPoint kept)
   answered_point (empties.Empty n) kept h e = absurd (none_some kept e)
@@ -59,7 +59,7 @@ module _ (p : Program) (pivots : ℕ) (r : Rule) (t : ℕ) (numbered : rule_at p
   answered_limit_hit (empties.OutOfLimits u) x h e =
       subst (λ (v : LimitHit). IsEmptyAnswer (prepared r) t pivots (empties.OutOfLimits v)) (some_same u x e) h
 
-  -- what the code answers of a place of the rule is answered of it
+  -- the code's answer for a place of the rule is the place's answer
   pub answer_at : (i : ℕ) (a : GuardFeasibility) (x : Local) → IsEmptyAnswer (prepared r) t pivots a
       → IsLocal (prepared r) (key t i) pivots a x
       → IsAnswerAt p pivots (prepared r) (key t i) x
@@ -74,7 +74,7 @@ module _ (p : Program) (pivots : ℕ) (r : Rule) (t : ℕ) (numbered : rule_at p
     hits_limit = record { rule = r; numbered = numbered; hits_limit = answered_limit_hit a x known h.limit_hit };
   }
 
-  -- a place that is answered to have an unbounded side is so by an answer of the code
+  -- an answer that a place has an unbounded side is one by an answer of the code
   pub unbounded_answered : (i : ℕ) (side : Side) (ray : List ℤ) (kept : ScaledPoint)
       → IsAnswerAt p pivots (prepared r) (key t i) (IsUnboundedOn side ray kept)
       → (a : GuardFeasibility) × IsEmptyAnswer (prepared r) t pivots a
@@ -83,8 +83,8 @@ module _ (p : Program) (pivots : ℕ) (r : Rule) (t : ℕ) (numbered : rule_at p
       let known = point_answered kept h.1 in
       (known.0, known.1, record { asked = h.0.straight; lacks = h.0.lacks; point = known.2 })
 
-  -- whatever is answered of emptiness, a place has its bounds, and its own limit hits; else what is answered of it is
-  -- that by an answer of the code
+  -- whatever the answer on emptiness is, a place has its bounds, and its own limit hits; each other answer is one by an
+  -- answer of the code
   pub code_answered : (i : ℕ) (x : Local) → IsAnswerAt p pivots (prepared r) (key t i) x
       → AnyAnswers pivots t i r x ⊎ OneAnswers pivots t i r x
   code_answered i (HasBound l) h = inl (λ a. h)

@@ -1,4 +1,4 @@
--- The element at a place after a value was written at one.
+-- The element at a place after a value was written.
 use Rattle.std.proofs.Common.{◌≡◌, ◌≢◌, ◌⊎◌, inl, inr, true, false, eqb, ℕ, zero, suc, ◌<◌, ◌≤◌, List, [], ◌∷◌}
 use Rattle.std.proofs.Common.{length, map, Option, Some, None, option_map, refl, sym, ◌∙◌, ap, subst, arith}
 use Rattle.std.proofs.lemmas.Bool.{cases_lt}
@@ -14,7 +14,7 @@ or_known : {A : Type 0} (o : Option A) (a b : A) → o ≡ Some b → or_value o
 or_known None a b e = absurd (none_some b e)
 or_known (Some c) a b e = e
 
--- the element at a position stays
+-- an element at a position stays there
 pub entry_known : {A : Type 0} (os : List (Option A)) (n m : ℕ) (a b : A) → entry_at os m ≡ Some b → entry_at (put_entry os n a) m ≡ Some b
 entry_known [] n m a b e = e
 entry_known (o ∷ os) zero zero a b e = or_known o a b e
@@ -22,7 +22,7 @@ entry_known (o ∷ os) zero (suc m) a b e = e
 entry_known (o ∷ os) (suc n) zero a b e = e
 entry_known (o ∷ os) (suc n) (suc m) a b e = entry_known os n m a b e
 
--- the value is there, where there was none
+-- after a value is written at a free position, the position has it
 pub entry_here : {A : Type 0} (os : List (Option A)) (n : ℕ) (a : A) → n < length os → entry_at os n ≡ None → entry_at (put_entry os n a) n ≡ Some a
 entry_here [] n a l e = absurd (omega (arith, l))
 entry_here (None ∷ os) zero a l e = refl
@@ -33,14 +33,14 @@ or_map : {A B : Type 0} (f : A → B) (o : Option A) (a : A) → option_map f (o
 or_map f None a = refl
 or_map f (Some b) a = refl
 
--- values are seen as they are written
+-- mapping and writing can be exchanged
 pub entry_map : {A B : Type 0} (f : A → B) (os : List (Option A)) (n : ℕ) (a : A)
     → map (λ o. option_map f o) (put_entry os n a) ≡ put_entry (map (λ o. option_map f o) os) n (f a)
 entry_map f [] n a = refl
 entry_map f (o ∷ os) zero a = ap (λ x. x ∷ map (λ o. option_map f o) os) (or_map f o a)
 entry_map f (o ∷ os) (suc n) a = ap (λ rest. option_map f o ∷ rest) (entry_map f os n a)
 
--- the element at a place stays
+-- an element at a place stays there
 pub place_known : {A : Type 0} (rows : List (List (Option A))) (u j t i : ℕ) (a b : A) → placed rows t i ≡ Some b
     → placed (put_place rows u j a) t i ≡ Some b
 place_known rows u j t zero a b e = absurd (none_some b e)
@@ -62,7 +62,7 @@ place_other (row ∷ rows) zero (suc j) (suc t) (suc i) a h = refl
 place_other (row ∷ rows) (suc u) j zero (suc i) a h = refl
 place_other (row ∷ rows) (suc u) j (suc t) (suc i) a h = place_other rows u j t (suc i) a (λ e. h (ap (λ (k : ℕ). suc k) e))
 
--- the value is at its place, where there was none
+-- after a value is written at a free place, the place has it
 pub place_here : {A : Type 0} (rows : List (List (Option A))) (t i : ℕ) (a : A) → 1 ≤ i → i ≤ length (row_at rows t) → placed rows t i ≡ None
     → placed (put_place rows t i a) t i ≡ Some a
 place_here rows t zero a l m e = absurd (omega (arith, l))
@@ -78,7 +78,7 @@ place_past [] t (suc i) a l = refl
 place_past (row ∷ rows) zero (suc i) a l = ap (λ (r : List (Option _)). entry_at r i) (entry_past row i a (omega (arith, l)))
 place_past (row ∷ rows) (suc t) (suc i) a l = place_past rows t (suc i) a l
 
--- values are seen as they are written
+-- mapping and writing can be exchanged, in rows
 pub place_map : {A B : Type 0} (f : A → B) (rows : List (List (Option A))) (t i : ℕ) (a : A)
     → map (λ row. map (λ o. option_map f o) row) (put_place rows t i a) ≡ put_place (map (λ row. map (λ o. option_map f o) row) rows) t i (f a)
 place_map f [] t i a = refl
@@ -141,7 +141,7 @@ place_cases {A} rows u j t i a b e = go (placed rows t i) refl
     go (Some c) q = inl (q ∙ ap (λ (x : A). Some x) (some_same c b (sym (place_known rows u j t i a c q) ∙ e)))
     go None q = here q (both (decide u t) (decide j i))
 
--- how long a row is, by how long all are
+-- the length of a row, by those of all rows
 pub row_long : {A B : Type 0} (xs : List (List A)) (ys : List (List B)) (t : ℕ)
     → map (λ (row : List A). length row) xs ≡ map (λ (row : List B). length row) ys → length (row_at xs t) ≡ length (row_at ys t)
 row_long [] [] t e = refl

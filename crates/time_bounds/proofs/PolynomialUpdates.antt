@@ -15,7 +15,7 @@ use Rattle.cert_types.specs.cert_rules.ComposedSizes.{poly_of}
 use Rattle.cert_types.specs.cert_program.Setting.{polys_in, nonlinear_at, setting_of}
 use Rattle.local_size.specs.Places.{is_of_left, is_polynomial_at}
 
--- what all elements are passes a test, one by one
+-- if all elements have a property that implies a test, each passes the test
 pass-all : {A : Type 0} (test : A → Bool) (P : A → Type 0) → ((x : A) → P x → test x ≡ true) → (xs : List A) → All P xs
     → list_all test xs ≡ true
 pass-all test P h [] all = refl
@@ -32,7 +32,7 @@ left-complete left q h =
     pass-all (λ m. list_all (λ v. nat_lt v left) m.vars) (λ m. All (λ v. v < left) m.vars)
     (λ m k. pass-all (λ v. nat_lt v left) (λ v. v < left) (λ v l. less-complete v left l) m.vars k) q h
 
--- a nonlinear update is read among all
+-- a nonlinear update is among all updates
 nonlinear-read : (qs : List Polynomial) (i : ℕ) (q : Polynomial) → nonlinear_at qs i ≡ Some q
     → (slice_index_or (map is_nonlinear qs) i false ≡ true) × (slice_index_or qs i [] ≡ q)
 nonlinear-read [] i q e = absurd (none_some q e)

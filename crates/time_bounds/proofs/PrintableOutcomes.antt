@@ -1,4 +1,4 @@
--- What an analysis finds of a program can be printed.
+-- The outcome of an analysis can be printed.
 use Rattle.std.proofs.Common.{◌≡◌, ℕ, suc, List, [], ◌∷◌, length, map, Option, Some, None, sym, subst, All}
 use Rattle.std.specs.Prelude.{Vec}
 use Rattle.std.specs.Option.{option_map}
@@ -39,7 +39,7 @@ abbrev AreCostsPrintable : ℕ → Program → ℕ → List Derivation → Type 
 AreCostsPrintable n p pivots fs = (t : ℕ) (by : CostBy) → IsCostOf p pivots (over (bounds_of p fs)) t (BoundedBy by)
     → IsPrintableBound n (stated_cost (setting_of p) (over (bounds_of p fs)) t by)
 
--- what rules spend over printable bounds
+-- the bounds on what rules spend, over printable bounds, are printable
 module _ (n : ℕ) (q : Searches) (p : Program) (pivots : ℕ) (fs : List Derivation) (good : ArePrintableBounds n (bounds_of p fs))
     (costed : AreCostsPrintable n p pivots fs) where
   spent_printable : (k : ℕ) (x : reports.Time) (c : Option RuleCost) (rest : List (Option Bound)) → IsTimeOf q p fs k x
@@ -57,7 +57,7 @@ module _ (n : ℕ) (q : Searches) (p : Program) (pivots : ℕ) (fs : List Deriva
   said_printable k (x ∷ times) (c ∷ costs) h g =
       spent_printable k x c (spendings times costs) h.0 g.0 (said_printable (suc k) times costs h.1 g.1)
 
-  -- and the entries of costs
+  -- the entries of costs are printable
   cost_entry_printable : (k : ℕ) (x : Option CostEntry) → IsCostOver p pivots (bounds_of p fs) k (option_map cost_of x)
       → IsPrintableCost n x
   cost_entry_printable k None h = tt
@@ -74,7 +74,7 @@ module _ (n : ℕ) (q : Searches) (p : Program) (pivots : ℕ) (fs : List Deriva
   cost_entries_printable k (x ∷ xs) h =
       All-cons (IsPrintableCost n) x xs (cost_entry_printable k x h.0) (cost_entries_printable (suc k) xs h.1)
 
--- and their entries
+-- the entries of times are printable
 entry_printable : (n : ℕ) (q : Searches) (p : Program) (fs : List Derivation) → ArePrintableBounds n (bounds_of p fs) → (k : ℕ)
     (gaps : List Gap) (x : TimeEntry) → IsTimeOf q p fs k (time_of gaps x) → IsPrintableTime n x
 entry_printable n q p fs good k gaps (entries.Known s) h = good.each k 0 (bound_of s.bound) h
@@ -90,7 +90,7 @@ entries_printable n q p fs good k gaps (x ∷ times) h =
     All-cons (IsPrintableTime n) x times (entry_printable n q p fs good k gaps x h.0)
     (entries_printable n q p fs good (suc k) gaps times h.1)
 
--- the entries of sizes of the places of a rule
+-- the entries of sizes of the places of a rule are printable
 place_printable : (n : ℕ) (q : Searches) (p : Program) (fs : List Derivation) → ArePrintableBounds n (bounds_of p fs) → (t i : ℕ) (x : SizeEntry)
     → IsSizeOf q p fs t i (size_of x) → IsPrintableSize n x
 place_printable n q p fs good t i (sizes.Known s) h = good.each t i (bound_of s.bound) h
@@ -108,7 +108,7 @@ places_printable n q p fs good t i (x ∷ xs) h =
     All-cons (IsPrintableSize n) x xs (place_printable n q p fs good t i x h.0)
     (places_printable n q p fs good t (suc i) xs h.1)
 
--- and of all rules
+-- the entries of sizes of all rules are printable
 abbrev IsPrintableRow : ℕ → Vec SizeEntry Global → Type 0
 IsPrintableRow n places = All (IsPrintableSize n) places.items
 
@@ -120,7 +120,7 @@ rows_printable n q p fs good t (row ∷ rows) h =
     All-cons (IsPrintableRow n) row rows (places_printable n q p fs good t 1 row.items h.0)
     (rows_printable n q p fs good (suc t) rows h.1)
 
--- what an analysis finds of a valid program can be printed, where the gaps that its times name are there
+-- the outcome of the analysis of a valid program can be printed, if the gaps that its times name exist
 pub analysis_printable : (p : Program) (pivots : ℕ) (o : Outcome) → IsValid p
     → IsAnalysis p pivots (report_of o) → All (HasItsGap (length o.gaps.items)) o.times.items
     → IsPrintableOutcome (length p.start_names) o

@@ -1,4 +1,4 @@
--- The bounds that are found of a program are tidy, over the start arguments alone.
+-- The bounds derived for a program are tidy, over the start arguments alone.
 use Rattle.std.proofs.Common.{◌≡◌, ◌⊎◌, inl, inr, ℕ, zero, suc, ◌<◌, ◌≤◌, Bool, true, false, List, [], ◌∷◌, ◌++◌}
 use Rattle.std.proofs.Common.{length, Option, Some, None, refl, sym, ◌∙◌, ap, subst, append_assoc, arith, All}
 use Rattle.std.specs.Prelude.{nat_lt}
@@ -22,14 +22,14 @@ use Rattle.cert_types.proofs.cert_program.Tidying.{settings-tidying}
 use Rattle.bound_fixpoint.specs.Keys.{Bounds, has_key, over, size_by}
 use Rattle.bound_fixpoint.specs.Derivations.{Node, EmptyBy, UnreachedBy, NeverBy, RankBy, SpreadBy, CycleBy, Derivation, bound_found, bounds_of}
 use Rattle.bound_fixpoint.specs.Rounds.{IsMade}
-use Rattle.bound_fixpoint.specs.Standing.{composed_bound, AcceptsOver, StandAfter}
+use Rattle.bound_fixpoint.specs.Justification.{composed_bound, AcceptsOver, AreJustifiedAfter}
 use Rattle.bound_fixpoint.proofs.DerivationLists.{first_of-cases, bounds_of-append, bounds_of-kept}
 use Rattle.cost_bounds.specs.CostOutcomes.{BoundedBy, IsCostOf}
 use Rattle.cost_bounds.proofs.CostNodes.{certified, cost-numbers}
 use Rattle.time_bounds.specs.ProgramSearches.{searches_of_program}
 use Rattle.time_bounds.specs.Totals.{known_parts, total_of}
 use Rattle.time_bounds.specs.PrintableLaws.{IsPrintableBound, ArePrintableBounds, ArePrintable, FoundBoundsArePrintable}
-use Rattle.bound_fixpoint.proofs.SizesStand.{all_stand}
+use Rattle.bound_fixpoint.proofs.SizesAreJustified.{all_justified}
 use Rattle.time_bounds.proofs.OneProgram.{program_searches_one}
 use Rattle.time_bounds.proofs.RightSizings.{program_searches_right}
 use Rattle.time_bounds.proofs.TotalSteps.{first_known, total_is}
@@ -40,7 +40,7 @@ rewritten_printable : (n : ℕ) (b : Bound) → HasTidyNumbers b → ReadsBelow 
 rewritten_printable n b has reads = (rewritten-tidy b has, (rewritten-reads b).each n reads)
 
 module _ (p : Program) (valid : IsValid p) (n : ℕ) where
-  -- what a node composes over printable bounds is printable
+  -- the bound that a node composes over printable bounds is printable
   module _ (b : Bounds) (good : ArePrintableBounds n b) where
     sized : (t i : ℕ) (x : Bound) → size_by b t i ≡ Some x → IsPrintableBound n x
     sized t zero x e = absurd (no_bound None x refl e)
@@ -115,14 +115,14 @@ module _ (p : Program) (valid : IsValid p) (n : ℕ) where
       go t i x (inl e) = good.each t i x e
       go t i x (inr e) = here t i x (has_key f.keys t i) refl e.1
 
-  -- so with derivations that are justified after those with which all is printable, all is printable
-  stand_printable : (earlier fs : List Derivation) → ArePrintableBounds n (bounds_of p earlier) → StandAfter (setting_of p) earlier fs
+  -- if all bounds are printable, those with derivations that are justified after them are, too
+  true_are_printable : (earlier fs : List Derivation) → ArePrintableBounds n (bounds_of p earlier) → AreJustifiedAfter (setting_of p) earlier fs
       → ArePrintableBounds n (bounds_of p (earlier ++ fs))
-  stand_printable earlier [] good h =
+  true_are_printable earlier [] good h =
       subst (λ (xs : List Derivation). ArePrintableBounds n (bounds_of p xs)) (sym (append-nil earlier)) good
-  stand_printable earlier (f ∷ fs) good h =
+  true_are_printable earlier (f ∷ fs) good h =
       subst (λ (xs : List Derivation). ArePrintableBounds n (bounds_of p xs)) (append_assoc earlier (f ∷ []) fs)
-      (stand_printable (earlier ++ f ∷ []) fs (one_printable earlier f good own) h.1)
+      (true_are_printable (earlier ++ f ∷ []) fs (one_printable earlier f good own) h.1)
     where
       before : ArePrintableBounds n (bounds_of p h.0.before)
       before = record {
@@ -135,7 +135,7 @@ module _ (p : Program) (valid : IsValid p) (n : ℕ) where
           subst (IsPrintableBound n) (sym h.0.stands.bound)
           (composed_printable (bounds_of p h.0.before) before f.node f.premises h.0.stands.accepted)
 
-  -- what is known at first
+  -- the bounds known initially are printable
   first_printable : arity_of p p.start ≤ n → ArePrintableBounds n (bounds_of p [])
   first_printable few = record { each = first }
     where
@@ -150,16 +150,16 @@ module _ (p : Program) (valid : IsValid p) (n : ℕ) where
       first zero (suc j) x e = inside j x (nat_lt j (arity_of p p.start)) refl e
       first (suc t) i x e = absurd (no_bound None x refl e)
 
--- all that is known with the derivations of a valid program
+-- all bounds known with the derivations of a valid program are printable
 pub derivations_printable : (p : Program) (pivots : ℕ) (fs : List Derivation) → IsValid p
     → IsMade (searches_of_program p pivots) (setting_of p) fs → ArePrintableBounds (length p.start_names) (bounds_of p fs)
 derivations_printable p pivots fs valid made =
-    stand_printable p valid (length p.start_names) [] fs
+    true_are_printable p valid (length p.start_names) [] fs
     (first_printable p valid (length p.start_names) (omega (arith, valid.start_places)))
-    (all_stand (searches_of_program p pivots) (setting_of p) (program_searches_right.each p pivots valid) (program_searches_one.each p pivots) fs
+    (all_justified (searches_of_program p pivots) (setting_of p) (program_searches_right.each p pivots valid) (program_searches_one.each p pivots) fs
     made).each
 
--- and so is a bound on a cost over them
+-- a bound on a cost over these is printable
 pub costs_printable : (p : Program) (pivots : ℕ) (fs : List Derivation) (t : ℕ) (by : CostBy) → IsValid p
     → IsMade (searches_of_program p pivots) (setting_of p) fs → IsCostOf p pivots (over (bounds_of p fs)) t (BoundedBy by)
     → IsPrintableBound (length p.start_names) (stated_cost (setting_of p) (over (bounds_of p fs)) t by)
@@ -167,7 +167,7 @@ costs_printable p pivots fs t by valid made is =
     cost_printable p valid (length p.start_names) (bounds_of p fs) (derivations_printable p pivots fs valid made) t by
     (cost-numbers p pivots (over (bounds_of p fs)) t valid is.costs by (certified p pivots (over (bounds_of p fs)) t (by, is)))
 
--- the parts of a total
+-- the parts of a total are printable
 parts_printable : (n : ℕ) (os : List (Option Bound)) (ps : Parts) → known_parts os ≡ Some ps → ArePrintable n os
     → HaveTidyNumbers ps × AllReadBelow n ps
 parts_printable n [] ps e h =
@@ -192,6 +192,6 @@ total_printable n times b h e =
     let parts = parts_printable n times total.0 total.1 h in
     subst (IsPrintableBound n) (sym total.2) (rewritten_printable n (SumOf total.0) (tt, parts.0) (tt, parts.1))
 
--- the bounds that are found of a valid program, those on costs and their total are tidy and over start arguments alone
+-- the bounds derived for a valid program, those on costs, and their total are tidy, over the start arguments alone
 pub found_printable : FoundBoundsArePrintable
 found_printable = record { derivations = derivations_printable; costs = costs_printable; totals = total_printable }

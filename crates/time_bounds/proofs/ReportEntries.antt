@@ -1,4 +1,4 @@
--- The outcome of an analysis is what the definition of its report requires.
+-- The outcome of an analysis meets the definition of its report.
 use Rattle.std.proofs.Common.{◌≡◌, ◌↔◌, ◌⊎◌, inl, inr, ℕ, zero, suc, ◌+◌, ◌<◌, ◌≤◌, false, List, [], ◌∷◌, length, map, Option, Some}
 use Rattle.std.proofs.Common.{None, refl, sym, ◌∙◌, ap}
 use Rattle.std.proofs.Common.{subst, arith}
@@ -28,8 +28,8 @@ use Rattle.cert_types.specs.cert_rules.AcceptsPlain.{IsRule}
 use Rattle.bound_fixpoint.specs.Keys.{Bounds, place_fact}
 use Rattle.bound_fixpoint.specs.Derivations.{Derivation, bounds_of}
 use Rattle.bound_fixpoint.specs.Searches.{Searches}
-use Rattle.bound_fixpoint.specs.Standing.{AllStand}
-use Rattle.bound_fixpoint.proofs.StandingLaws.{hold, time_based}
+use Rattle.bound_fixpoint.specs.Justification.{AreJustified}
+use Rattle.bound_fixpoint.proofs.JustificationLaws.{hold, time_based}
 use Rattle.cost_bounds.specs.CostLemmas.{cost_node}
 use Rattle.cost_bounds.proofs.CostLemmas.{bounded-hold}
 use Rattle.time_bounds.specs.ProgramSearches.{searches_of_program}
@@ -37,7 +37,7 @@ use Rattle.time_bounds.specs.Totals.{spent_by, spendings_by, before, known_parts
 use Rattle.time_bounds.specs.Laws.{SpendingsHold}
 use Rattle.time_bounds.specs.Analysis.{IsTimeOf, AreTimesOf, IsSizeOf, AreSizesOf, AreSizeRowsOf, IsCostOver, AreCostsOver, IsAnalysis}
 use Rattle.time_bounds.proofs.CostEntries.{joined}
-use Rattle.bound_fixpoint.proofs.SizesStand.{all_stand}
+use Rattle.bound_fixpoint.proofs.SizesAreJustified.{all_justified}
 use Rattle.time_bounds.proofs.OneProgram.{program_searches_one}
 use Rattle.time_bounds.proofs.RightSizings.{program_searches_right}
 use Rattle.time_bounds.proofs.RuleNumbers.{rule_there}
@@ -81,7 +81,7 @@ total_known os =
     let e = all_known os ∙ sym (some_mapped _ (known_parts os)) in
     (λ h. sym e ∙ h, λ h. e ∙ h)
 
--- the entry of each rule
+-- the entry of each rule follows from the derivations
 pub said_at : (q : Searches) (p : Program) (fs : List Derivation) (k : ℕ) (times : List Time) (i : ℕ) (x : Time) → AreTimesOf q p fs k times
     → slice_get times i ≡ Some x → IsTimeOf q p fs (k + i) x
 said_at q p fs k [] i x h e = absurd (let f : ⊥ = cc in f)
@@ -91,7 +91,7 @@ said_at q p fs k (y ∷ times) zero x h e =
 said_at q p fs k (y ∷ times) (suc i) x h e =
     subst (λ (n : ℕ). IsTimeOf q p fs n x) (let z : suc k + i ≡ k + suc i = omega arith in z) (said_at q p fs (suc k) times i x h.1 e)
 
--- the entry of each place of a rule, and of each rule's places
+-- the entry of each place of a rule, and of each rule's places, follows from them
 pub size_said_at : (q : Searches) (p : Program) (fs : List Derivation) (t k : ℕ) (sizes : List Size) (i : ℕ) (x : Size)
     → AreSizesOf q p fs t k sizes → slice_get sizes i ≡ Some x → IsSizeOf q p fs t (k + i) x
 size_said_at q p fs t k [] i x h e = absurd (let f : ⊥ = cc in f)
@@ -114,7 +114,7 @@ row_said_at q p fs k (y ∷ rows) (suc t) row h e =
     subst (λ (n : ℕ). AreSizesOf q p fs n 1 row) (let z : suc k + t ≡ k + suc t = omega arith in z)
     (row_said_at q p fs (suc k) rows t row h.1 e)
 
--- the entry of each rule's cost
+-- the entry of each rule's cost follows from them
 pub cost_said_at : (p : Program) (pivots : ℕ) (d : Bounds) (k : ℕ) (cs : List (Option RuleCost)) (i : ℕ) (x : Option RuleCost)
     → AreCostsOver p pivots d k cs → slice_get cs i ≡ Some x → IsCostOver p pivots d (k + i) x
 cost_said_at p pivots d k [] i x h e = absurd (let f : ⊥ = cc in f)
@@ -131,7 +131,7 @@ abbrev BoundsSpending : List Time → List (Option RuleCost) → ℕ → Bound �
 BoundsSpending times cs i b = ((slice_get cs i ≡ Some None) × (slice_get times i ≡ Some (Timed b)))
     ⊎ (slice_get cs i ≡ Some (Some (Costed b)))
 
--- each known bound of a list, by its position
+-- each known bound of a list bounds what the rule at its position spends
 known_at : (times : List Time) (cs : List (Option RuleCost)) (i : ℕ) (b : Bound)
     → slice_index_or (spendings times cs) i None ≡ Some b → BoundsSpending times cs i b
 known_at [] cs i b e = absurd (let f : ⊥ = cc in f)
@@ -144,13 +144,13 @@ known_at (x ∷ times) (Some (Costed c) ∷ cs) zero b e =
 known_at (x ∷ times) (Some (Uncosted w) ∷ cs) zero b e = absurd (let f : ⊥ = cc in f)
 known_at (x ∷ times) (c ∷ cs) (suc i) b e = known_at times cs i b e
 
--- there are as many as entries
+-- there are as many bounds as entries
 spendings_long : (times : List Time) (cs : List (Option RuleCost)) → length times ≡ length cs → length (spendings times cs) ≡ length times
 spendings_long [] cs e = refl
 spendings_long (x ∷ times) [] e = absurd (omega (arith, e))
 spendings_long (x ∷ times) (c ∷ cs) e = ap suc (spendings_long times cs (omega (arith, e)))
 
--- a rule has an entry of its cost exactly where it has one
+-- there is an entry of a rule's cost exactly if the rule has a cost
 cost_there : (p : Program) (pivots : ℕ) (d : Bounds) (t : ℕ) (r : Rule) → rule_at p t ≡ Some r → (c : Option RuleCost)
     → IsCostOver p pivots d t c → is_some c ≡ is_some r.cost
 cost_there p pivots d t r numbered None h = go r.cost refl
@@ -170,7 +170,7 @@ cost_there p pivots d t r numbered (Some c) h = sym (ap is_some (written c h))
     written : (c : RuleCost) → (g : IsCostOver p pivots d t (Some c)) → r.cost ≡ Some (has c g).cost
     written c g = of (has c g)
 
--- so do the rules from a position on
+-- the same for the rules from a position on
 costs_there : (p : Program) (pivots : ℕ) (d : Bounds) (k : ℕ) (rs : List Rule) → ((i : ℕ) (r : Rule) → slice_get rs i ≡ Some r
     → rule_at p (k + i) ≡ Some r) → (cs : List (Option RuleCost)) → length cs ≡ length rs → AreCostsOver p pivots d k cs
     → map is_some cs ≡ map (λ rule. is_some rule.cost) rs
@@ -197,12 +197,12 @@ plain_spending p t r b numbered plain h = record {
     free (Some k) e = absurd (plain (record { rule = r; numbered = numbered; cost = k; written = e }))
 
 module _ (p : Program) (pivots : ℕ) (valid : IsValid p) (r : Report) (h : IsAnalysis p pivots r) where
-  stand : AllStand (setting_of p) h.derivations
+  stand : AreJustified (setting_of p) h.derivations
   stand =
-      all_stand (searches_of_program p pivots) (setting_of p) (program_searches_right.each p pivots valid)
+      all_justified (searches_of_program p pivots) (setting_of p) (program_searches_right.each p pivots valid)
       (program_searches_one.each p pivots) h.derivations h.last.made
 
-  -- what is known with the derivations holds
+  -- each bound known with the derivations holds
   known_holds : (t i : ℕ) (b : Bound) → bounds_of p h.derivations t i ≡ Some b → Holds p (place_fact t i b)
   known_holds t i b e = hold.each (setting_of p) (settings-faithful.each p valid) h.derivations stand t i b e
 
@@ -239,7 +239,7 @@ module _ (p : Program) (pivots : ℕ) (valid : IsValid p) (r : Report) (h : IsAn
       let is = costed_at i (Some (Costed b)) e in
       subst IsBased (sym is.2) (bounded-hold.based p pivots h.derivations (cost_node (suc i) is.0) valid stand is.1)
 
-  -- as many as rules
+  -- there are as many bounds on what rules spend as rules
   spendings_each : length (spendings r.times r.costs) ≡ length p.rules
   spendings_each = spendings_long r.times r.costs (h.one_each ∙ sym h.cost_each) ∙ h.one_each
 
@@ -264,7 +264,7 @@ module _ (p : Program) (pivots : ℕ) (valid : IsValid p) (r : Report) (h : IsAn
           time_based (setting_of p) (settings-faithful.each p valid) h.derivations stand (suc i) b (rule i l) (timed_at i b e)
       based i b l (inr e) = cost_based i b e
 
-  -- all that the report says holds
+  -- each bound of the report holds
   pub report_holds : ReportHolds p r
   report_holds = record { times = times; costs = costs; total = total; sizes = sizes }
     where
@@ -289,7 +289,7 @@ module _ (p : Program) (pivots : ℕ) (valid : IsValid p) (r : Report) (h : IsAn
       sizes zero i b e = absurd (let none : ⊥ = cc in none)
       sizes (suc k) i b e = place k i b (slice_get r.sizes k) refl e
 
-  -- it is a report on the program
+  -- the report is one on the program
   pub report_fits : IsReportOn p r
   report_fits = record {
     times = h.one_each;

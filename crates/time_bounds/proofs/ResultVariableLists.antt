@@ -1,4 +1,4 @@
--- Lists of places after rules that ascend, and what is a member of them.
+-- Lists of places after rules that ascend, and their members.
 use Rattle.std.proofs.Common.{◌≡◌, ◌⊎◌, inl, inr, ℕ, zero, suc, ◌+◌, ◌<◌, ◌≤◌, ◌==◌, ◌&&◌, ◌||◌, Bool, true, false}
 use Rattle.std.proofs.Common.{List}
 use Rattle.std.proofs.Common.{[], ◌∷◌, ◌++◌, length, map, refl, sym, ◌∙◌, ap, subst, arith, Contains, get_or}
@@ -19,12 +19,12 @@ abbrev pub IsBeforeAll : ResultVariable → List ResultVariable → Type 0
 IsBeforeAll m [] = Unit {0}
 IsBeforeAll m (n ∷ ns) = ComesBefore m n × IsBeforeAll m ns
 
--- each comes before all behind it
+-- each place comes before all those after it
 abbrev pub Ascend : List ResultVariable → Type 0
 Ascend [] = Unit {0}
 Ascend (m ∷ ms) = IsBeforeAll m ms × Ascend ms
 
--- each of the first comes before all of the others
+-- each place of the first list comes before all of the second
 abbrev pub AreAllBefore : List ResultVariable → List ResultVariable → Type 0
 AreAllBefore [] ys = Unit {0}
 AreAllBefore (x ∷ xs) ys = IsBeforeAll x ys × AreAllBefore xs ys
@@ -55,7 +55,7 @@ not_itself : (m : ResultVariable) → ComesBefore m m → ⊥
 not_itself m (inl l) = omega (arith, l)
 not_itself m (inr l) = omega (arith, l.1)
 
--- each element is at one position
+-- the position of each element is unique
 pub at-one : (ms : List ResultVariable) → Ascend ms → (a b : ℕ) → a < length ms → b < length ms → result_variable_at ms a ≡ result_variable_at ms b
     → a ≡ b
 at-one ms up a b la lb e = go (order a b) (order b a)
@@ -98,14 +98,14 @@ member-at (m ∷ ms) t i h = go (is_result_variable m t i) refl h (member-at ms 
     go true e k later = (zero, omega arith, result_variable-sound m t i e)
     go false e k later = let x = later k in (suc x.0, omega (arith, x.1), x.2)
 
--- and the element at a position is a member
+-- the element at a position is a member
 pub at-member : (ms : List ResultVariable) (k t i : ℕ) → k < length ms → result_variable_at ms k ≡ result_variable t i → has_key ms t i ≡ true
 at-member [] k t i l e = absurd (omega (arith, l))
 at-member (m ∷ ms) zero t i l e = or_left (is_result_variable m t i) (has_key ms t i) (result_variable-complete m t i e)
 at-member (m ∷ ms) (suc k) t i l e =
     or_right (is_result_variable m t i) (has_key ms t i) (at-member ms k t i (omega (arith, l)) e)
 
--- a member of two lists together is one of one of them
+-- a member of two appended lists is one of the first or of the second
 pub member-append : (xs ys : List ResultVariable) (t i : ℕ) → has_key (xs ++ ys) t i ≡ true
     → (has_key xs t i ≡ true) ⊎ (has_key ys t i ≡ true)
 member-append [] ys t i h = inr h
@@ -121,7 +121,7 @@ member-append (x ∷ xs) ys t i h = go (is_result_variable x t i) refl h (member
         by (inl m) = inl (or_right (is_result_variable x t i) (has_key xs t i) m)
         by (inr m) = inr m
 
--- a member of the first of two lists is one of the two together
+-- a member of the first of two lists is one of the appended lists
 pub append-left : (xs ys : List ResultVariable) (t i : ℕ) → has_key xs t i ≡ true → has_key (xs ++ ys) t i ≡ true
 append-left [] ys t i h = absurd (no_is_not_yes false refl h)
 append-left (x ∷ xs) ys t i h = go (is_result_variable x t i) refl h (append-left xs ys t i)
@@ -131,12 +131,12 @@ append-left (x ∷ xs) ys t i h = go (is_result_variable x t i) refl h (append-l
     go true e k later = or_left (is_result_variable x t i) (has_key (xs ++ ys) t i) e
     go false e k later = or_right (is_result_variable x t i) (has_key (xs ++ ys) t i) (later k)
 
--- a member of the second of two lists is one of the two together
+-- a member of the second of two lists is one of the appended lists
 pub append-right : (xs ys : List ResultVariable) (t i : ℕ) → has_key ys t i ≡ true → has_key (xs ++ ys) t i ≡ true
 append-right [] ys t i h = h
 append-right (x ∷ xs) ys t i h = or_right (is_result_variable x t i) (has_key (xs ++ ys) t i) (append-right xs ys t i h)
 
--- the elements at these positions ascend, where the positions do
+-- if positions ascend, the elements at these positions do
 module _ (result_variables : List ResultVariable) where
   ascending-by : (ms : List ResultVariable) → ((k : ℕ) → suc k < length ms → ComesBefore (result_variable_at ms k) (result_variable_at ms (suc k)))
       → AreResultVariablesAscending ms
@@ -148,7 +148,7 @@ module _ (result_variables : List ResultVariable) where
   pub chosen : (ps : List ℕ) (k : ℕ) → k < length ps → result_variable_at (map (result_variable_at result_variables) ps) k ≡ result_variable_at result_variables (get_or ps k 0)
   chosen ps k l = get_or-map (result_variable_at result_variables) ps k 0 (result_variable 0 0) l
 
-  -- of places that ascend, those at positions that increase do
+  -- if places ascend, those at increasing positions do
   pub ascending-chosen : Ascend result_variables → (ps : List ℕ) → IsStrictlyIncreasing ps
       → ((b : ℕ) → Contains ps b → b < length result_variables) → AreResultVariablesAscending (map (result_variable_at result_variables) ps)
   ascending-chosen up ps rises within = ascending-by (map (result_variable_at result_variables) ps) next

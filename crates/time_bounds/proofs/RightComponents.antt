@@ -22,7 +22,7 @@ use Rattle.time_bounds.proofs.ResultVariableLists.{Ascend, at-one, member-at, at
 use Rattle.time_bounds.proofs.ResultVariableLists.{chosen-complete}
 use Rattle.time_bounds.proofs.LiveResultVariables.{live-ascend, listed-live, live-listed}
 
--- a list between others is one of them all
+-- a list between others is an element of all together
 contains-middle : (before : List (List ℕ)) (c : List ℕ) (after : List (List ℕ)) → Contains (before ++ c ∷ after) c
 contains-middle [] c after = (zero, omega arith, refl)
 contains-middle (x ∷ before) c after =
@@ -45,7 +45,7 @@ module _ (result_variables : List ResultVariable) (up : Ascend result_variables)
       let next = listing.each before after c e in
       path-within Edge (length result_variables) within next.least b next.ready.node ((next.members b).0 h).onward
 
-  -- members of each component ascend
+  -- the members of each component ascend
   ascends : (before rest : List (List ℕ)) → positions ≡ before ++ rest → All AreResultVariablesAscending (all_places rest)
   ascends before [] e = All-nil AreResultVariablesAscending
   ascends before (c ∷ rest) e =
@@ -53,7 +53,7 @@ module _ (result_variables : List ResultVariable) (up : Ascend result_variables)
       (ascending-chosen result_variables up c (listing.each before rest c e).ascending (member-within before rest c e))
       (ascends (before ++ c ∷ []) rest (e ∙ sym (append_assoc before (c ∷ []) rest)))
 
-  -- no place is a member of two
+  -- no place is a member of two components
   twice : (before between : List (List ℕ)) (c d : List ℕ) (rest : List (List ℕ))
       → positions ≡ before ++ c ∷ (between ++ d ∷ rest)
       → (t i : ℕ) → has_key (places c) t i ≡ true → has_key (places d) t i ≡ true → ⊥
@@ -105,7 +105,7 @@ module _ (result_variables : List ResultVariable) (up : Ascend result_variables)
   is_place before (c ∷ rest) e t i (inr l) =
       is_place (before ++ c ∷ []) rest (e ∙ sym (append_assoc before (c ∷ []) rest)) t i l
 
-  -- and each of the places is a member of one
+  -- each of the places is a member of a component
   listed_in : (pss : List (List ℕ)) (c : List ℕ) (t i : ℕ) → Contains pss c → has_key (places c) t i ≡ true
       → IsCovered (all_places pss) t i
   listed_in [] c t i (n, l, same) h = absurd (omega (arith, l))
@@ -154,7 +154,7 @@ module _ (p : Program) (pivots : ℕ) (is_live : ℕ → Bool) (lives : AreLive 
       → has_key (live_result_variables p is_live) t i ≡ true
   back t i (rule, alive, place) = live-listed p is_live t i rule ((lives.live t).1 (rule, alive)) place
 
-  -- they are those of the places of live rules
+  -- the components are those of the places of live rules
   pub components_of : AreComponentsOf (searches_of_program p pivots) p cs
   components_of = subst (λ (ds : List (List ResultVariable)). AreComponentsOf (searches_of_program p pivots) p ds) (sym found.result_variables)
       record {
@@ -179,7 +179,7 @@ module _ (p : Program) (pivots : ℕ) (is_live : ℕ → Bool) (lives : AreLive 
         );
       }
 
--- so each answer says
+-- each answer of the search for components is right
 pub components_right : (p : Program) (pivots : ℕ) (cs : List (List ResultVariable))
     → (searches_of_program p pivots).AreComponents cs → AreComponentsOf (searches_of_program p pivots) p cs
 components_right p pivots cs (is_live, lives, (local, locals, found)) =

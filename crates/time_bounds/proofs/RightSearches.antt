@@ -1,4 +1,4 @@
--- What is answered of the rules of a valid program is right.
+-- The answers of the searches on the rules of a valid program are right.
 use Rattle.its_model.specs.linear_forms.Causes.{cause_of}
 use Rattle.rank_search.proofs.rule_questions.Exact.{nodes-accepted as empty_nodes-accepted}
 use Rattle.std.proofs.Common.{◌≡◌, inl, inr, ℕ, zero, suc, ◌==◌, Bool, true, false, List, [], ◌∷◌, map, Option, Some}
@@ -46,7 +46,7 @@ use Rattle.time_bounds.specs.ProgramRules.{emptiness_of, ranking_of}
 use Rattle.time_bounds.specs.ProgramSearches.{searches_of_program}
 use Rattle.model.proofs.Cases.{slice_get-there as at_some, some_same as some_limit_hit, none_some as none_limit_hit}
 
--- the forms of a function at symbols have coefficient 0 at shut places, where the function has
+-- if a function has coefficient 0 at a place of a symbol, the form made of it has
 zero_at : (f : Function) (a j : ℕ) → at (f a).coefs j ≡ pos 0 → (ss : List ℕ) → at (rank_form (map (part_at f) ss) (Some a)).coefs j ≡ pos 0
 zero_at f a j h [] = refl
 zero_at f a j h (x ∷ ss) = go (x == a) refl (zero_at f a j h ss)
@@ -61,7 +61,7 @@ limit_hit_none x e = cc
 
 module _ (accepted : EmptyNodesAreAccepted) (functions : RankedNodesRank) (nodes : RankedNodesAreAccepted) (exact : RankAnswersAreExact)
     (p : Program) (pivots : ℕ) (valid : IsValid p) where
-  -- what is right of an answer about emptiness
+  -- each answer on emptiness is right
   empty_right : (t : ℕ) (e : Emptiness) → IsRule p t → (searches_of_program p pivots).Empties t e → IsRightEmptiness (setting_of p) t e
   empty_right t e rule (r, numbered, (a, same, is)) = subst (λ (x : Emptiness). IsRightEmptiness (setting_of p) t x) same (go a is)
     where
@@ -79,7 +79,7 @@ module _ (accepted : EmptyNodesAreAccepted) (functions : RankedNodesRank) (nodes
     inside = q.inside;
   }
 
-  -- the question of a rule whose answer isn't a limit hit hits no limit
+  -- if the answer on a rule isn't a limit hit, its question hits no limit
   no_limit_hit : (t : ℕ) (r : Rule) (a : GuardFeasibility) → rule_at p t ≡ Some r → IsEmptyAnswer (prepared r) t pivots a → limit_hit_in (Some a) ≡ None
       → EmptyHitsLimit (searches_of_program p pivots) t → ⊥
   no_limit_hit t r a numbered is hits_no_limit (x, (s, there, (b, same, other))) = go a b is other hits_no_limit same
@@ -115,7 +115,7 @@ module _ (accepted : EmptyNodesAreAccepted) (functions : RankedNodesRank) (nodes
         none e = cc
     answered (suc k) rule = at_some answers k (omega (arith, slice_get-below p.rules k rule.rule rule.numbered, are.one_each))
 
-    -- if the search finds no rule of a set whose question hits a limit, none does
+    -- if the search finds no rule of a set whose question hits a limit, no question hits one
     none_hits_limit : (ts : List ℕ) → ((u : ℕ) → is_in u ts ≡ true → IsRule p u) → first_limit_hit answers ts ≡ None
         → NoneHitsLimit (searches_of_program p pivots) ts
     none_hits_limit [] rules e u m hits_limit = no_is_not_yes false refl m
@@ -145,11 +145,11 @@ module _ (accepted : EmptyNodesAreAccepted) (functions : RankedNodesRank) (nodes
             by (empties.OutOfLimits y) h = h
 
     -- the limit hit that is reported is that of the first rule whose question hits one
-    pub first_told : (x : LimitHit) (ts : List ℕ) → ((u : ℕ) → is_in u ts ≡ true → IsRule p u) → first_limit_hit answers ts ≡ Some x
+    pub first_limit_hit_of : (x : LimitHit) (ts : List ℕ) → ((u : ℕ) → is_in u ts ≡ true → IsRule p u) → first_limit_hit answers ts ≡ Some x
         → IsFirstLimitHit (searches_of_program p pivots) ts x
-    first_told x [] rules e = absurd (none_limit_hit x e)
-    first_told x (t ∷ ts) rules e =
-        go (answered t rule).0 (answered t rule).1 (first_told x ts (λ v k. rules v (or_right (v == t) (is_in v ts) k)))
+    first_limit_hit_of x [] rules e = absurd (none_limit_hit x e)
+    first_limit_hit_of x (t ∷ ts) rules e =
+        go (answered t rule).0 (answered t rule).1 (first_limit_hit_of x ts (λ v k. rules v (or_right (v == t) (is_in v ts) k)))
       where
         rule : IsRule p t
         rule = rules t (or_left (t == t) (is_in t ts) (same_number t))
@@ -166,7 +166,7 @@ module _ (accepted : EmptyNodesAreAccepted) (functions : RankedNodesRank) (nodes
             by (empties.OutOfLimits y) is h =
                 inl (rule.rule, rule.numbered, (empties.OutOfLimits y, ap (λ (w : LimitHit). EmptyHitLimit w) (some_limit_hit y x h), is))
 
-    -- what is right of an answer to a rank question
+    -- each answer to the rank question of this set is right
     rank_right : (set : List ℕ) (t : ℕ) (shut : List SymbolPlace) → IsQuestion p set t → (a : RankAnswer)
         → IsRankAnswer (ranked_set p set t shut) shut pivots answers a
         → IsRightRanking (searches_of_program p pivots) (setting_of p) set t shut (ranking_of a)
@@ -195,7 +195,7 @@ module _ (accepted : EmptyNodesAreAccepted) (functions : RankedNodesRank) (nodes
           none_hits_limit set q.rules h.1,
         )
     rank_right set t shut q (ranks.OutOfLimits x) (inl own) = inl own.question
-    rank_right set t shut q (ranks.OutOfLimits x) (inr first) = inr (first_told x set q.rules first.first)
+    rank_right set t shut q (ranks.OutOfLimits x) (inr first) = inr (first_limit_hit_of x set q.rules first.first)
 
   -- each answer to a rank question is right
   pub rankings_right : (set : List ℕ) (t : ℕ) (shut : List SymbolPlace) (r : Ranking) → IsQuestion p set t
@@ -204,13 +204,13 @@ module _ (accepted : EmptyNodesAreAccepted) (functions : RankedNodesRank) (nodes
       subst (λ (x : Ranking). IsRightRanking (searches_of_program p pivots) (setting_of p) set t shut x) same
       (rank_right answers are set t shut q a is)
 
--- of a valid program each answer about emptiness is right
+-- each answer on emptiness for a valid program is right
 pub emptiness_right : (p : Program) (pivots : ℕ) → IsValid p → (t : ℕ) (e : Emptiness) → IsRule p t
     → (searches_of_program p pivots).Empties t e → IsRightEmptiness (setting_of p) t e
 emptiness_right p pivots valid t e rule h =
     empty_right empty_nodes-accepted nodes-rank nodes-accepted answers-exact p pivots valid t e rule h
 
--- and so is each to a rank question
+-- each answer to a rank question for a valid program is right
 pub ranking_right : (p : Program) (pivots : ℕ) → IsValid p → (set : List ℕ) (t : ℕ) (shut : List SymbolPlace) (r : Ranking)
     → IsQuestion p set t → (searches_of_program p pivots).Ranks set t shut r
     → IsRightRanking (searches_of_program p pivots) (setting_of p) set t shut r

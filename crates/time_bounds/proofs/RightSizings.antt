@@ -50,7 +50,7 @@ use Rattle.time_bounds.proofs.RightComponents.{components_right}
 use Rattle.time_bounds.proofs.RightSearches.{emptiness_right, ranking_right}
 use Rattle.local_size.proofs.NewValues.{form_at-is as form_there}
 
--- one of two reasons
+-- if there is a reason, it is one of the two
 pub one_of : (a b : Option NoSize) (why : NoSize) → or_else a b ≡ Some why → (a ≡ Some why) ⊎ (b ≡ Some why)
 one_of None b why e = inr e
 one_of (Some v) b why e = inl e
@@ -140,11 +140,11 @@ module _ (unbounded : UnboundedAnswersAreUnbounded) (p : Program) (pivots : ℕ)
     }
 
   module _ (b : Bounds) (result_variables : List ResultVariable) where
-    -- this is answered of a place
+    -- the answer for a place
     abbrev Answered : ResultVariable → Local → Type 0
     Answered m x = IsLocalOf p pivots m.rule m.place x
 
-    -- a place with an unbounded side is why there is no size
+    -- a place with an unbounded side is a right reason for the missing size
     unbounded_cause : (m : ResultVariable) → has_key result_variables m.rule m.place ≡ true → (x : Local) → Answered m x → (why : NoSize)
         → unbounded_reason x ≡ Some why → IsCause (setting_of p) b result_variables why
     unbounded_cause m has (HasBound l) is why e = absurd (none_some why e)
@@ -157,7 +157,7 @@ module _ (unbounded : UnboundedAnswersAreUnbounded) (p : Program) (pivots : ℕ)
         (m, has, unbounded_at m r is.numbered is.place side ray kept shown.0 shown.1 is.local.0.straight)
     unbounded_cause m has (HasHitLimit t) is why e = absurd (none_some why e)
 
-    -- and so is one whose question hit a limit
+    -- a place whose question hit a limit is a right reason
     limit_cause : (m : ResultVariable) → has_key result_variables m.rule m.place ≡ true → (x : Local) → Answered m x → (why : NoSize)
         → limit_hit_reason x ≡ Some why → IsCause (setting_of p) b result_variables why
     limit_cause m has (HasBound l) is why e = absurd (none_some why e)
@@ -171,7 +171,7 @@ module _ (unbounded : UnboundedAnswersAreUnbounded) (p : Program) (pivots : ℕ)
         question (inl own) = inl own.question
         question (inr point) = inr point.hits_limit.hits_limit.0
 
-    -- the first check that fails
+    -- the first check that fails is a right reason
     first_cause : (why : NoSize) → IsFirstCause (setting_of p) b result_variables why → IsCause (setting_of p) b result_variables why
     first_cause (SizeUnbounded side ray kept) h = absurd h.1
     first_cause (SizeHitLimit t) h = absurd h.1
@@ -180,12 +180,12 @@ module _ (unbounded : UnboundedAnswersAreUnbounded) (p : Program) (pivots : ℕ)
     first_cause (SizeUntimed t) h = h
     first_cause (SizeLarge n) h = h
 
-    -- a node that is accepted and loops as it says is right
+    -- a node that is equal to one that states the size of exactly these places is right
     node_right : (node other : Node) → other ≡ node → IsSizingOf (setting_of p) b result_variables node
         → IsRightSizing (setting_of p) b result_variables (SizedBy other)
     node_right node other e h = subst (λ (n : Node). IsSizingOf (setting_of p) b result_variables n) (sym e) h
 
-    -- what is judged of members with side bounds is right
+    -- the answer for members with side bounds is right
     spread_right : (ms : List Member) → result_variables ≡ map (λ m. m.result_variable) ms → do_loop (setting_of p) ms ≡ false
         → (answer : SizeOutcome) → AnswersAlone (setting_of p) (over b) ms answer
         → IsRightSizing (setting_of p) b result_variables answer

@@ -1,4 +1,4 @@
--- Rows and answers, rule by rule, are those of the program.
+-- The rows and answers of rules, one by one, are those of the program.
 use Rattle.std.proofs.Common.{◌≡◌, ℕ, zero, suc, ◌+◌, ◌-◌, ◌<◌, List, [], ◌∷◌, ◌++◌, length, map, get_or, All, Some}
 use Rattle.std.proofs.Common.{refl, sym, ◌∙◌, ap, subst, arith}
 use Rattle.std.specs.Prelude.{slice_get}
@@ -22,13 +22,13 @@ use Rattle.rank_search.specs.rule_questions.RuleAnswers.{AreEmptyAnswers, answer
 use Rattle.time_bounds.specs.Questions.{AreAnswersFrom}
 use Rattle.model.proofs.Cases.{none_some}
 
--- a rule that is read is the program's
+-- a rule that was read is one of the program
 pub rule_read : (p : Program) (i : ℕ) (r : Rule) → i < length p.rules.items → r ≡ get_or p.rules.items i r
     → rule_at (program_of p) (suc i) ≡ Some (rule_of r)
 rule_read p i r l e =
     rule_here p (suc i) r (omega arith) (omega (arith, l)) (e ∙ ap (λ (j : ℕ). get_or p.rules.items j r) (let k : i ≡ suc i - 1 = omega arith in k))
 
--- a rule that is read of a valid program is preparable
+-- a rule that was read of a valid program can be prepared
 pub rule_preparable : (p : Program) (i : ℕ) (r : Rule) → IsValid (program_of p) → i < length p.rules.items → r ≡ get_or p.rules.items i r
     → IsPreparable (rule_of r)
 rule_preparable p i r v l e = preparable (program_of p) (suc i) (rule_of r) v (rule_read p i r l e)
@@ -62,7 +62,7 @@ rows_at (m ∷ prepared_rules) (r ∷ rules) (suc k) d e l =
     let h = rows_at prepared_rules rules k d (rest_same (prepared_of m) (prepared r) (map prepared_of prepared_rules) (map prepared rules) e) (omega (arith, l)) in
     record { rule = h.rule; numbered = h.numbered; same = h.same }
 
--- the rows of the program's rules are rows of rules that have some
+-- the rows of the program's rules are those of rules that have some
 pub are_prepared : (p : plain.Program) → IsValid p → (prepared_rules : List RuleRows) → AreRowsOf prepared_rules p → All IsPrepared prepared_rules
 are_prepared p v prepared_rules rows k d l =
     let h = rows_at prepared_rules p.rules k d rows l in
@@ -84,7 +84,7 @@ answer_pushed pivots k (n ∷ ms) (b ∷ os) m a h x = (
       (subst (λ (n : ℕ). IsEmptyAnswer (prepared_of m) n pivots a) (let z : k + suc (length ms) ≡ suc k + length ms = omega arith in z) x),
 )
 
--- the answers for the rows of the program's rules are those for its rules
+-- there are as many answers for rows as rules
 answers_long : (pivots k : ℕ) (prepared_rules : List RuleRows) (answers : List GuardFeasibility) → AreAnswersFrom pivots k prepared_rules answers → length answers ≡ length prepared_rules
 answers_long pivots k [] [] h = refl
 answers_long pivots k [] (a ∷ answers) h = absurd h

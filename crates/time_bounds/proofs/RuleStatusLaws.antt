@@ -1,4 +1,4 @@
--- The statuses that are found are those of the program's rules.
+-- The statuses that the code finds are those of the program's rules.
 use Rattle.std.proofs.Common.{◌≡◌, ◌↔◌, inl, inr, ℕ, zero, suc, ◌<◌, ◌==◌, ◌||◌, Bool, true, false, not, cond, eqb}
 use Rattle.std.proofs.Common.{List, [], ◌∷◌, length, map, Option, Some, None, option_map, refl, sym, ◌∙◌, ap, subst}
 use Rattle.std.proofs.Common.{arith}
@@ -39,7 +39,7 @@ any_is_in : (t : ℕ) (xs : List ℕ) → list_any (eqb t) xs ≡ is_in t xs
 any_is_in t [] = refl
 any_is_in t (x ∷ xs) = ap (λ (v : Bool). (t == x) || v) (any_is_in t xs)
 
--- an element of a list that is seen is one of the list
+-- an element of a mapped list is the image of an element
 seen_of : {A B : Type 0} (f : A → B) (xs : List A) (i : ℕ) (b : B) → slice_get (map f xs) i ≡ Some b
     → (a : A) × (slice_get xs i ≡ Some a) × (f a ≡ b)
 seen_of {A} {B} f xs i b h = go (slice_get xs i) refl (sym (slice_get-map f xs i) ∙ h)
@@ -54,7 +54,7 @@ seen_of {A} {B} f xs i b h = go (slice_get xs i) refl (sym (slice_get-map f xs i
         some_same : Some (f a) ≡ Some b → f a ≡ b
         some_same x = cc
 
--- what is known of a rule when its status is decided
+-- the facts about a rule when its status is decided
 record AtRule (p : Program) (empties : List GuardFeasibility) (seen : List Bool) (t : ℕ) : Type 0 where
   pub rule : Rule
   pub numbered : rule_at (program_of p) t ≡ Some (rule_of rule)
@@ -117,13 +117,13 @@ unsaid (answers.Empty n) h = tt
 unsaid (answers.Point z) h = absurd (no_is_not_yes false refl h)
 unsaid (answers.OutOfLimits t) h = absurd (no_is_not_yes false refl h)
 
--- an answer that has multipliers which leave no point says that rows have none
+-- an answer with multipliers that leave no point passes the test for infeasibility
 pub shown_says : (a : GuardFeasibility) (m : List ℕ) → emptiness_of a ≡ NoPoint m → SaysEmpty a
 shown_says (answers.Empty n) m e = tt
 shown_says (answers.Point z) m e = absurd (let f : ⊥ = cc in f)
 shown_says (answers.OutOfLimits t) m e = absurd (let f : ⊥ = cc in f)
 
--- a rule with an answer that it has no point is empty
+-- a rule with an answer that its rows have no point is infeasible
 pub shown : (p : plain.Program) (pivots t : ℕ) (r : plain.Rule) (a : GuardFeasibility) → rule_at p t ≡ Some r → IsEmptyAnswer (prepared r) t pivots a
     → says_empty a ≡ true → IsEmpty (searches_of_program p pivots) t
 shown p pivots t r (answers.Empty n) numbered h e = record { multipliers = n.multipliers.items; shown = (r, numbered, (answers.Empty n, refl, h)) }
@@ -161,7 +161,7 @@ module _ (p : Program) (pivots : ℕ) (empties : List GuardFeasibility) (seen : 
           some_same : (a b : plain.Rule) → Some a ≡ Some b → a ≡ b
           some_same a b e = cc
 
-  -- the rules that are cut are those that are empty
+  -- a rule isn't listed as infeasible exactly if its status isn't that
   cut_agrees : (e : ℕ) (r : plain.Rule) → rule_at (program_of p) e ≡ Some r
       → none_of (said_empty empties) e ≡ not (is_empty_rule_status (rule_status_at (rule_statuses_by seen empties p.rules.items) e))
   cut_agrees e r numbered =

@@ -1,4 +1,4 @@
--- Fates and empty rules, one more at a time.
+-- Statuses and infeasible rules, for one more at a time.
 use Rattle.std.proofs.Common.{◌≡◌, ℕ, zero, suc, ◌+◌, ◌<◌, Bool, true, false, cond, List, [], ◌∷◌, ◌++◌, length, take}
 use Rattle.std.proofs.Common.{filter, refl, sym, ◌∙◌, ap, arith}
 use Rattle.std.specs.Prelude.{slice_index_or}
@@ -33,7 +33,7 @@ rule_statuses-more seen xs ys i a r e low at_a at_r =
     ∙ rule_statuses-append seen (take i xs) (take i ys) a r
     (length-take-le i xs (omega (arith, low, e)) ∙ sym (length-take-le i ys (omega (arith, low)))))
 
--- the next number of a range, where it passes a test and where it doesn't
+-- a range with one number more, filtered: the number is kept if it passes the test, and else isn't
 filter-append : (test : ℕ → Bool) (xs : List ℕ) (x : ℕ) (v : Bool) → test x ≡ v → filter test (xs ++ x ∷ []) ≡ filter test xs ++ cond v (x ∷ []) []
 filter-append test [] x true e = rw e refl
 filter-append test [] x false e = rw e refl
@@ -49,7 +49,7 @@ pub range-more : (n a j : ℕ) → a + n ≡ j → range_with_len a (suc n) ≡ 
 range-more zero a j e = let same : a ≡ j = omega (arith, e) in ap (λ (x : ℕ). x ∷ []) same
 range-more (suc n) a j e = ap (λ (xs : List ℕ). a ∷ xs) (range-more n (a + 1) j (omega (arith, e)))
 
--- the next number of those from 1 on is kept exactly where it passes the test
+-- the next number of those from 1 on is kept exactly if it passes the test
 pub kept-more : (test : ℕ → Bool) (i : ℕ) (v : Bool) → test (i + 1) ≡ v
     → filter test (range_with_len 1 (i + 1)) ≡ filter test (range_with_len 1 i) ++ cond v ((i + 1) ∷ []) []
 kept-more test i v e =
@@ -57,7 +57,7 @@ kept-more test i v e =
     ap (λ (n : ℕ). filter test (range_with_len 1 n)) next
     ∙ (ap (filter test) (range-more i 1 (i + 1) (omega arith)) ∙ filter-append test (range_with_len 1 i) (i + 1) v e)
 
--- the answer that is read is that for the rule
+-- the answer that was read is that for the rule
 pub answer-read : (xs : List GuardFeasibility) (i : ℕ) (a : GuardFeasibility) → i < length xs → a ≡ slice_index_or xs i a
     → is_said_empty (answer_for xs (i + 1)) ≡ says_empty a
 answer-read xs i a low at_a =

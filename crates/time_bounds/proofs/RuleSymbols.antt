@@ -13,7 +13,7 @@ use Rattle.its_graph.specs.declared.graph.Graph.{Graph}
 use Rattle.its_graph.specs.Graphs.{IsGraphOf}
 use Rattle.its_graph.proofs.SymbolLaws.{valid_have_symbols}
 
--- what holds of each plain rule holds of each rule as the code has it
+-- a property of each plain rule is one of each rule of the code
 each_rule : (P : plain.Rule → Type 0) (rules : List Rule) → All P (map rule_of rules) → All (λ r. P (rule_of r)) rules
 each_rule P rules h k d low =
     subst P (get_or-map rule_of rules k d (rule_of d) low) (h k (rule_of d) (omega (arith, low, length-map rules rule_of)))
@@ -35,12 +35,12 @@ sources_within p valid g is k d low =
     let source = h.0 in
     omega (arith, source, is.symbols)
 
--- the same for the rule that is read
+-- the rule that was read leads to a symbol of the program
 pub target_read : (p : Program) → IsValid (program_of p) → (i : ℕ) (r : Rule) → i < length p.rules.items → r ≡ get_or p.rules.items i r
     → r.target < length p.symbols.items
 target_read p valid i r low e = subst (λ (x : Rule). x.target < length p.symbols.items) (sym e) (targets_within p valid i r low)
 
--- the number of places of a symbol that is read
+-- the number of places of a symbol that was read
 pub arity_read : (p : Program) (s : ℕ) (x : Symbol) → s < length p.symbols.items → x ≡ get_or p.symbols.items s x
     → plain.arity_of (program_of p) s ≡ x.arity
 arity_read p s x low e =

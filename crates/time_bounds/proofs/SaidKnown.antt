@@ -1,4 +1,4 @@
--- The bounds that the report of an analysis says are those that are known with its derivations.
+-- The bounds in the report of an analysis are those that are known with its derivations.
 use Rattle.std.proofs.Common.{◌≡◌, inl, inr, ℕ, zero, suc, ◌+◌, ◌<◌, ◌≤◌, List, [], ◌∷◌, length, map, Option, Some, None}
 use Rattle.std.proofs.Common.{refl, sym, ◌∙◌, ap, subst, arith, slice_get}
 use Rattle.std.proofs.lemmas.List.{length-map}
@@ -15,13 +15,13 @@ use Rattle.cert_types.specs.cert_program.Setting.{setting_of}
 use Rattle.bound_fixpoint.specs.Derivations.{bound_found, bounds_of, first_of}
 use Rattle.bound_fixpoint.specs.Keys.{IsPlace, start_bounds}
 use Rattle.bound_fixpoint.specs.Searches.{Searches}
-use Rattle.bound_fixpoint.specs.Standing.{AllStand}
+use Rattle.bound_fixpoint.specs.Justification.{AreJustified}
 use Rattle.bound_fixpoint.proofs.MissingFalls.{IsKeyOfRule}
 use Rattle.time_bounds.specs.Analysis.{IsTimeOf, IsSizeOf, IsAnalysis}
 use Rattle.time_bounds.specs.ProgramSearches.{searches_of_program}
 use Rattle.time_bounds.specs.SaidBounds.{time_said, size_said, bounds_said}
 use Rattle.time_bounds.proofs.DerivationKeys.{none_found}
-use Rattle.bound_fixpoint.proofs.SizesStand.{all_stand}
+use Rattle.bound_fixpoint.proofs.SizesAreJustified.{all_justified}
 use Rattle.time_bounds.proofs.OneProgram.{program_searches_one}
 use Rattle.time_bounds.proofs.ReportEntries.{said_at, size_said_at, row_said_at}
 use Rattle.time_bounds.proofs.RightSizings.{program_searches_right}
@@ -42,7 +42,7 @@ alike_at f g (v ∷ xs) (w ∷ ys) e (suc k) x y a b =
 none_past : {A : Type 0} (xs : List A) (k : ℕ) → slice_get xs k ≡ None → k < length xs → ⊥
 none_past xs k e l = let there = slice_get-there xs k l in none_some there.0 (sym e ∙ there.1)
 
--- a known bound, where there is none found for what isn't known at first
+-- a known bound, if no bound is derived for a key that isn't known initially
 first_known : (o w : Option Bound) → (o ≡ None → w ≡ None) → o ≡ first_of o w
 first_known None w h = sym (h refl)
 first_known (Some b) w h = refl
@@ -51,20 +51,20 @@ module _ (p : Program) (pivots : ℕ) (valid : IsValid p) (r : Report) (h : IsAn
   abbrev q : Searches
   q = searches_of_program p pivots
 
-  stand : AllStand (setting_of p) h.derivations
+  stand : AreJustified (setting_of p) h.derivations
   stand =
-      all_stand (searches_of_program p pivots) (setting_of p) (program_searches_right.each p pivots valid)
+      all_justified (searches_of_program p pivots) (setting_of p) (program_searches_right.each p pivots valid)
       (program_searches_one.each p pivots) h.derivations h.last.made
 
   one_more : (k : ℕ) → 1 + k ≡ suc k
   one_more k = omega arith
 
-  -- the entry of a rule
+  -- the entry of a rule follows from the derivations
   pub time-sound_at : (k : ℕ) (x : Time) → slice_get r.times k ≡ Some x → IsTimeOf q p h.derivations (suc k) x
   time-sound_at k x e =
       subst (λ (n : ℕ). IsTimeOf q p h.derivations n x) (one_more k) (said_at q p h.derivations 1 r.times k x h.times e)
 
-  -- and of a place after it
+  -- the entry of a place after a rule follows from the derivations
   pub size-sound : (k j : ℕ) (row : List Size) (x : Size) → slice_get r.sizes k ≡ Some row → slice_get row j ≡ Some x
       → IsSizeOf q p h.derivations (suc k) (suc j) x
   size-sound k j row x e f =
@@ -72,7 +72,7 @@ module _ (p : Program) (pivots : ℕ) (valid : IsValid p) (r : Report) (h : IsAn
       (subst (λ (n : ℕ). IsSizeOf q p h.derivations (1 + k) n x) (one_more j)
       (size_said_at q p h.derivations (1 + k) 1 row j x (row_said_at q p h.derivations 1 r.sizes k row h.sizes e) f))
 
-  -- a rule has an entry, and so has a place after it
+  -- a rule has an entry, and a place after it has one
   rule_low : (k : ℕ) → IsRule p (suc k) → k < length p.rules
   rule_low k rule = slice_get-below p.rules k rule.rule rule.numbered
 
@@ -122,6 +122,6 @@ module _ (p : Program) (pivots : ℕ) (valid : IsValid p) (r : Report) (h : IsAn
   same_at (suc k) zero = timed k (slice_get r.times k) refl
   same_at (suc k) (suc j) = sized k j (slice_get r.sizes k) refl
 
-  -- by key they are the same
+  -- the bounds of the report and the known bounds are the same, by key
   pub said_known : bounds_said p r ≡ bounds_of p h.derivations
   said_known = λ n t i. same_at t i n

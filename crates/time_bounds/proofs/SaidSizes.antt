@@ -42,7 +42,7 @@ use Rattle.time_bounds.proofs.RuleNumbers.{rule_there}
 use Rattle.time_bounds.proofs.SizeReasons.{said_fair, listed_there, whys_long}
 use Rattle.model.proofs.Cases.{none_some}
 
--- a row has an entry at each position, where each position is filled
+-- a row has an entry at each position, if each position is filled
 row_there : (row : List (Option Size)) → ((i : ℕ) → i < length row → (x : Size) × (entry_at row i ≡ Some x)) → AreThere row
 row_there [] f = tt
 row_there (Some x ∷ row) f = row_there row (λ i l. f (suc i) (omega (arith, l)))
@@ -159,6 +159,6 @@ module _ (p : Program) (pivots : ℕ) (tab : Table) (derivations : List Derivati
       → IsSizeOf (searches_of_program p pivots) p (derivations_of derivations) t (suc i) x
   said_right = (said_fair p pivots tab derivations derived all found xs attempts).said
 
-  -- as many entries as places
+  -- there are as many entries as places
   pub said_places : map (λ (row : List (Option Size)). length row) said ≡ arity_of p p.start ∷ map (λ (r : Rule). arity_of p r.target) p.rules
   said_places = lengths ∙ derived.keys.rows

@@ -36,12 +36,12 @@ ascending (x ∷ y ∷ rest) h = (h 0 (omega arith), ascending (y ∷ rest) late
         let next : suc k + 1 ≡ suc (k + 1) = omega arith in
         subst (λ (j : ℕ). get_or (y ∷ rest) k 0 < get_or (x ∷ y ∷ rest) j 0) next (h (suc k) (omega (arith, l)))
 
--- a number of a rule is at most how many there are
+-- the number of a rule is at most the number of rules
 pub rule_within : (p : Program) (t : ℕ) (r : Rule) → rule_at p t ≡ Some r → t ≤ length p.rules
 rule_within p zero r e = omega arith
 rule_within p (suc t) r e = omega (arith, slice_get-below p.rules t r e)
 
--- what leads somewhere is the virtual entry or a rule
+-- a number with a target is that of the virtual entry or of a rule
 pub leading : (p : Program) (t a : ℕ) → target_of p t ≡ Some a → (t ≡ 0) ⊎ IsRule p t
 leading p zero a e = inl refl
 leading p (suc t) a e = go (slice_get p.rules t) refl
@@ -89,13 +89,13 @@ set_of_rule p tab flags t set agree up members = record {
   );
 }
 
--- its rules are rules without a time
+-- the members of the set are rules without a time
 pub member_untimed : (p : Program) (tab : Bounds) (t : ℕ) → is_untimed tab t ≡ true → (e : ℕ) → IsInSet p (is_untimed tab) t e
     → is_untimed tab e ≡ true
 member_untimed p tab t untimed e (inl same) = ap (is_untimed tab) same ∙ untimed
 member_untimed p tab t untimed e (inr l) = l.untimed
 
--- what is in the set of a rule is a rule, where the virtual entry has a time
+-- if the virtual entry has a time, each member of the set of a rule is a rule
 pub member_rule : (p : Program) (tab : Bounds) (t : ℕ) → is_untimed tab 0 ≡ false → IsRule p t → (e : ℕ) → IsInSet p (is_untimed tab) t e
     → IsRule p e
 member_rule p tab t start rule e (inl same) = subst (IsRule p) (sym same) rule
@@ -105,11 +105,11 @@ member_rule p tab t start rule e (inr l) = go (leading p e l.from l.leads)
     go (inl zero_is) = absurd (no_is_not_yes (is_untimed tab e) (ap (is_untimed tab) zero_is ∙ start) l.untimed)
     go (inr r) = r
 
--- an element of a list is in it
+-- the element at a position is in the list
 pub element_in : (xs : List ℕ) (k d : ℕ) → k < length xs → is_in (get_or xs k d) xs ≡ true
 element_in xs k d l = is_in-contained xs (get_or xs k d) (Contains-get_or xs k d l)
 
--- so it is valid for a rank question
+-- the set of the rule is valid for a rank question
 pub rule_set : (p : Program) (tab : Bounds) (t : ℕ) (set : List ℕ) → is_untimed tab 0 ≡ false → IsRule p t → IsSetOfRule p tab t set
     → IsRuleSet p set t
 rule_set p tab t set start rule h = record {
@@ -118,7 +118,7 @@ rule_set p tab t set start rule h = record {
   inside = (h.members t).1 (inl refl);
 }
 
--- no rule of a set is known to have no point, where each that is known to has a time
+-- if each rule that is known to be infeasible has a time, no rule of a set is known to be infeasible
 pub may_all_run : (p : Program) (tab : Bounds) (t : ℕ) (set : List ℕ) (empties : List GuardFeasibility) → is_untimed tab t ≡ true
     → IsSetOfRule p tab t set
     → ((u : ℕ) (a : GuardFeasibility) → answer_for empties u ≡ Some a → SaysEmpty a → is_untimed tab u ≡ false)
@@ -135,7 +135,7 @@ pub record IsOpenRule (p : Program) (tab : Bounds) (t : ℕ) : Type 0 where
   pub rule : IsRule p t
   pub untimed : is_untimed tab t ≡ true
 
--- a rule whose flag is set, where the virtual entry has a time, is a rule without one
+-- if the virtual entry has a time, a rule whose flag is set has none
 pub open_rule : (p : Program) (tab : code.Table) (flags : List Bool) (t : ℕ) → AreUntimed p tab flags
     → is_untimed (bounds_in tab) 0 ≡ false → get_or flags t false ≡ true → IsOpenRule p (bounds_in tab) t
 open_rule p tab flags t h start flag =

@@ -1,4 +1,4 @@
--- The shut places of one symbol more, and of one place more.
+-- The shut places with one symbol more, and with one place more.
 use Rattle.std.proofs.Common.{◌≡◌, ◌≢◌, ◌==◌, subst, set, take, replicate, ℕ, zero, suc, ◌+◌, ◌-◌, ◌<◌, ◌≤◌, ◌||◌, Bool}
 use Rattle.std.proofs.Common.{true, false, cond, List, [], ◌∷◌, ◌++◌, length, map, filter, get_or, Option, Some, None}
 use Rattle.std.proofs.Common.{option_map, refl, sym, ◌∙◌, ap, append_assoc, arith}
@@ -25,7 +25,7 @@ use Rattle.time_bounds.specs.Shutting.{lacks_any, at_place, place_if, shut_at, i
 use Rattle.time_bounds.specs.Shutting.{mark_of, marks_of, put_mark}
 pub use Rattle.cert_types.proofs.Numbers.{numbers-more as numbers_more}
 
--- one number more that is tested
+-- a filtered range with one number more
 pub filter_more : (test : ℕ → Bool) (a n : ℕ) → filter test (range_with_len a (n + 1)) ≡ filter test (range_with_len a n) ++ cond (test (a + n)) ((a + n) ∷ []) []
 filter_more test a n = ap (filter test) (numbers_more a n) ∙ filter-append test (range_with_len a n) ((a + n) ∷ [])
 
@@ -33,7 +33,7 @@ append-nil : (xs : List SymbolPlace) → xs ++ [] ≡ xs
 append-nil [] = refl
 append-nil (x ∷ xs) = ap (λ (ys : List SymbolPlace). x ∷ ys) (append-nil xs)
 
--- one place more
+-- the shut places of a symbol with one place more
 place_more : (tab : Table) (rules : List ℕ) (a n : ℕ) → shut_at tab rules a (n + 1) ≡ shut_at tab rules a n ++ place_if tab rules a (n + 1)
 place_more tab rules a n =
     ap (map (at_place a)) (filter_more (lacks_any tab rules) 1 n)
@@ -45,7 +45,7 @@ place_more tab rules a n =
     mapped true = refl
     mapped false = refl
 
--- the next place, where it is shut, is appended to the shut ones so far
+-- if the next place is shut, it is appended to the shut ones so far
 pub place_pushed : (tab : Table) (rules : List ℕ) (a n : ℕ) (first old new : List SymbolPlace) → old ≡ first ++ shut_at tab rules a n
     → new ≡ old ++ place_if tab rules a (n + 1) → new ≡ first ++ shut_at tab rules a (n + 1)
 place_pushed tab rules a n first old new h g =
@@ -53,7 +53,7 @@ place_pushed tab rules a n first old new h g =
     ∙ (append_assoc first (shut_at tab rules a n) (place_if tab rules a (n + 1))
     ∙ ap (λ (xs : List SymbolPlace). first ++ xs) (sym (place_more tab rules a n))))
 
--- one symbol more
+-- the shut places with those of one symbol more
 pub symbol_pushed : (p : plain.Program) (tab : Table) (es : List ℕ) (a n : ℕ) (old new all : List SymbolPlace) → a < n
     → old ++ shut_from p tab es a (n - a) ≡ all → new ≡ old ++ shut_by p tab es a
     → new ++ shut_from p tab es (a + 1) (n - (a + 1)) ≡ all
@@ -63,7 +63,7 @@ symbol_pushed p tab es a n old new all l e h =
     ∙ (append_assoc old (shut_by p tab es a) (shut_from p tab es (a + 1) (n - (a + 1)))
     ∙ (ap (λ (m : ℕ). old ++ shut_from p tab es a m) (sym left) ∙ e))
 
--- a symbol to which no entry leads has none
+-- a symbol to which no entry leads has no shut place
 no_entry : (p : plain.Program) (es : List ℕ) (a : ℕ) → list_any (λ e. same_symbol (target_of p e) (Some a)) es ≡ false → into p es a ≡ []
 no_entry p [] a h = refl
 no_entry p (e ∷ es) a h = go (same_symbol (target_of p e) (Some a)) refl h (no_entry p es a)
@@ -88,14 +88,14 @@ symbol_passed p tab es a n old all l e none =
     ∙ ap (map (at_place a)) (none_lacking tab (range_with_len 1 (arity_of p a))) in
     symbol_pushed p tab es a n old old all l e (sym (ap (λ (xs : List SymbolPlace). old ++ xs) nothing ∙ append-nil old))
 
--- where no symbol is left, the shut places so far are all
+-- if no symbol is left, the shut places so far are all
 pub symbols_whole : (p : plain.Program) (tab : Table) (es : List ℕ) (a n : ℕ) (old all : List SymbolPlace) → n ≤ a
     → old ++ shut_from p tab es a (n - a) ≡ all → old ≡ all
 symbols_whole p tab es a n old all l e =
     let none : n - a ≡ 0 = omega (arith, l) in
     sym (append-nil old) ∙ (ap (λ (m : ℕ). old ++ shut_from p tab es a m) (sym none) ∙ e)
 
--- the mark that is read at a symbol is its number, where an entry leads to it
+-- appending the shut places of a marked symbol, or none, leaves those of the later symbols
 pub mark_pushed : (p : plain.Program) (tab : Table) (es : List ℕ) (n i : ℕ) (marks : List (Option ℕ)) (old new all : List SymbolPlace) → i < n
     → marks ≡ marks_of p es n → old ++ shut_from p tab es i (n - i) ≡ all → new ≡ old ++ shut_marked p tab es (get_or marks i None)
     → new ++ shut_from p tab es (i + 1) (n - (i + 1)) ≡ all
@@ -132,7 +132,7 @@ pub marks_long : (p : plain.Program) (es : List ℕ) (n : ℕ) (marks : List (Op
 marks_long p es n marks m =
     ap (λ (xs : List (Option ℕ)). length xs) m ∙ (length-map (range_with_len 0 n) (mark_of p es) ∙ length-range_with_len 0 n)
 
--- the arity of a symbol that is read
+-- the arity of a symbol that was read
 pub arity_read : (p : Program) (a : ℕ) (s : Symbol) → a < length p.symbols.items → s ≡ get_or p.symbols.items a s → arity_of (program_of p) a ≡ s.arity
 arity_read p a s l e =
     ap arity_in (slice_get-map symbol_of p.symbols.items a
@@ -144,11 +144,11 @@ few_places [] s h = omega arith
 few_places (x ∷ symbols) zero h = h.0.arity
 few_places (x ∷ symbols) (suc s) h = few_places symbols s h.1
 
--- a symbol that is read of a valid program has at most 32 places
+-- a symbol that was read of a valid program has at most 32 places
 pub arity_few : (p : Program) (a : ℕ) (s : Symbol) → IsValid (program_of p) → a < length p.symbols.items → s ≡ get_or p.symbols.items a s → s.arity ≤ 32
 arity_few p a s v l e = omega (arith, few_places (map symbol_of p.symbols.items) a v.symbols, arity_read p a s l e)
 
--- what a rule, or the virtual entry, leads to is a symbol of the program
+-- the target of a rule, or of the virtual entry, is a symbol of the program
 pub target_within : (p : plain.Program) → IsValid p → (t a : ℕ) → target_of p t ≡ Some a → a < length p.symbols
 target_within p v zero a e = let same : p.start ≡ a = cc in omega (arith, v.start, same)
 target_within p v (suc t) a e = go (slice_get p.rules t) refl
@@ -163,7 +163,7 @@ target_within p v (suc t) a e = go (slice_get p.rules t) refl
         let target : r.target ≡ a = cc in
         omega (arith, (valid-at p (suc t) r v k).target, target)
 
--- marks: none before the first entry
+-- before the first entry there are no marks
 pub no_marks : (p : plain.Program) (a n : ℕ) → replicate n None ≡ map (mark_of p []) (range_with_len a n)
 no_marks p a zero = refl
 no_marks p a (suc n) = ap (λ (os : List (Option ℕ)). None ∷ os) (no_marks p (a + 1) n)
@@ -186,7 +186,7 @@ set_mapped f g k (suc n) (suc i) v e h l =
     (set_mapped f g (k + 1) n i v (ap g (let z : k + 1 + i ≡ k + suc i = omega arith in z) ∙ e)
     (λ b d. h b (subst (λ (m : ℕ). b ≢ m) (let z : k + 1 + i ≡ k + suc i = omega arith in z) d)) (omega (arith, l)))
 
--- one entry more
+-- whether some entry passes a test, with one entry more
 any_more : (test : ℕ → Bool) (es : List ℕ) (e : ℕ) → list_any test (es ++ e ∷ []) ≡ (list_any test es || test e)
 any_more test [] e = or-false (test e)
   where
@@ -246,7 +246,7 @@ entry_unmarked p es e n t = map_agree (mark_of p es) (mark_of p (es ++ e ∷ [])
         ∙ (ap (λ (o : Option ℕ). list_any (λ u. same_symbol (target_of p u) (Some b)) es || same_symbol o (Some b)) t
         ∙ or-false (list_any (λ u. same_symbol (target_of p u) (Some b)) es))))
 
--- one entry more, by its mark
+-- the marks with one entry more, by its target
 pub entry_more : (p : plain.Program) (es : List ℕ) (i n : ℕ) (old new : List (Option ℕ)) → IsValid p → n ≡ length p.symbols → i < length es
     → old ≡ marks_of p (take i es) n → new ≡ put_mark old (target_of p (get_or es i 0)) → new ≡ marks_of p (take (i + 1) es) n
 entry_more p es i n old new v long l m h =
@@ -257,13 +257,13 @@ entry_more p es i n old new v long l m h =
     go None k = entry_unmarked p (take i es) (get_or es i 0) n k
     go (Some a) k = entry_marked p (take i es) (get_or es i 0) a n k (omega (arith, long, target_within p v (get_or es i 0) a k))
 
--- a symbol to which a rule leads can be marked
+-- a symbol to which a rule leads has a position among the marks
 pub target_marked : (p : plain.Program) (es : List ℕ) (e n : ℕ) (marks : List (Option ℕ)) (o : Option ℕ) → IsValid p → n ≡ length p.symbols
     → marks ≡ marks_of p es n → o ≡ target_of p e → IfSome o (λ a. a < length marks)
 target_marked p es e n marks None v long m h = tt
 target_marked p es e n marks (Some a) v long m h = omega (arith, target_within p v e a (sym h), long, marks_long p es n marks m)
 
--- a mark that is read is the number of a symbol
+-- a mark that was read is the number of a symbol
 pub mark_if : (p : plain.Program) (es : List ℕ) (n i : ℕ) (marks : List (Option ℕ)) → i < length marks → marks ≡ marks_of p es n
     → IfSome (get_or marks i None) (λ a. a < n)
 mark_if p es n i marks l m = go (get_or marks i None) refl

@@ -15,7 +15,7 @@ use Rattle.model.proofs.Membership.{filter-in, list_any-from, list_any-sound}
 use Rattle.cert_types.specs.cert_rules.Gaps.{SymbolPlace}
 use Rattle.cert_types.specs.cert_rules.Known.{Table}
 use Rattle.bound_fixpoint.specs.Keys.{Bounds, lacks, over}
-use Rattle.bound_fixpoint.specs.Sets.{IsShut, StandsBefore, ArePlacesInOrder, AreShutOf}
+use Rattle.bound_fixpoint.specs.Sets.{IsShut, PlaceIsBefore, ArePlacesInOrder, AreShutOf}
 use Rattle.size_bounds.specs.declared.table.Table as code
 use Rattle.size_bounds.specs.Tables.{table_of}
 use Rattle.size_bounds.specs.Tables.{bounds_in}
@@ -23,7 +23,7 @@ use Rattle.time_bounds.proofs.TablesOver.{table_over, place_size}
 use Rattle.time_bounds.specs.Shutting.{lacks_any, at_place, shut_at, into, shut_from}
 pub use Rattle.bound_fixpoint.proofs.Cases.{lacks_none as lacking_is_none}
 
--- the first of a list, where there is one
+-- the first element of a list, if there is one, has a property
 abbrev Head : (SymbolPlace → Type 0) → List SymbolPlace → Type 0
 Head P [] = ⊤
 Head P (s ∷ rest) = P s
@@ -32,11 +32,11 @@ head_weaker : (P Q : SymbolPlace → Type 0) → ((s : SymbolPlace) → P s → 
 head_weaker P Q h [] k = tt
 head_weaker P Q h (s ∷ rest) k = h s k
 
-in_order : (s : SymbolPlace) (rest : List SymbolPlace) → ArePlacesInOrder rest → Head (StandsBefore s) rest → ArePlacesInOrder (s ∷ rest)
+in_order : (s : SymbolPlace) (rest : List SymbolPlace) → ArePlacesInOrder rest → Head (PlaceIsBefore s) rest → ArePlacesInOrder (s ∷ rest)
 in_order s [] h k = tt
 in_order s (q ∷ rest) h k = (k, h)
 
--- it is of a later symbol, or of this one from a place on
+-- the place is of a later symbol, or of this one from place i on
 abbrev IsAfter : ℕ → ℕ → SymbolPlace → Type 0
 IsAfter a i q = (a < q.symbol) ⊎ ((a ≡ q.symbol) × (i ≤ q.place))
 
@@ -44,16 +44,16 @@ after_weaker : (a i : ℕ) (q : SymbolPlace) → IsAfter a (i + 1) q → IsAfter
 after_weaker a i q (inl l) = inl l
 after_weaker a i q (inr h) = inr (h.0, omega (arith, h.1))
 
-stands : (a i : ℕ) (q : SymbolPlace) → IsAfter a (i + 1) q → StandsBefore (record { symbol = a; place = i }) q
+stands : (a i : ℕ) (q : SymbolPlace) → IsAfter a (i + 1) q → PlaceIsBefore (record { symbol = a; place = i }) q
 stands a i q (inl l) = inl l
 stands a i q (inr h) = inr (h.0, omega (arith, h.1))
 
--- a list is in order, and begins no earlier
+-- a list is in order, and its first element has a property
 record Ordered (P : SymbolPlace → Type 0) (xs : List SymbolPlace) : Type 0 where
   pub order : ArePlacesInOrder xs
   pub head : Head P xs
 
--- the places of a symbol, before later symbols
+-- the shut places of a symbol, before those of later symbols, are in order
 block : (tab : Table) (rules : List ℕ) (a i n : ℕ) (rest : List SymbolPlace) → Ordered (λ q. a < q.symbol) rest
     → Ordered (IsAfter a i) (map (at_place a) (filter (lacks_any tab rules) (range_with_len i n)) ++ rest)
 block tab rules a i zero rest h = record {
@@ -67,7 +67,7 @@ block tab rules a i (suc n) rest h = go (lacks_any tab rules i) (block tab rules
         (map (at_place a) (cond v (i ∷ filter (lacks_any tab rules) (range_with_len (i + 1) n)) (filter (lacks_any tab rules) (range_with_len (i + 1) n))) ++ rest)
     go true k = record {
       order = in_order (at_place a i) (map (at_place a) (filter (lacks_any tab rules) (range_with_len (i + 1) n)) ++ rest) k.order
-          (head_weaker (IsAfter a (i + 1)) (StandsBefore (at_place a i)) (stands a i)
+          (head_weaker (IsAfter a (i + 1)) (PlaceIsBefore (at_place a i)) (stands a i)
           (map (at_place a) (filter (lacks_any tab rules) (range_with_len (i + 1) n)) ++ rest) k.head);
       head = inr (refl, omega arith);
     }
@@ -77,7 +77,7 @@ block tab rules a i (suc n) rest h = go (lacks_any tab rules i) (block tab rules
           (map (at_place a) (filter (lacks_any tab rules) (range_with_len (i + 1) n)) ++ rest) k.head;
     }
 
--- numbers in a row
+-- a number of a range is between its ends
 pub in_range : (a n i : ℕ) → is_in i (range_with_len a n) ≡ true → (a ≤ i) × (i < a + n)
 in_range a zero i h = absurd (no_is_not_yes false refl h)
 in_range a (suc n) i h = go (is_in-cases i a (range_with_len (a + 1) n) h) (λ m. in_range (a + 1) n i m)
@@ -97,7 +97,7 @@ range_in a (suc n) i low high = go (eqb_tells i a) (λ l. range_in (a + 1) n i l
     go (inl e) ih = or_left (i == a) (is_in i (range_with_len (a + 1) n)) e.0
     go (inr e) ih = or_right (i == a) (is_in i (range_with_len (a + 1) n)) (ih (let d = e.1 in omega arith))
 
--- the places of a list of numbers
+-- each place of a list of numbers is of this symbol and has one of these numbers
 mapped-sound : (a : ℕ) (is : List ℕ) (s : SymbolPlace) → Contains (map (at_place a) is) s → (a ≡ s.symbol) × (is_in s.place is ≡ true)
 mapped-sound a [] s (k, low, e) = absurd (omega (arith, low))
 mapped-sound a (i ∷ is) s (zero, low, e) = (
@@ -119,7 +119,7 @@ mapped_listed a (j ∷ is) i h = go (is_in-cases i j is h) (λ m. mapped_listed 
     go (inl e) ih = (zero, omega arith, ap (at_place a) (sym e))
     go (inr m) ih = later (ih m)
 
--- two symbols for which the test of equality succeeds
+-- if the test of equality succeeds, two symbols are the same
 same_symbol-sound : (o : Option ℕ) (a : ℕ) → same_symbol o (Some a) ≡ true → o ≡ Some a
 same_symbol-sound None a h = absurd (no_is_not_yes false refl h)
 same_symbol-sound (Some b) a h = ap Some (same_number-sound b a h)
@@ -153,17 +153,17 @@ module _ (p : Program) (tab : Table) (es : List ℕ) where
           let here = block tab (into p es a) a 1 (arity_of p a) (shut_from p tab es (a + 1) n) rest in
           record { order = here.order; head = head_weaker (IsAfter a 1) (λ q. a ≤ q.symbol) from (shut_from p tab es a (suc n)) here.head }
 
-  -- a place that is listed
+  -- a place is among those that are listed
   record Listed (a n : ℕ) (s : SymbolPlace) : Type 0 where
     pub low : a ≤ s.symbol
     pub high : s.symbol < a + n
     pub place : is_in s.place (range_with_len 1 (arity_of p s.symbol)) ≡ true
     pub lacking : lacks_any tab (into p es s.symbol) s.place ≡ true
 
-  listed_told : (a n : ℕ) (s : SymbolPlace) → Contains (shut_from p tab es a n) s → Listed a n s
-  listed_told a zero s (k, low, e) = absurd (omega (arith, low))
-  listed_told a (suc n) s h =
-      go (Contains-append_cases (shut_at tab (into p es a) a (arity_of p a)) (shut_from p tab es (a + 1) n) s h) (λ m. listed_told (a + 1) n s m)
+  listed_of_contained : (a n : ℕ) (s : SymbolPlace) → Contains (shut_from p tab es a n) s → Listed a n s
+  listed_of_contained a zero s (k, low, e) = absurd (omega (arith, low))
+  listed_of_contained a (suc n) s h =
+      go (Contains-append_cases (shut_at tab (into p es a) a (arity_of p a)) (shut_from p tab es (a + 1) n) s h) (λ m. listed_of_contained (a + 1) n s m)
     where
       go : Contains (shut_at tab (into p es a) a (arity_of p a)) s ⊎ Contains (shut_from p tab es (a + 1) n) s
           → (Contains (shut_from p tab es (a + 1) n) s → Listed (a + 1) n s) → Listed a (suc n) s
@@ -182,9 +182,9 @@ module _ (p : Program) (tab : Table) (es : List ℕ) where
             lacking = subst (λ (b : ℕ). lacks_any tab (into p es b) s.place ≡ true) t.0 f.1;
           }
 
-  told_listed : (a n : ℕ) (s : SymbolPlace) → Listed a n s → Contains (shut_from p tab es a n) s
-  told_listed a zero s h = absurd (omega (arith, h.low, h.high))
-  told_listed a (suc n) s h = go (eqb_tells a s.symbol) (λ g. told_listed (a + 1) n s g)
+  contained_of_listed : (a n : ℕ) (s : SymbolPlace) → Listed a n s → Contains (shut_from p tab es a n) s
+  contained_of_listed a zero s h = absurd (omega (arith, h.low, h.high))
+  contained_of_listed a (suc n) s h = go (eqb_tells a s.symbol) (λ g. contained_of_listed (a + 1) n s g)
     where
       go : ((a == s.symbol) ≡ true) × (a ≡ s.symbol) ⊎ ((a == s.symbol) ≡ false) × (a ≢ s.symbol)
           → (Listed (a + 1) n s → Contains (shut_from p tab es (a + 1) n) s) → Contains (shut_from p tab es a (suc n)) s
@@ -207,7 +207,7 @@ pub are_shut : (p : Program) (b : Bounds) (set : List ℕ)
     → AreShutOf p b set (shut_from p (over b) (entries p set) 0 (length p.symbols))
 are_shut p b set = record {
   order = (all_ordered p (over b) (entries p set) 0 (length p.symbols)).order;
-  places = λ s. (λ h. told s (listed_told p (over b) (entries p set) 0 (length p.symbols) s h), λ h. listed s h);
+  places = λ s. (λ h. told s (listed_of_contained p (over b) (entries p set) 0 (length p.symbols) s h), λ h. listed s h);
 }
   where
     told : (s : SymbolPlace) → Listed p (over b) (entries p set) 0 (length p.symbols) s → IsShut p b set s
@@ -227,7 +227,7 @@ are_shut p b set = record {
     listed s h =
         let same : s.symbol ≡ h.place.symbol = some_same s.symbol h.place.symbol (sym h.leads ∙ h.place.target) in
         let last : s.place ≤ arity_of p s.symbol = subst (λ (a : ℕ). s.place ≤ arity_of p a) (sym same) h.place.last in
-        told_listed p (over b) (entries p set) 0 (length p.symbols) s (record {
+        contained_of_listed p (over b) (entries p set) 0 (length p.symbols) s (record {
           low = omega arith;
           high = omega (arith, within_symbols p s.symbol s.place h.place.least last);
           place = range_in 1 (arity_of p s.symbol) s.place h.place.least (omega (arith, last));
@@ -239,7 +239,7 @@ are_shut p b set = record {
         some_same : (a b : ℕ) → Some a ≡ Some b → a ≡ b
         some_same a b e = cc
 
--- so they are where the list is made of the set's entries
+-- the list made of the set's entries has the shut places of the set
 pub shut_right : (p : Program) (tab : code.Table) (set es : List ℕ) (shut : List SymbolPlace) (n : ℕ)
     → n ≡ length p.symbols → es ≡ entries p set → shut ≡ shut_from p (table_of tab) es 0 n
     → AreShutOf p (bounds_in tab) set shut

@@ -28,7 +28,7 @@ use Rattle.time_bounds.specs.Locals.{answer_in}
 use Rattle.time_bounds.specs.Candidates.{is_bound, IsMember, IsLone, AreSideBounds, IsSideBoundsOf, IsArmed, AreArmed}
 use Rattle.model.proofs.Cases.{none_some}
 
--- one candidate more
+-- the candidates with one more
 pub armed_more : (local : Locals) (found : List Component) (cs : List Candidate) (x : Component) (c : Candidate) → AreArmed local found cs
     → IsArmed local x c → AreArmed local (found ++ x ∷ []) (cs ++ c ∷ [])
 armed_more local [] [] x c h a = (a, tt)
@@ -36,7 +36,7 @@ armed_more local [] (d ∷ cs) x c h a = absurd h
 armed_more local (y ∷ found) [] x c h a = absurd h
 armed_more local (y ∷ found) (d ∷ cs) x c h a = (h.0, armed_more local found cs x c h.1 a)
 
--- the answer that is read is that of the place
+-- the answer that was read is that for the place
 pub local_seen_at : (locals : List (List LocalAnswer)) (t i : ℕ) (a : LocalAnswer) → answer_in locals t i ≡ Some a → local_from locals t i ≡ local_answer_of a
 local_seen_at locals t zero a e = absurd (none_some a e)
 local_seen_at locals t (suc i) a e = ap local_in e
@@ -51,7 +51,7 @@ all_bounds result_variables (n ∷ members) local m h x =
     (All-head (λ m. local m.result_variable.rule m.result_variable.place ≡ HasBound m.local) n members h)
     (all_bounds result_variables members local m (All-tail (λ m. local m.result_variable.rule m.result_variable.place ≡ HasBound m.local) n members h) x)
 
--- no member yet, and one member more
+-- before the first place there is no member
 pub no_members : (local : Locals) (members : List Member) → members ≡ [] → AreMembers local [] members
 no_members local members e = subst (λ (ms : List Member). AreMembers local [] ms) (sym e) record {
   result_variables_are = refl;
@@ -70,7 +70,7 @@ members_more local result_variables members result_variable m h is = record {
       (subst (λ (s : ResultVariable). local s.rule s.place ≡ HasBound m.local) (sym is.result_variable_is) is.bound_is);
 }
 
--- where no place has a reason, each has a local bound
+-- if no place has a reason, each has a local bound
 pub bound_where : (locals : List (List LocalAnswer)) (t i : ℕ) (a : LocalAnswer) → answer_in locals t i ≡ Some a
     → unbounded_reason (local_from locals t i) ≡ None → limit_hit_reason (local_from locals t i) ≡ None → is_bound a ≡ true
 bound_where locals t i (answers.Bound l) e no_unbounded no_limit_hit = refl
@@ -87,7 +87,7 @@ right_none : (a b : Option NoSize) → or_else a b ≡ None → b ≡ None
 right_none None b e = e
 right_none (Some w) b e = absurd (none_some w (sym e))
 
--- of none of the places there is a reason, where there is none of the first
+-- if the first reason among places is none, no place has a reason
 pub each_none : (reason : Local → Option NoSize) (local : Locals) (result_variables : List ResultVariable) → first_reason reason local result_variables ≡ None
     → All (λ m. reason (local m.rule m.place) ≡ None) result_variables
 each_none reason local [] e = All-nil (λ (m : ResultVariable). reason (local m.rule m.place) ≡ None)
@@ -106,7 +106,7 @@ pub none_hit_limit : (local : Locals) (result_variables : List ResultVariable) �
 none_hit_limit local result_variables e =
     each_none limit_hit_reason local result_variables (right_none (first_reason unbounded_reason local result_variables) (first_reason limit_hit_reason local result_variables) e)
 
--- members that are alone, or loop
+-- the side bounds of a single member, or of a loop
 pub side_bounds_as : (local : Locals) (result_variables : List ResultVariable) (looping : Bool) (members : List code.Member) (a : SideBounds) → lacks_side_bounds local result_variables ≡ None
     → AreMembers local result_variables (map member_of members) → IsSideBoundsOf members looping a → AreSideBounds local result_variables looping a
 side_bounds_as local result_variables looping members (side_bounds.Lacking entry) armed are h = absurd h
@@ -115,7 +115,7 @@ side_bounds_as local result_variables looping members (side_bounds.Alone m) arme
 side_bounds_as local result_variables looping members (side_bounds.Loop ms) armed are (turns, all) =
     (armed, turns, subst (λ (xs : List code.Member). AreMembers local result_variables (map member_of xs)) (sym all) are)
 
--- the row of answers that is read, and none past the end
+-- the row of answers that was read, and none past the end
 row_read : (lists : List (Vec LocalAnswer Global)) (u : ℕ) (row : Vec LocalAnswer Global) → u < length lists → row ≡ get_or lists u row
     → slice_index_or (answer_lists lists) u [] ≡ row.items
 row_read [] u row l e = absurd (omega (arith, l))
@@ -156,7 +156,7 @@ answer_place lists (suc u) (suc j) a row e h =
     let low = got_short row.items j a (ap (λ (xs : List LocalAnswer). slice_get xs j) (sym read) ∙ e) in
     omega (arith, low)
 
--- where a place has an answer, it is the one that is read in the row of its rule
+-- if a place has an answer, it is the one in the row of its rule
 pub answer_read : (lists : List (Vec LocalAnswer Global)) (t i : ℕ) (a x : LocalAnswer) (row : Vec LocalAnswer Global)
     → answer_in (answer_lists lists) t i ≡ Some a → row ≡ get_or lists (t - 1) row → x ≡ get_or row.items (i - 1) x
     → answer_in (answer_lists lists) t i ≡ Some x
@@ -170,24 +170,24 @@ answer_read lists (suc u) (suc j) a x row e h k =
     ∙ got_read row.items j a x (ap (λ (xs : List LocalAnswer). slice_get xs j) (sym read) ∙ e)
     (k ∙ ap (λ (n : ℕ). get_or row.items n x) two)
 
--- what holds of all places holds of the one that is read
+-- a property of all places is one of the place that was read
 pub of_result_variables : (P : ResultVariable → Type 0) (result_variables : List code_result_variable.ResultVariable) (i : ℕ) (d : code_result_variable.ResultVariable) → All P (map result_variable_of result_variables) → i < length result_variables
     → P (result_variable_of (get_or result_variables i d))
 of_result_variables P result_variables i d h l =
     subst P (get_or-map result_variable_of result_variables i d (result_variable_of d) l) (h i (result_variable_of d) (omega (arith, l, length-map result_variables result_variable_of)))
 
--- a reason that is given, and none
+-- a reason as an entry of the code, if there is one
 pub lacks_reason : (o : Option NoSize) (e : SizeEntry) → Some (size_of e) ≡ option_map Unsized o
     → (why : NoSize) × (o ≡ Some why) × (size_of e ≡ Unsized why)
 lacks_reason None e h = absurd (none_some (size_of e) (sym h))
 lacks_reason (Some why) e h = let same : size_of e ≡ Unsized why = cc in (why, refl, same)
 
--- where no reason for a size is given, there was none
+-- if the code gives no reason, there is none
 pub lacks_not : (o : Option NoSize) → None ≡ option_map Unsized o → o ≡ None
 lacks_not None h = refl
 lacks_not (Some why) h = absurd (none_some (Unsized why) h)
 
--- members of a list of one place are one
+-- members of a list of one place are one member
 pub lone_members : (local : Locals) (result_variables : List ResultVariable) (looping : Bool) (members : List code.Member) → IsLone looping result_variables
     → AreMembers local result_variables (map member_of members) → looping ≡ false → length members ≡ 1
 lone_members local result_variables looping members lone are straight =

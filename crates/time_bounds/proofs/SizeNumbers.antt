@@ -42,7 +42,7 @@ place_pushed {A} (y ∷ rows) r (suc t) (suc i) a e = go (place_pushed rows r t 
     go (inl h) = inl h
     go (inr h) = inr (ap suc h.0, h.1)
 
--- and after one was written
+-- the element at a position after one was written
 entry_put : {A : Type 0} (xs : List (Option A)) (n : ℕ) (x : A) (i : ℕ) (a : A) → entry_at (put_entry xs n x) i ≡ Some a
     → (entry_at xs i ≡ Some a) ⊎ (x ≡ a)
 entry_put [] n x i a e = inl e
@@ -62,13 +62,13 @@ place_put (row ∷ rows) zero (suc j) x (suc t) (suc i) a e = inl e
 place_put (row ∷ rows) (suc u) j x zero (suc i) a e = inl e
 place_put (row ∷ rows) (suc u) j x (suc t) (suc i) a e = place_put rows u j x t (suc i) a e
 
--- there are no entries
+-- a row without entries carries its numbers
 pub row_nothing : (row : List (Option Stored)) (said : List (Option SizeEntry)) → said ≡ [] → CarryRow row said
 row_nothing row said none = record {
   each = λ i e there. absurd (no_entry e (sym (ap (λ (os : List (Option SizeEntry)). entry_at os i) none) ∙ there));
 }
 
--- where no place has an entry, all entries carry the numbers of the table
+-- rows without entries carry the numbers of the table
 pub places_nothing : (tab : Table) (said : List (Vec (Option SizeEntry) Global)) → said ≡ [] → CarryPlaces tab (map (λ row. row.items) said)
 places_nothing tab said none = record {
   each = λ t i e there. absurd (nowhere t i e (sym (ap (λ (vs : List (Vec (Option SizeEntry) Global)). placed (map (λ row. row.items) vs) t i) none) ∙ there));
@@ -78,7 +78,7 @@ places_nothing tab said none = record {
     nowhere t zero e h = no_entry e h
     nowhere t (suc i) e h = no_entry e h
 
--- what is stored at a position
+-- the entry that was read at a position is the stored one
 stored_at : (row : List (Option Stored)) (i : ℕ) (o : Option Stored) → i < length row → o ≡ get_or row i o → entry_at row i ≡ o
 stored_at [] i o l e = absurd (omega (arith, l))
 stored_at (x ∷ row) zero o l e = sym e
@@ -90,7 +90,7 @@ row_there [] t r l e = absurd (omega (arith, l))
 row_there (x ∷ rows) zero r l e = ap (λ (v : Vec (Option Stored) Global). v.items) (sym e)
 row_there (x ∷ rows) (suc t) r l e = row_there rows t r (omega (arith, l)) e
 
--- one entry more
+-- a row with one entry more carries its numbers
 pub row_carried : (row : List (Option Stored)) (said new : List (Option SizeEntry)) (x : Option SizeEntry) (i : ℕ) (o : Option Stored)
     → CarryRow row said → new ≡ said ++ x ∷ [] → length said ≡ i → i < length row → o ≡ get_or row i o → CarriesIfThere (lemma_stored o) x
     → CarryRow row new
@@ -106,7 +106,7 @@ row_carried row said new x i o h is long low read k = record { each = each }
             (ap lemma_stored (sym (stored_at row i o low read)) ∙ ap (λ (m : ℕ). lemma_stored (entry_at row m)) (sym (last.0 ∙ long)))
             (subst (λ (y : Option SizeEntry). CarriesIfThere (lemma_stored o) y) last.1 k)
 
--- one row more
+-- rows with one row more carry their numbers
 pub rows_carried : (tab : Table) (said new : List (Vec (Option SizeEntry) Global)) (r : Vec (Option SizeEntry) Global) (t : ℕ)
     (row : Vec (Option Stored) Global) → CarryPlaces tab (map (λ row. row.items) said) → new ≡ said ++ r ∷ [] → length said ≡ t
     → t < length tab.sizes.items → row ≡ get_or tab.sizes.items t row → CarryRow row.items r.items → CarryPlaces tab (map (λ row. row.items) new)
@@ -134,7 +134,7 @@ rows_carried tab said new r t row h is long low read k = record { each = each }
             subst (λ (n : ℕ). CarriesNumber (number_at tab n i) (size_stored e))
             (sym (new_one.0 ∙ (length-map said (λ (v : Vec (Option SizeEntry) Global). v.items) ∙ long))) (last i e new_one.1)
 
--- a reason carries whatever number
+-- a reason carries any number
 reason_carries : (x : SizeEntry) → IsReason (Some x) → (n : ℕ) → CarriesNumber n (size_stored x)
 reason_carries (entries.Known s) h n = absurd (known h.why h.is_why)
   where
@@ -148,7 +148,7 @@ reason_carries (entries.Nonlinear m) h n = tt
 reason_carries (entries.Untimed r) h n = tt
 reason_carries (entries.Large k) h n = tt
 
--- so rows keep that where one is written
+-- rows keep their numbers when a reason is written
 pub reason_kept : (old new : List (List (Option SizeEntry))) (u j : ℕ) (x : SizeEntry) → new ≡ put_place old u j x → IsReason (Some x) → KeepPlaces old new
 reason_kept old new u j x is reason = record { each = λ tab h. record { each = each tab h } }
   where
@@ -159,15 +159,15 @@ reason_kept old new u j x is reason = record { each = λ tab h. record { each = 
         go (inl h2) = h.each t i e h2
         go (inr same) = subst (λ (y : SizeEntry). CarriesNumber (number_at tab t i) (size_stored y)) same (reason_carries x reason (number_at tab t i))
 
--- rows keep the numbers that they carry themselves
+-- rows keep their own numbers
 pub kept_all : (rows : List (List (Option SizeEntry))) → KeepPlaces rows rows
 kept_all rows = record { each = λ tab h. h }
 
--- where second rows keep the numbers of first ones, and third rows theirs, the third keep those of the first
+-- if second rows keep the numbers of first ones, and third rows those of second ones, the third keep those of the first
 pub kept_on : (a b c : List (List (Option SizeEntry))) → KeepPlaces a b → KeepPlaces b c → KeepPlaces a c
 kept_on a b c h k = record { each = λ tab x. k.each tab (h.each tab x) }
 
--- rows whose entries are these carry the numbers
+-- rows that are equal to those that carry numbers carry them
 sizes_carried : (ns : ℕ → ℕ → ℕ) (t i : ℕ) (row : List SizeEntry)
     → ((j : ℕ) (e : SizeEntry) → entry_at (map (λ x. Some x) row) j ≡ Some e → CarriesNumber (ns t (i + j)) (size_stored e)) → EachNumbered (CarriesSize ns t) i row
 sizes_carried ns t i [] h = tt
@@ -202,7 +202,7 @@ all_carried tab rows said same h =
     fused [] = refl
     fused (r ∷ rs) = ap (λ (xs : List (List (Option SizeEntry))). map (λ x. Some x) r.items ∷ xs) (fused rs)
 
--- rows carry their numbers without the first
+-- rows without the first one carry their numbers
 pub rows_left : (ns : ℕ → ℕ → ℕ) (sizes left : List (Vec SizeEntry Global)) → left ≡ remove sizes 0
     → EachNumbered (CarriesSizes ns) 0 (map (λ row. row.items) sizes) → EachNumbered (CarriesSizes ns) 1 (map (λ row. row.items) left)
 rows_left ns [] left e h = subst (λ (rows : List (Vec SizeEntry Global)). EachNumbered (CarriesSizes ns) 1 (map (λ row. row.items) rows)) (sym e) tt

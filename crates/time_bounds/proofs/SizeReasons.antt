@@ -35,7 +35,7 @@ use Rattle.time_bounds.proofs.CandidateComponents.{are_components}
 use Rattle.time_bounds.proofs.PlacedLaws.{Wrote, place_known, place_cases, place_here, place_long, row_long}
 use Rattle.model.proofs.Cases.{none_some, some_same}
 
--- a list of rows, mapped
+-- the entry at a place of mapped rows
 entry_mapped : {A B : Type 0} (f : Option A → Option B) (row : List (Option A)) (i : ℕ) → f None ≡ None → entry_at (map f row) i ≡ f (entry_at row i)
 entry_mapped f [] i e = sym e
 entry_mapped f (o ∷ row) zero e = refl
@@ -60,7 +60,7 @@ bound_by : (o : Option Stored) (x : Size) → said_stored o ≡ Some x → (b : 
 bound_by None x e = absurd (none_some x e)
 bound_by (Some s) x e = (bound_of s.bound, refl, sym (some_same (Sized (bound_of s.bound)) x e))
 
--- elements at places stay where values are written at some of them
+-- elements at places stay when values are written at some places
 result_variables_known : {A : Type 0} (rows : List (List (Option A))) (result_variables : List ResultVariable) (a : A) (t i : ℕ) (b : A) → placed rows t i ≡ Some b
     → placed (put_result_variables rows result_variables a) t i ≡ Some b
 result_variables_known rows [] a t i b e = e
@@ -79,13 +79,13 @@ whys_known rows (c ∷ cs) [] t i b e = e
 whys_known rows (c ∷ cs) (x ∷ xs) t i b e =
     whys_known (put_why rows (result_variables_in c) (why_of c x)) cs xs t i b (why_known rows (result_variables_in c) (why_of c x) t i b e)
 
--- rows stay as long
+-- the rows keep their lengths when values are written
 result_variables_long : {A : Type 0} (rows : List (List (Option A))) (result_variables : List ResultVariable) (a : A)
     → map (λ (row : List (Option A)). length row) (put_result_variables rows result_variables a) ≡ map (λ (row : List (Option A)). length row) rows
 result_variables_long rows [] a = refl
 result_variables_long rows (m ∷ result_variables) a = result_variables_long (put_place rows m.rule m.place a) result_variables a ∙ place_long rows m.rule m.place a
 
--- rows are as long as before when reasons are written
+-- the rows keep their lengths when reasons are written
 pub whys_long : (rows : List (List (Option Size))) (cs : List Candidate) (xs : List ComponentAttempt)
     → map (λ (row : List (Option Size)). length row) (put_whys rows cs xs) ≡ map (λ (row : List (Option Size)). length row) rows
 whys_long rows [] xs = refl
@@ -96,7 +96,7 @@ whys_long rows (c ∷ cs) (x ∷ xs) = whys_long (put_why rows (result_variables
     one None = refl
     one (Some why) = result_variables_long rows (result_variables_in c) (Unsized why)
 
--- the element at a place then was there before, or was written at one of these places, where there was none
+-- the element at a place was written there, at one of these places, which had none
 record Given {A : Type 0} (rows : List (List (Option A))) (result_variables : List ResultVariable) (t i : ℕ) (a b : A) : Type 0 where
   pub member : has_key result_variables t i ≡ true
   pub none : placed rows t i ≡ None
@@ -180,18 +180,18 @@ module _ (p : Program) (pivots : ℕ) (tab : Table) (derivations : List Derivati
                 missing = missing t i (bounds_of p (derivations_of derivations) t (suc i)) refl g.none;
                 target = SizesOf (result_variables_in c);
                 asked = (map result_variables_in all, are_components p pivots all found, listed, g.member);
-                tells = record {
+                is_answer = record {
                   answer = searches.Unsized why;
                   answered = subst (λ (w : NoSize). q.Sizes (bounds_of p (derivations_of derivations)) (result_variables_in c) (searches.Unsized w))
                       (same_why h.why why (sym h.says ∙ e)) h.answered;
-                  tells = refl;
+                  is_answer = refl;
                 };
               }
 
       go : (x : ComponentAttempt) → IsAttempt p pivots (bounds_of p (derivations_of derivations)) c x → IsFair (put_why rows (result_variables_in c) (why_of c x))
       go attempts.Known h = fair
       go attempts.Found h = fair
-      go attempts.Armless h = lacking attempts.Armless h (why_of c attempts.Armless) refl
+      go attempts.HasNoSideBound h = lacking attempts.HasNoSideBound h (why_of c attempts.HasNoSideBound) refl
       go (attempts.Failed a) h = lacking (attempts.Failed a) h (why_of c (attempts.Failed a)) refl
 
   all_fair : (rows : List (List (Option Size))) (cs : List Candidate) (xs : List ComponentAttempt)
@@ -204,11 +204,11 @@ module _ (p : Program) (pivots : ℕ) (tab : Table) (derivations : List Derivati
       all_fair (put_why rows (result_variables_in c) (why_of c x)) cs xs (λ d m. among d (inr m)) h.1
       (one_fair rows c x (among (result_variables_in c) (inl refl)) h.0 fair)
 
-  -- all entries are right at the end
+  -- all entries are right after the last reason is written
   pub said_fair : (xs : List ComponentAttempt) → AreAttempts p pivots (bounds_of p (derivations_of derivations)) all xs → IsFair (put_whys (said_table tab) all xs)
   said_fair xs h = all_fair (said_table tab) all xs (λ c m. m) h table_fair
 
-  -- each member of a component without a size then has an entry
+  -- after the reason of a component is written, each of its members without a size has an entry
   here_there : (rows : List (List (Option Size))) (result_variables : List ResultVariable) (a : Size) (t i : ℕ) → has_key result_variables t i ≡ true → 1 ≤ i → i ≤ length (row_at rows t)
       → (x : Size) × (placed (put_result_variables rows result_variables a) t i ≡ Some x)
   here_there rows [] a t i m l k = absurd (no_is_not_yes false refl m)
@@ -233,7 +233,7 @@ module _ (p : Program) (pivots : ℕ) (tab : Table) (derivations : List Derivati
           stands (placed rows t i) refl (same_number-sound s.rule t both.0) (same_number-sound s.place i both.1)
       go false e w later = later w
 
-  -- where no size was found, each member without a size has an entry once reasons are written
+  -- if no size was found, each member without a size has an entry after reasons are written
   pub listed_there : (rows : List (List (Option Size))) (cs : List Candidate) (xs : List ComponentAttempt) (t i : ℕ) → AreAttempts p pivots (bounds_of p (derivations_of derivations)) cs xs
       → list_any is_sized xs ≡ false → IsCovered (map result_variables_in cs) t i → bounds_of p (derivations_of derivations) t i ≡ None → 1 ≤ i → i ≤ length (row_at rows t)
       → (x : Size) × (placed (put_whys rows cs xs) t i ≡ Some x)
@@ -253,7 +253,7 @@ module _ (p : Program) (pivots : ℕ) (tab : Table) (derivations : List Derivati
           → (why : NoSize) × (why_of c x ≡ Some why)
       says attempts.Known a s u = absurd (no_is_not_yes (are_open (bounds_of p (derivations_of derivations)) (result_variables_in c)) a u)
       says attempts.Found a s u = absurd (no_is_not_yes true s refl)
-      says attempts.Armless a s u = (a.why, a.says)
+      says attempts.HasNoSideBound a s u = (a.why, a.says)
       says (attempts.Failed y) a s u = (a.why, a.says)
 
       long : length (row_at (put_why rows (result_variables_in c) (why_of c x)) t) ≡ length (row_at rows t)

@@ -52,7 +52,7 @@ tries_more q s fs (h ∷ gs) found g more (first, tried, (rest, e, later)) tries
   ),
 )
 
--- one attempt more, behind those for the components before
+-- the attempts with one more, after those for earlier components
 pub were-append : (p : Program) (pivots : ℕ) (first last : Bounds) (cs : List Candidate) (xs : List ComponentAttempt) (c : Candidate) (x : ComponentAttempt)
     → length xs ≡ length cs → WereAttempts p pivots first last cs xs → WasAttempt p pivots first last c x
     → WereAttempts p pivots first last (cs ++ c ∷ []) (xs ++ x ∷ [])
@@ -62,7 +62,7 @@ were-append p pivots first last (d ∷ cs) [] c x long h was = absurd (omega (ar
 were-append p pivots first last (d ∷ cs) (y ∷ xs) c x long h was =
     (h.0, were-append p pivots first last cs xs c x (omega (arith, long)) h.1 was)
 
--- a component at a position is one of all, and so is one before a position
+-- a component at a position is one of all, and so is each one before it
 pub one_at : (cs : List Candidate) (i : ℕ) (c : Candidate) → i < length cs → c ≡ get_or cs i c → IsOneOf (map result_variables_in cs) (result_variables_in c)
 one_at [] i c l e = absurd (omega (arith, l))
 one_at (d ∷ cs) zero c l e = inl (ap result_variables_in (sym e))
@@ -75,8 +75,8 @@ one_before (d ∷ cs) zero keys h = absurd h
 one_before (d ∷ cs) (suc i) keys (inl e) = inl e
 one_before (d ∷ cs) (suc i) keys (inr h) = inr (one_before cs i keys h)
 
--- the members of a component have one size or none with all that rounds make, then the times of a further one, and then
--- sizes of components
+-- the members of a component have one size or none with the derivations of rounds, the times of a further round, and
+-- then sizes of components
 pub uniform_with : (p : Program) (pivots : ℕ) (cs : List Candidate) → AreCandidatesOf p pivots cs → (earlier times sizes : List plain.Derivation)
     → IsMade (searches_of_program p pivots) (setting_of p) earlier
     → TriesAll (searches_of_program p pivots) (setting_of p) Together earlier (map TimeOf (rule_numbers p)) times → (ds : List (List ResultVariable))
@@ -95,12 +95,12 @@ uniform_with p pivots cs h earlier times sizes made timed ds within sized keys o
     live : AreComponentsOf (searches_of_program p pivots) p (map result_variables_in cs)
     live = live_components p pivots cs h
 
--- where one of these keys is missing, there is one
+-- if one of these keys is missing, there is a missing one
 some_open : (b : Bounds) (keys : List ResultVariable) → are_open b keys ≡ true → 1 ≤ length keys
 some_open b [] h = absurd (false_true h)
 some_open b (k ∷ keys) h = omega arith
 
--- the places of a component of which a size is missing are open, where they have one size or none
+-- if the members of a component have one size or none, and one size is missing, all are open
 pub places_open : (p : Program) (fs : List plain.Derivation) (c : Candidate) → ArePlacesOf p c → AreUniform (bounds_of p fs) (result_variables_in c)
     → are_open (bounds_of p fs) (result_variables_in c) ≡ true → AreOpen p fs (result_variables_in c)
 places_open p fs c places uniform lacking = record {

@@ -17,7 +17,7 @@ use Rattle.bound_fixpoint.proofs.Cases.{either}
 use Rattle.bound_fixpoint.proofs.ListMembers.{contains-cases, contains-none}
 use Rattle.time_bounds.specs.WorkedTimeWhys.{twice, second_said, unsized_said, both_said, SetsAreSought}
 
--- where rule 2 has a time, the set of rule 1 is itself
+-- if rule 2 has a time, the set of rule 1 is rule 1 alone
 alone_set : (b : Bounds) → is_untimed b 0 ≡ false → is_untimed b 2 ≡ false → IsSetOfRule twice b 1 (1 ∷ [])
 alone_set b entry second = record { ascending = tt; members = λ e. (onward e, back e) }
   where
@@ -34,7 +34,7 @@ alone_set b entry second = record { ascending = tt; members = λ e. (onward e, b
     back e (inl same) = subst (λ (n : ℕ). is_in n (1 ∷ []) ≡ true) (sym same) refl
     back e (inr h) = leading e h
 
--- where it has none, it leads back to rule 1
+-- if rule 2 has no time, it leads back to rule 1
 second_leads : IsInSet twice (is_untimed both_said) 1 2
 second_leads = inr record { untimed = refl; from = 0; leads = refl; to = 0; leaves = refl; path = Here refl }
 
@@ -67,7 +67,7 @@ keeps_open : (b : Bounds) (e : ℕ) (s : SymbolPlace) → target_of twice e ≡ 
 keeps_open b e s t known place missing =
     some_none (Input 0) (sym known ∙ subst (λ (i : ℕ). b e i ≡ None) (one_place e s.place t place) missing)
 
--- where both entries have sizes, no place is shut for rule 1
+-- if both entries have sizes, no place is shut for rule 1
 none_shut : (s : SymbolPlace) → IsShut twice second_said (1 ∷ []) s → ⊥
 none_shut s h =
     of_two (λ e. IsPlace twice e s.place → second_said e s.place ≡ None → ⊥) 0 2 (keeps_open second_said 0 s refl refl)
@@ -79,7 +79,7 @@ second_open = record {
   places = λ s. ((λ m. absurd (contains-none s m)), λ h. absurd (none_shut s h));
 }
 
--- both rules are entered by the virtual entry alone
+-- if neither rule has a time, the virtual entry is the only entry, and no place is shut
 none_shut_both : (s : SymbolPlace) → IsShut twice both_said (1 ∷ 2 ∷ []) s → ⊥
 none_shut_both s h =
     of_one (λ e. IsPlace twice e s.place → both_said e s.place ≡ None → ⊥) 0 (keeps_open both_said 0 s refl refl) h.entry
@@ -91,7 +91,7 @@ both_open = record {
   places = λ s. ((λ m. absurd (contains-none s m)), λ h. absurd (none_shut_both s h));
 }
 
--- where rule 2 has no size, its place is shut, and no other
+-- if rule 2 has no size, its place is shut, and no other
 shut_place : IsShut twice unsized_said (1 ∷ []) first_place
 shut_place = record {
   entry = 2;
@@ -124,12 +124,12 @@ second_shut = record {
   );
 }
 
--- rule 2 isn't in the set of rule 1 where it has a time
+-- if rule 2 has a time, it isn't in the set of rule 1
 two_alone : (is_in 2 (1 ∷ 2 ∷ []) ≡ true → IsInSet twice (is_untimed second_said) 1 2) → ⊥
 two_alone h = either (h refl) (λ e. let same : ◌≡◌ {A = ℕ} 2 1 = e in omega (arith, same))
     (λ back. no_is_not_yes false refl back.untimed)
 
--- what was worked out of them
+-- the worked values of these sets hold
 pub sets : SetsAreSought
 sets = record {
   alone = record { is_set = alone_set second_said refl refl; are_shut = second_open };

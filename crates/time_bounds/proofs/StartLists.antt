@@ -1,4 +1,4 @@
--- Lists of first derivations, one rule more at a time.
+-- Lists of initial derivations, with one rule more at a time.
 use Rattle.std.proofs.Common.{◌≡◌, ℕ, ◌+◌, ◌<◌, List, [], ◌∷◌, ◌++◌, length, map, drop, get_or, sym, ◌∙◌, ap}
 use Rattle.std.proofs.Common.{append_assoc, arith}
 use Rattle.std.specs.List.{range_with_len}
@@ -15,13 +15,13 @@ use Rattle.time_bounds.specs.Beginning.{empty_here, empty_derivations, empty_key
 use Rattle.time_bounds.specs.Beginning.{never_here, never_derivations}
 use Rattle.cert_types.proofs.Numbers.{numbers-more}
 
--- what is done, with one more, and what is left then, is all
+-- the finished part of a list with one element more, and the rest after it, are the whole list
 pub more : {A : Type 0} (done next here rest all : List A) → next ≡ done ++ here → done ++ (here ++ rest) ≡ all
     → next ++ rest ≡ all
 more done next here rest all e h =
     ap (λ (xs : List _). xs ++ rest) e ∙ (append_assoc done here rest ∙ h)
 
--- what is left begins with the rule at this position
+-- the rest begins with the rule at this position
 pub empties-left : (t : ℕ) (empties : List GuardFeasibility) (i : ℕ) (a : GuardFeasibility) → i < length empties
     → a ≡ get_or empties i a → empty_derivations t (drop i empties) ≡ empty_here t a ++ empty_derivations (t + 1) (drop (i + 1) empties)
 empties-left t empties i a low e =
@@ -49,7 +49,7 @@ never-left p t rule_statuses rules i d r same low e =
     ∙ ap (λ (x : Rule). never_here t (get_or rule_statuses i d) (arity_of p x.target)
     ++ never_derivations p (t + 1) (drop (i + 1) rule_statuses) (map rule_of (drop (i + 1) rules))) (sym e))
 
--- the key of one place more
+-- the keys of places with one place more
 pub places-more : (t n : ℕ) → map (λ i. key t i) (range_with_len 1 (n + 1)) ≡ map (λ i. key t i) (range_with_len 1 n) ++ key t (n + 1) ∷ []
 places-more t n =
     ap (map (λ i. key t i)) (numbers-more 1 n)

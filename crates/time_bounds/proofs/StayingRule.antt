@@ -1,4 +1,4 @@
--- A rule that stays, alone in its program, has no time, as its gap shows.
+-- A rule k(A) -> k(A), alone in its program, has no time, as its gap shows.
 use Rattle.std.proofs.Common.{◌≡◌, inl, inr, ℕ, zero, suc, ◌≤◌, true, false, [], ◌∷◌, None, refl, sym, subst, arith}
 use Rattle.std.specs.List.{Contains}
 use Rattle.model.specs.Bounds.{Input}
@@ -17,7 +17,7 @@ use Rattle.bound_fixpoint.proofs.Cases.{either}
 use Rattle.time_bounds.specs.TimeWhys.{HasNoTime}
 use Rattle.time_bounds.specs.WorkedReports.{staying_gap, staying_said}
 
--- the set of the rule that stays is itself
+-- the set of the rule is the rule alone
 staying_set : IsSetOfRule looping staying_said 1 (1 ∷ [])
 staying_set = record { ascending = tt; members = λ e. (onward e, back e) }
   where
@@ -33,7 +33,7 @@ staying_set = record { ascending = tt; members = λ e. (onward e, back e) }
     back e (inl same) = subst (λ (n : ℕ). is_in n (1 ∷ []) ≡ true) (sym same) refl
     back e (inr h) = leading e h
 
--- no place is shut for it: the virtual entry has a size at its only place
+-- no place is shut for the rule: the virtual entry has a size at its only place
 pub none_shut : (s : SymbolPlace) → IsShut looping staying_said (1 ∷ []) s → ⊥
 none_shut s h = at_entry h.entry (either (is_in-cases h.entry 0 [] h.enters) (λ e. e)
     (λ later. absurd (no_is_not_yes false refl later))) h.place h.missing
@@ -60,7 +60,7 @@ staying_shut = record {
     nothing : (s : SymbolPlace) → Contains [] s → ⊥
     nothing s (n, low, same) = omega (arith, low)
 
--- its gap shows that it has no time
+-- the gap of the rule shows that it has no time
 pub staying_so : HasNoTime looping 10 staying_said 1 (NoFunction staying_gap)
 staying_so = record {
   rule = refl;

@@ -1,4 +1,4 @@
--- A table as bounds by key, and as what is known with the derivations whose index it is.
+-- A table as bounds by key, and as the bounds that are known with the derivations whose index it is.
 use Rattle.std.proofs.Common.{◌≡◌, ℕ, zero, suc, ◌≤◌, List, refl, arith}
 use Rattle.model.specs.Programs.{Program}
 use Rattle.bound_fixpoint.specs.Keys.{Bounds, size_by}
@@ -11,7 +11,7 @@ use Rattle.bound_derivations.specs.Views.{derivations_of}
 pub use Rattle.size_bounds.proofs.TablesByKey.{table_by_key as table_over}
 pub use Rattle.bound_derivations.proofs.TablesByKey.{bounds_by_derivations as bounds_same, table_by_derivations as table_with}
 
--- the numbers of a book's table are those of its derivations
+-- the numbers of a table are those of the derivations whose index it is
 pub numbers_same : (p : Program) (tab : Table) (derivations : List Derivation) → AreDerivedBounds p tab derivations
     → number_at tab ≡ plain.number_in (derivations_of derivations)
 numbers_same p tab derivations derived = λ j t i. derived.numbers t i j

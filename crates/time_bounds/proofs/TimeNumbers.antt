@@ -15,7 +15,7 @@ times_carried ns xs new x t h e at k =
     subst (λ (ys : List TimeEntry). EachNumbered (CarriesTime ns) 1 ys) (sym e)
     (each_pushed (CarriesTime ns) 1 xs x h (subst (λ (n : ℕ). CarriesTime ns n x) (let z : t ≡ 1 + length xs = omega (arith, at) in z) k))
 
--- one entry more is in the order of gaps
+-- one entry more keeps the order of gaps
 order_more : (n : ℕ) (xs : List TimeEntry) (m : ℕ) (x : TimeEntry) (k : ℕ) → AreGapsInOrder n xs m → AreGapsInOrder m (x ∷ []) k
     → AreGapsInOrder n (xs ++ x ∷ []) k
 order_more n [] m x k h g = subst (λ (j : ℕ). AreGapsInOrder j (x ∷ []) k) (sym h) g
@@ -29,7 +29,7 @@ pub gaps_ordered : (xs new : List TimeEntry) (x : TimeEntry) (m k : ℕ) → Are
     → AreGapsInOrder 0 new k
 gaps_ordered xs new x m k h e g = subst (λ (ys : List TimeEntry). AreGapsInOrder 0 ys k) (sym e) (order_more 0 xs m x k h g)
 
--- where a time is known the numbers of gaps stay
+-- an entry with a known time leaves the numbers of gaps unchanged
 pub known_ordered : (b : Bounds) (t n : ℕ) (x : TimeEntry) → IsKnownTime b t x → AreGapsInOrder n (x ∷ []) n
 known_ordered b t n (times.Known s) h = refl
 known_ordered b t n (times.Gap g) h = absurd h

@@ -1,4 +1,4 @@
--- The times of a round: the table over which rules are tried, and what was tried of them.
+-- The times of a round: the table over which rules are tried, and the result for each.
 use Rattle.std.proofs.Common.{◌≡◌, ℕ, zero, suc, ◌+◌, ◌==◌, true, false, List, [], ◌∷◌, ◌++◌, map, Option, Some, None, All}
 use Rattle.std.proofs.Common.{inl, refl, sym, ◌∙◌, ap, subst, arith}
 use Rattle.std.specs.Prelude.{slice_get}
@@ -26,7 +26,7 @@ use Rattle.bound_fixpoint.specs.Rounds.{TriesAll, Together, IsMade}
 use Rattle.bound_fixpoint.proofs.EmptyTimes.{empty_timed}
 use Rattle.bound_fixpoint.proofs.DerivationLists.{found-append, known_stays, found_known}
 use Rattle.bound_fixpoint.proofs.RuleNumbers.{in_rules}
-use Rattle.bound_fixpoint.proofs.TimesStand.{by_answer, round_times_stand}
+use Rattle.bound_fixpoint.proofs.TimesAreJustified.{by_answer, round_times_justified}
 use Rattle.bound_derivations.specs.declared.derivation.Derivation.{Derivation}
 use Rattle.bound_derivations.specs.Books.{AreDerivedBounds, IsKey}
 use Rattle.bound_derivations.specs.Views.{derivations_of}
@@ -36,11 +36,11 @@ use Rattle.time_bounds.specs.Questions.{IsTable}
 use Rattle.time_bounds.specs.OpenDerivations.{AreOpenAfter}
 use Rattle.time_bounds.specs.TriedRules.{AreTried, derivation_in, derivations_in, kept_in, AreAskedOver}
 use Rattle.time_bounds.proofs.RuleStatusLaws.{says, shown}
-use Rattle.time_bounds.proofs.OpenDerivations.{HasKeysOfRules, open_standing}
+use Rattle.time_bounds.proofs.OpenDerivations.{HasKeysOfRules, open_still_true}
 use Rattle.time_bounds.proofs.RuleNumbers.{rule_there}
 use Rattle.time_bounds.proofs.TriedDerivations.{asked_over}
 
--- what was found of a rule at a position is found of its time
+-- a time found for the rule at a position is one of the rule
 found-sound : (k : ℕ) (tries : List RuleAttempt) (i : ℕ) (t : ℕ) (x : RuleAttempt) → t ≡ k + i → slice_get tries i ≡ Some x
     → lacks (bound_found (derivation_in t x) t 0) ≡ false → lacks (bound_found (derivations_in k tries) t 0) ≡ false
 found-sound k [] i t x e s h = absurd (let f : ⊥ = cc in f)
@@ -64,7 +64,7 @@ found-sound k (y ∷ tries) (suc i) t x e s h =
     second None g = g
     second (Some b) g = refl
 
--- of each rule a question is kept over what was known, or its time is known with what was found
+-- each rule has an answered query over the earlier bounds, or its time is known with the new derivations
 pub asked_later : (p : Program) (pivots : ℕ) (empties : List GuardFeasibility) (fs : List plain.Derivation) (tries : List RuleAttempt)
     → AreTried p (bounds_of p fs) pivots empties 1 tries
     → AreAskedOver p (bounds_of p fs) (bounds_of p (fs ++ derivations_in 1 tries)) pivots empties 1 (map kept_in tries)
@@ -74,7 +74,7 @@ asked_later p pivots empties fs tries h =
     (λ i t x e s k. found_known p fs (derivations_in 1 tries) t 0 (found-sound 1 tries i t x e s k)) h
 
 module _ (q : Searches) (p : Program) (right : AreRight q (setting_of p)) where
-  -- what is found for rules has keys of them
+  -- the derivations of times have keys of these rules
   keyed : (fs : List plain.Derivation) (ts : List ℕ) → ((t : ℕ) → is_in t ts ≡ true → IsRule p t) → (times : List plain.Derivation)
       → TriesAll q (setting_of p) Together fs (map TimeOf ts) times → All (HasKeysOfRules p) times
   keyed fs [] rules times none =
@@ -83,7 +83,7 @@ module _ (q : Searches) (p : Program) (right : AreRight q (setting_of p)) where
       subst (λ (xs : List plain.Derivation). All (HasKeysOfRules p) xs) (sym e)
       (All-append (HasKeysOfRules p) first rest
       (by_answer (λ (xs : List plain.Derivation). All (HasKeysOfRules p) xs) q (setting_of p) fs (TimeOf t) first tries
-      (All-nil (HasKeysOfRules p)) (λ open_now a tells. answer a))
+      (All-nil (HasKeysOfRules p)) (λ open_now a is_answer. answer a))
       (keyed fs ts (λ u m. rules u (or_right (u == t) (is_in u ts) m)) rest later))
     where
       answer : (a : Answer) → All (HasKeysOfRules p) (derivations_by (TimeOf t) a)
@@ -99,14 +99,14 @@ module _ (q : Searches) (p : Program) (right : AreRight q (setting_of p)) where
           (All-nil (HasKeysOfRules p))
       answer (Lacks why) = All-nil (HasKeysOfRules p)
 
-  -- so the times of a round are open, one after the other
+  -- the derivations of times in a round are open, one after the other
   pub times_open : (fs times : List plain.Derivation)
       → TriesAll q (setting_of p) Together fs (map TimeOf (rule_numbers p)) times → AreOpenAfter p fs times
   times_open fs times h =
-      open_standing (setting_of p) fs times (keyed fs (rule_numbers p) (λ t m. in_rules p t m) times h)
-      (round_times_stand q (setting_of p) right fs times h)
+      open_still_true (setting_of p) fs times (keyed fs (rule_numbers p) (λ t m. in_rules p t m) times h)
+      (round_times_justified q (setting_of p) right fs times h)
 
--- the table of a book of what rounds make is one as rounds meet it
+-- the table of the derivations that rounds make is one that rounds use
 pub table_of_derived : (p : Program) (pivots : ℕ) (empties : List GuardFeasibility) (tab : Table) (derivations : List Derivation)
     → AreEmptyAnswers p pivots empties → IsMade (searches_of_program p pivots) (setting_of p) (derivations_of derivations)
     → AreDerivedBounds p tab derivations → IsTable p tab empties

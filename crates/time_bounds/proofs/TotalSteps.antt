@@ -20,7 +20,7 @@ sum_along : (ℕ → ℕ) → ℕ → List (Option Bound) → ℕ
 sum_along f k [] = 0
 sum_along f k (o ∷ os) = f k + sum_along f (suc k) os
 
--- it is the sum over these numbers
+-- this is the sum over these numbers
 along : (f : ℕ → ℕ) (k : ℕ) (os : List (Option Bound)) → sum_along f k os ≡ sum_by f (range_with_len k (length os))
 unfolding sum_along
 along f k [] = refl
@@ -29,7 +29,7 @@ along f k (o ∷ os) =
     (along f (suc k) os ∙ ap (λ (n : ℕ). sum_by f (range_with_len n (length os))) (let e : suc k ≡ k + 1 = omega arith in e))
     ∙ sym (sum_by-cons f k (range_with_len (k + 1) (length os)))
 
--- known parts have a first and others
+-- known parts have a first one and others
 pub first_known : (o : Option Bound) (rest : Option Parts) (ps : Parts) → before o rest ≡ Some ps
     → (b : Bound) × (qs : Parts) × (o ≡ Some b) × (rest ≡ Some qs) × (ps ≡ Part b qs)
 first_known None rest ps e = cc
@@ -55,7 +55,7 @@ sum_within m (o ∷ os) ps e f k h =
     shift : (k i : ℕ) → k + suc i ≡ suc k + i
     shift k i = omega arith
 
--- parts with bases of at least 1
+-- known parts have bases of at least 1
 parts_based : (os : List (Option Bound)) (ps : Parts) → known_parts os ≡ Some ps
     → ((i : ℕ) (b : Bound) → i < length os → slice_index_or os i None ≡ Some b → IsBased b) → AreBased ps
 parts_based [] ps e h =
@@ -78,7 +78,7 @@ total_is os b e = go (known_parts os) refl
         let same : b ≡ rewritten (SumOf ps) = cc in
         (ps, f, same)
 
--- where these bounds hold of all rules, every run costs at most what their total says
+-- if these bounds hold of all rules, every run costs at most what their total says
 pub totals_hold : TotalsHold
 totals_hold = record { each = λ p bounds b h e. holds p bounds b h (total_is bounds b e) }
   where

@@ -1,4 +1,4 @@
--- What was tried of the rules over what derivations say is a round of times.
+-- The results for rules over the bounds of derivations are those of a round of times.
 use Rattle.std.proofs.Common.{◌≡◌, ℕ, suc, ◌+◌, ◌||◌, Bool, true, false, List, [], ◌∷◌, ◌++◌, length}
 use Rattle.std.proofs.Common.{map, Option, Some, None, refl, sym, ◌∙◌, ap, subst, append_assoc, arith}
 use Rattle.std.specs.List.{range_with_len}
@@ -26,9 +26,9 @@ use Rattle.time_bounds.specs.declared.tried_rules.RuleAttempt.TheVariants.{Known
 use Rattle.time_bounds.specs.ProgramSearches.{searches_of_program}
 use Rattle.time_bounds.specs.Questions.{AreAnsweredFrom}
 use Rattle.time_bounds.specs.TriedRules.{IsTried, AreTried, derivation_in, derivations_in, kept_in, IsAskedOver, AreAskedOver}
-use Rattle.time_bounds.proofs.AnswerLaws.{missing_tells}
+use Rattle.time_bounds.proofs.AnswerLaws.{missing_reason_answered}
 
--- one rule more
+-- the derivations with the result of one rule more
 pub derivations_more : (k : ℕ) (tries : List RuleAttempt) (x : RuleAttempt)
     → derivations_in k tries ++ derivation_in (k + length tries) x ≡ derivations_in k (tries ++ x ∷ [])
 derivations_more k [] x =
@@ -39,13 +39,13 @@ derivations_more k (y ∷ tries) x =
     (ap (λ (n : ℕ). derivations_in (suc k) tries ++ derivation_in n x) (let z : k + suc (length tries) ≡ suc k + length tries = omega arith in z)
     ∙ derivations_more (suc k) tries x)
 
--- a test alone
+-- `false` is neutral for a disjunction
 or_false : (v : Bool) → (v || false) ≡ v
 or_false true = refl
 or_false false = refl
 
 module _ (p : Program) (pivots : ℕ) (empties : List GuardFeasibility) (answers : AreEmptyAnswers p pivots empties) (fs : List plain.Derivation) where
-  -- one rule
+  -- the result for one rule is that of the round
   one_tried : (t : ℕ) (x : RuleAttempt) → IsTried p (plain.bounds_of p fs) pivots empties t x
       → Tries (searches_of_program p pivots) (setting_of p) fs (TimeOf t) (derivation_in t x)
   one_tried t Known h = record {
@@ -62,10 +62,10 @@ module _ (p : Program) (pivots : ℕ) (empties : List GuardFeasibility) (answers
   }
   one_tried t (Missing a) h = record {
     known = λ e. refl;
-    tried = λ e. (Lacks h.1.why, missing_tells p (plain.bounds_of p fs) pivots empties t a answers h.1, refl);
+    tried = λ e. (Lacks h.1.why, missing_reason_answered p (plain.bounds_of p fs) pivots empties t a answers h.1, refl);
   }
 
-  -- and all from one on
+  -- the results for all rules from one on are those of the round
   all_tried : (k : ℕ) (tries : List RuleAttempt) → AreTried p (plain.bounds_of p fs) pivots empties k tries
       → TriesAll (searches_of_program p pivots) (setting_of p) Together fs (map TimeOf (range_with_len k (length tries)))
       (derivations_in k tries)
@@ -82,14 +82,14 @@ module _ (p : Program) (pivots : ℕ) (empties : List GuardFeasibility) (answers
     ),
   )
 
-  -- what was tried of all rules is a round of times
+  -- the results for all rules are those of the round
   pub tried_all : (tries : List RuleAttempt) → length tries ≡ length p.rules → AreTried p (plain.bounds_of p fs) pivots empties 1 tries
       → TriesAll (searches_of_program p pivots) (setting_of p) Together fs (map TimeOf (rule_numbers p)) (derivations_in 1 tries)
   tried_all tries long h =
       subst (λ (n : ℕ). TriesAll (searches_of_program p pivots) (setting_of p) Together fs (map TimeOf (range_with_len 1 n))
       (derivations_in 1 tries)) long (all_tried 1 tries h)
 
--- the questions that are kept were answered
+-- the queries of rules without a time were answered
 pub kept_asked : (p : Program) (b later : Bounds) (pivots : ℕ) (empties : List GuardFeasibility) (k : ℕ) (asked : List (Option AnsweredRankQuestion))
     → AreAskedOver p b later pivots empties k asked → AreAnsweredFrom p pivots empties k asked
 kept_asked p b later pivots empties k [] h = tt
@@ -102,7 +102,7 @@ own_time : (t : ℕ) (f : plain.Derivation) → f.keys ≡ time_key t ∷ [] →
 own_time t f e =
     ap lacks (found-here f [] t 0 (subst (λ (ks : List ResultVariable). has_key ks t 0 ≡ true) (sym e) (has_key-first (time_key t) [])))
 
--- what was tried of rules, by the questions that are kept, where what was found is known later
+-- the results for rules, by their queries, if the times found are known later
 pub asked_over : (p : Program) (b later : Bounds) (pivots : ℕ) (empties : List GuardFeasibility) (k : ℕ) (tries : List RuleAttempt)
     → ((t : ℕ) → is_untimed b t ≡ false → is_untimed later t ≡ false)
     → ((i t : ℕ) (x : RuleAttempt) → t ≡ k + i → slice_get tries i ≡ Some x → lacks (bound_found (derivation_in t x) t 0) ≡ false

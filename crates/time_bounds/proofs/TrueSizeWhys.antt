@@ -23,7 +23,7 @@ use Rattle.local_size.specs.Places.{value_on}
 use Rattle.local_size.specs.LocalAnswers.{Local, HasBound, IsUnboundedOn, HasHitLimit}
 use Rattle.local_size.proofs.UnboundedAnswers.{unbounded-answers}
 use Rattle.rvg_components.specs.Flows.{Locals}
-use Rattle.bound_fixpoint.specs.Answers.{Lacks, TellsSizing, TellsSize}
+use Rattle.bound_fixpoint.specs.Answers.{Lacks, AnswersSizing, AnswersSize}
 use Rattle.bound_fixpoint.specs.Components.{IsOneOf}
 use Rattle.bound_fixpoint.specs.Keys.{Bounds, key, has_key, over}
 use Rattle.bound_fixpoint.specs.Searches.{OfSize, SizeOutcome, SizedBy, Unsized}
@@ -34,7 +34,7 @@ use Rattle.time_bounds.specs.ProgramSizes.{IsLocalOf, AreLocalsOf, unbounded_rea
 use Rattle.time_bounds.specs.ProgramSizes.{AnswersMembers, IsJudged, AnswersPlaces}
 use Rattle.time_bounds.specs.SizeWhys.{IsComponentOf}
 use Rattle.time_bounds.specs.SizeWhys.{HasNoSize}
-use Rattle.time_bounds.proofs.ArmlessPlaces.{ReadsNothing, armless_alone}
+use Rattle.time_bounds.proofs.PlacesWithoutSideBound.{ReadsNothing, armless_alone}
 use Rattle.time_bounds.proofs.FirstLacks.{from_both, judged_so}
 use Rattle.time_bounds.proofs.MemberLoops.{loop_decided}
 use Rattle.time_bounds.proofs.PassedForms.{unbounded_passes}
@@ -78,7 +78,7 @@ module _ (p : Program) (pivots : ℕ) (valid : IsValid p) where
             },
       )
 
-  -- and so is one of a limit hit
+  -- the answer that a limit was hit is true of its place
   limit_hit_so : (m : ResultVariable) (x : Local) → IsLocalOf p pivots m.rule m.place x → (why : NoSize) → limit_hit_reason x ≡ Some why
       → ReadsNothing p m x × ((b : Bounds) → HasNoSize p pivots b m.rule m.place why)
   limit_hit_so m (HasBound l) is why e = absurd (none_some why e)
@@ -116,7 +116,7 @@ module _ (p : Program) (pivots : ℕ) (valid : IsValid p) where
             h.are_members.bounds_are));
       }
 
-      -- a place that lacks local bounds is the place itself
+      -- if a place of the component lacks local bounds, it is this place itself, and its reason is true
       lacking_so : (m : ResultVariable) → has_key keys m.rule m.place ≡ true → (x : Local) → IsLocalOf p pivots m.rule m.place x
           → (why : NoSize) → ReadsNothing p m x × ((c : Bounds) → HasNoSize p pivots c m.rule m.place why)
           → HasNoSize p pivots b t i why
@@ -151,14 +151,14 @@ module _ (p : Program) (pivots : ℕ) (valid : IsValid p) where
           (subst (λ (v : Bool). AnswersMembers v s (over b) h.members (Unsized why))
           (sym (loop_decided s local keys h.members h.are_members)) h.sizing)
 
-    -- the same for the reason that a component of the place gives
+    -- the reason that the component of a place gives is true
     pub place_so : (cs : List (List ResultVariable)) → (searches_of_program p pivots).AreComponents cs → (keys : List ResultVariable) → IsOneOf cs keys
         → has_key keys t i ≡ true → (why : NoSize)
-        → TellsSize (searches_of_program p pivots) s b keys (Lacks (OfSize why)) → HasNoSize p pivots b t i why
-    place_so cs are keys one has why h = go h.answer h.answered h.tells
+        → AnswersSize (searches_of_program p pivots) s b keys (Lacks (OfSize why)) → HasNoSize p pivots b t i why
+    place_so cs are keys one has why h = go h.answer h.answered h.is_answer
       where
         go : (answer : SizeOutcome) → (searches_of_program p pivots).Sizes b keys answer
-            → TellsSizing s b answer (Lacks (OfSize why)) → HasNoSize p pivots b t i why
+            → AnswersSizing s b answer (Lacks (OfSize why)) → HasNoSize p pivots b t i why
         go (SizedBy node) answered told = absurd (let none : ⊥ = cc in none)
         go (Unsized v) (local, locals, is) told =
             let same : why ≡ v = cc in

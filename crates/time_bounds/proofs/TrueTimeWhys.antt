@@ -25,7 +25,7 @@ use Rattle.rank_search.proofs.rule_questions.Exact.{nodes-accepted as empty_node
 use Rattle.rank_search.proofs.Accepted.{nodes-accepted}
 use Rattle.rank_search.proofs.NodeLaws.{nodes-rank}
 use Rattle.rank_search.proofs.RankExact.{answers-exact}
-use Rattle.bound_fixpoint.specs.Answers.{Lacks, TellsRanking, TellsTime}
+use Rattle.bound_fixpoint.specs.Answers.{Lacks, AnswersRanking, AnswersTime}
 use Rattle.bound_fixpoint.specs.Keys.{Bounds, over}
 use Rattle.bound_fixpoint.specs.Right.{IsFirstLimitHit, IsGapOf, IsQuestion}
 use Rattle.bound_fixpoint.specs.Searches.{EmptyHitLimit, Ranking, Ranked, Unranked}
@@ -36,9 +36,9 @@ use Rattle.time_bounds.specs.ProgramRules.{emptiness_of, ranking_of, EmptyHitsLi
 use Rattle.time_bounds.specs.ProgramSearches.{searches_of_program}
 use Rattle.time_bounds.specs.TimeWhys.{FirstHitsLimitSo, IsSought, NoFunctionRanks, PointsLimitHitSo, RankHitsLimitSo}
 use Rattle.time_bounds.specs.TimeWhys.{HasNoTime}
-use Rattle.time_bounds.proofs.RightSearches.{first_told, ranking_right}
+use Rattle.time_bounds.proofs.RightSearches.{first_limit_hit_of, ranking_right}
 
--- one reason for a time has one form
+-- equal results without a time have the same reason
 one_time : (v w : NoTime) → Lacks (OfTime v) ≡ Lacks (OfTime w) → v ≡ w
 one_time v w e = cc
 
@@ -60,12 +60,12 @@ module _ (p : Program) (pivots : ℕ) where
             hits_limit = subst (λ (z : LimitHit). IsEmptyAnswer (prepared r) t pivots (empties.OutOfLimits z)) same_limit_hit h;
           }
 
-  -- and such a limit hit is answered
+  -- a limit hit of a rule's own linear program is its feasibility answer
   limit_hit_answered : (t : ℕ) (x : LimitHit) → EmptyHitsLimitSo p pivots t x
       → (searches_of_program p pivots).Empties t (EmptyHitLimit x)
   limit_hit_answered t x h = (h.rule, h.numbered, (empties.OutOfLimits x, refl, h.hits_limit))
 
-  -- the first rule that is answered so
+  -- the first rule whose feasibility answer is a limit hit is the first whose linear program exceeds the limit
   first_limit_hit_so : (ts : List ℕ) (x : LimitHit) → IsFirstLimitHit (searches_of_program p pivots) ts x → FirstHitsLimitSo p pivots ts x
   first_limit_hit_so [] x h = absurd h
   first_limit_hit_so (t ∷ ts) x (inl h) = inl (empty_limit_hit t x h)
@@ -76,7 +76,7 @@ module _ (p : Program) (pivots : ℕ) where
     question : IsQuestion p set t
     question = is_question (setting_of p) b begun t set rule sought.is_set
 
-    -- a gap shows that no function ranks the rule
+    -- if there is a gap, no function ranks the rule
     none_ranks : (g : Gap) → IsGapOf (setting_of p) set t shut g → NoFunctionRanks p b t g
     none_ranks g h = record {
       rule = h.rule;
@@ -115,7 +115,7 @@ module _ (p : Program) (pivots : ℕ) where
           hits_no_limit = h.hits_no_limit;
           unsolved = h.unsolved;
           first = first_limit_hit_so set y
-              (first_told empty_nodes-accepted nodes-rank nodes-accepted answers-exact p pivots valid answers are y set
+              (first_limit_hit_of empty_nodes-accepted nodes-rank nodes-accepted answers-exact p pivots valid answers are y set
               question.rules h.first);
         }
 
@@ -128,16 +128,16 @@ module _ (p : Program) (pivots : ℕ) where
             subst (λ (z : LimitHit). RankHitsLimitSo p pivots b t z) same_limit_hit
             record { set = set; shut = shut; sought = sought; hits_limit = cases y h }
 
-    -- the reason that each answer gives
-    told_so : (answer : Ranking) → (searches_of_program p pivots).Ranks set t shut answer → (why : NoTime)
-        → TellsRanking (setting_of p) b answer (Lacks (OfTime why)) → HasNoTime p pivots b t why
-    told_so (Ranked node) h (NoFunction g) told =
+    -- the reason of each answer is true
+    reason_is_true : (answer : Ranking) → (searches_of_program p pivots).Ranks set t shut answer → (why : NoTime)
+        → AnswersRanking (setting_of p) b answer (Lacks (OfTime why)) → HasNoTime p pivots b t why
+    reason_is_true (Ranked node) h (NoFunction g) told =
         let e : OfTime (NoFunction g) ≡ OfTime (TimeLarge (large_nodes (setting_of p).rewrite
         (rank_time (setting_of p) node (over b)))) = told.1 in absurd (let none : ⊥ = cc in none)
-    told_so (Ranked node) h (TimeHitLimit x) told =
+    reason_is_true (Ranked node) h (TimeHitLimit x) told =
         let e : OfTime (TimeHitLimit x) ≡ OfTime (TimeLarge (large_nodes (setting_of p).rewrite
         (rank_time (setting_of p) node (over b)))) = told.1 in absurd (let none : ⊥ = cc in none)
-    told_so (Ranked node) h (TimeLarge n) told =
+    reason_is_true (Ranked node) h (TimeLarge n) told =
         let e : OfTime (TimeLarge n) ≡ OfTime (TimeLarge (large_nodes (setting_of p).rewrite
         (rank_time (setting_of p) node (over b)))) = told.1 in
         record {
@@ -153,15 +153,15 @@ module _ (p : Program) (pivots : ℕ) where
       where
         same_number : (k m : ℕ) → OfTime (TimeLarge k) ≡ OfTime (TimeLarge m) → k ≡ m
         same_number k m e = cc
-    told_so (Unranked g) h why told =
+    reason_is_true (Unranked g) h why told =
         subst (λ (v : NoTime). HasNoTime p pivots b t v) (sym (one_time why (NoFunction g) told))
         (none_ranks g (ranking_right p pivots valid set t shut (Unranked g) question h).0)
-    told_so (RankHitLimit x) h why told =
+    reason_is_true (RankHitLimit x) h why told =
         subst (λ (v : NoTime). HasNoTime p pivots b t v) (sym (one_time why (TimeHitLimit x) told)) (limit_hit_so x h)
 
-  -- the same for the reason of a rule
+  -- the reason of a rule without a time is true
   pub time_so : IsValid p → (b : Bounds) → IsKnown (b 0 0) → (t : ℕ) → IsRule p t → (why : NoTime)
-      → TellsTime (searches_of_program p pivots) (setting_of p) b t (Lacks (OfTime why)) → HasNoTime p pivots b t why
+      → AnswersTime (searches_of_program p pivots) (setting_of p) b t (Lacks (OfTime why)) → HasNoTime p pivots b t why
   time_so valid b begun t rule why h =
-      told_so valid b begun t rule h.asked.set h.asked.shut
-      (record { is_set = h.asked.is_set; are_shut = h.asked.are_shut }) h.asked.answer h.asked.answered why h.tells
+      reason_is_true valid b begun t rule h.asked.set h.asked.shut
+      (record { is_set = h.asked.is_set; are_shut = h.asked.are_shut }) h.asked.answer h.asked.answered why h.is_answer

@@ -9,7 +9,7 @@ use Rattle.outcome.specs.Reports.{NoTime, Untimed, NoSize, SizeUnbounded, SizeHi
 use Rattle.outcome.specs.Reports.{SizeLarge, Size, Unsized, Uncosted, Report}
 use Rattle.cert_types.specs.cert_rules.Known.{IsKnown}
 use Rattle.cert_types.specs.cert_program.Setting.{setting_of}
-use Rattle.bound_fixpoint.specs.Answers.{Target, TimeOf, SizesOf, Lacks, TellsTime, Tells}
+use Rattle.bound_fixpoint.specs.Answers.{Target, TimeOf, SizesOf, Lacks, AnswersTime, AnswersTarget}
 use Rattle.bound_fixpoint.specs.Derivations.{Derivation, bounds_of}
 use Rattle.bound_fixpoint.specs.Keys.{Bounds, over}
 use Rattle.bound_fixpoint.specs.Rounds.{IsAskedFor, IsNoBound}
@@ -36,34 +36,34 @@ module _ (p : Program) (pivots : ℕ) (valid : IsValid p) (fs : List Derivation)
   begun : IsKnown (bounds_of p fs 0 0)
   begun = (Constant 1, refl)
 
-  -- why a rule has no time with the derivations
+  -- the reason why a rule has no time with the derivations is true
   no_time_so : (t : ℕ) (why : NoTime) → IsNoBound (searches_of_program p pivots) (setting_of p) fs t 0 (OfTime why)
       → HasNoTime p pivots (bounds_of p fs) t why
-  no_time_so t why h = go h.target h.asked h.tells
+  no_time_so t why h = go h.target h.asked h.is_answer
     where
       go : (g : Target) → IsAskedFor (searches_of_program p pivots) (setting_of p) t 0 g
-          → Tells (searches_of_program p pivots) (setting_of p) (bounds_of p fs) g (Lacks (OfTime why))
+          → AnswersTarget (searches_of_program p pivots) (setting_of p) (bounds_of p fs) g (Lacks (OfTime why))
           → HasNoTime p pivots (bounds_of p fs) t why
-      go (TimeOf u) asked tells =
+      go (TimeOf u) asked is_answer =
           time_so p pivots valid (bounds_of p fs) begun t asked.0 why
-          (subst (λ (n : ℕ). TellsTime (searches_of_program p pivots) (setting_of p) (bounds_of p fs) n (Lacks (OfTime why)))
-          asked.1 tells)
-      go (SizesOf keys) asked tells = absurd asked
+          (subst (λ (n : ℕ). AnswersTime (searches_of_program p pivots) (setting_of p) (bounds_of p fs) n (Lacks (OfTime why)))
+          asked.1 is_answer)
+      go (SizesOf keys) asked is_answer = absurd asked
 
-  -- why a place has no size with them
+  -- the reason why a place has no size with them is true
   no_size_so : (t j : ℕ) (why : NoSize)
       → IsNoBound (searches_of_program p pivots) (setting_of p) fs t (suc j) (OfSize why)
       → HasNoSize p pivots (bounds_of p fs) t (suc j) why
-  no_size_so t j why h = go h.target h.asked h.tells
+  no_size_so t j why h = go h.target h.asked h.is_answer
     where
       go : (g : Target) → IsAskedFor (searches_of_program p pivots) (setting_of p) t (suc j) g
-          → Tells (searches_of_program p pivots) (setting_of p) (bounds_of p fs) g (Lacks (OfSize why))
+          → AnswersTarget (searches_of_program p pivots) (setting_of p) (bounds_of p fs) g (Lacks (OfSize why))
           → HasNoSize p pivots (bounds_of p fs) t (suc j) why
-      go (TimeOf u) asked tells = absurd asked
-      go (SizesOf keys) (cs, are, one, has) tells =
-          place_so p pivots valid (bounds_of p fs) t (suc j) cs are keys one has why tells
+      go (TimeOf u) asked is_answer = absurd asked
+      go (SizesOf keys) (cs, are, one, has) is_answer =
+          place_so p pivots valid (bounds_of p fs) t (suc j) cs are keys one has why is_answer
 
--- what is said of the reason of a cost is true of the program
+-- the reason why a cost has no bound is true
 cost_so : (p : Program) (pivots : ℕ) → IsValid p → (b : Bounds) (t : ℕ) (why : NoSize) → IsCostOf p pivots (over b) t (NotBounded why)
     → HasNoCost p pivots b t why
 cost_so p pivots valid b t why is = go why (reasons-true.each p pivots (over b) t why valid is)
@@ -81,7 +81,7 @@ cost_so p pivots valid b t why is = go why (reasons-true.each p pivots (over b) 
     go (SizeLarge n) k = k
 
 module _ (p : Program) (pivots : ℕ) (valid : IsValid p) (r : Report) (h : IsAnalysis p pivots r) where
-  -- each reason of a time
+  -- each reason of a time in the report is true
   time_why : (t : ℕ) (why : NoTime) → numbered_entry r.times t ≡ Some (Untimed why)
       → HasNoTime p pivots (bounds_said p r) t why
   time_why zero why e = absurd (none_some (Untimed why) e)
@@ -89,14 +89,14 @@ module _ (p : Program) (pivots : ℕ) (valid : IsValid p) (r : Report) (h : IsAn
       subst (λ (b : Bounds). HasNoTime p pivots b (suc k) why) (sym (said_known p pivots valid r h))
       (no_time_so p pivots valid h.derivations (suc k) why (time-sound_at p pivots valid r h k (Untimed why) e))
 
-  -- each reason of a cost
+  -- each reason of a cost in the report is true
   cost_why : (t : ℕ) (why : NoSize) → numbered_entry r.costs t ≡ Some (Some (Uncosted why)) → HasNoCost p pivots (bounds_said p r) t why
   cost_why zero why e = absurd (none_some (Some (Uncosted why)) e)
   cost_why (suc k) why e =
       subst (λ (b : Bounds). HasNoCost p pivots b (suc k) why) (sym (said_known p pivots valid r h))
       (cost_so p pivots valid (bounds_of p h.derivations) (suc k) why (costed_at p pivots valid r h k (Some (Uncosted why)) e))
 
-  -- and of a size
+  -- each reason of a size in the report is true
   place_why : (k i : ℕ) (why : NoSize) (o : Option (List Size)) → slice_get r.sizes k ≡ o
       → place_entry o i ≡ Some (Unsized why) → HasNoSize p pivots (bounds_said p r) (suc k) i why
   place_why k i why None e f = absurd (none_some (Unsized why) f)
@@ -110,7 +110,7 @@ module _ (p : Program) (pivots : ℕ) (valid : IsValid p) (r : Report) (h : IsAn
   size_why zero i why e = absurd (none_some (Unsized why) e)
   size_why (suc k) i why e = place_why k i why (slice_get r.sizes k) refl e
 
-  -- all of them
+  -- all reasons in the report are true
   pub reasons_so : ReasonsAreTrue p pivots r
   reasons_so = record { times = time_why; costs = cost_why; sizes = size_why }
 

@@ -19,7 +19,7 @@ flag_at [] t l = absurd (omega (arith, l))
 flag_at (o ∷ xs) zero l = lacks_stored o
 flag_at (o ∷ xs) (suc t) l = flag_at xs t (omega (arith, l))
 
--- the flags of what isn't stored say which rules have no time
+-- the flags of times that aren't stored say which rules have no time
 pub are_untimed : (p : Program) (tab : Table) (empties : List GuardFeasibility) → IsTable p tab empties
     → AreUntimed p tab (map is_unstored tab.times.items)
 are_untimed p tab empties h = record {

@@ -1,4 +1,4 @@
--- What rounds find, with the entries of times and sizes, is the program's analysis.
+-- The last derivations, with the entries of times and sizes, are the program's analysis.
 use Rattle.std.proofs.Common.{◌≡◌, ℕ, suc, ◌+◌, true, false, List, [], ◌∷◌, length, map, Vec, Option, Some, None, refl, sym}
 use Rattle.std.proofs.Common.{◌∙◌, ap, subst, arith}
 use Rattle.std.specs.List.{list_any, remove}
@@ -37,7 +37,7 @@ use Rattle.time_bounds.proofs.AnalysisOfDerivations.{IsAnalysisWith, analysis_of
 use Rattle.time_bounds.proofs.SaidSizes.{rows_said, said_right, said_places, many}
 use Rattle.model.proofs.Cases.{none_some}
 
--- bounds that grew from others which grew from them are the same
+-- if bounds grow to others, and these to the first, they are the same
 same_between : (b c : Bounds) → HasGrown b c → HasGrown c b → c ≡ b
 same_between b c up down = λ j t i. go t i (b t i) refl j
   where
@@ -49,7 +49,7 @@ same_between b c up down = λ j t i. go t i (b t i) refl j
     go t i (Some x) e = up.each t i x e ∙ sym e
     go t i None e = missing t i e (c t i) refl
 
--- what was made of components between the same bounds was made over them
+-- attempts at components between the same bounds are attempts over them
 pub at_last : (p : Program) (pivots : ℕ) (b : Bounds) (cs : List Candidate) (xs : List ComponentAttempt) → WereAttempts p pivots b b cs xs
     → length xs ≡ length cs → AreAttempts p pivots b cs xs
 at_last p pivots b [] [] h long = tt
@@ -60,7 +60,7 @@ at_last p pivots b (c ∷ cs) (x ∷ xs) h long = (
   at_last p pivots b cs xs h.1 (omega (arith, long)),
 )
 
--- and no size was found
+-- no size was found by these attempts
 pub none_sized : (p : Program) (pivots : ℕ) (b : Bounds) (cs : List Candidate) (xs : List ComponentAttempt) → WereAttempts p pivots b b cs xs
     → length xs ≡ length cs → list_any is_sized xs ≡ false
 none_sized p pivots b [] [] h long = refl
@@ -75,7 +75,7 @@ none_sized p pivots b (c ∷ cs) (x ∷ xs) h long =
         let same = same_between b was.between was.after was.before in
         absurd (no_is_not_yes (are_open b (result_variables_in c)) (was.found refl)
         (subst (λ (d : Bounds). are_open d (result_variables_in c) ≡ true) same was.attempt))
-    one attempts.Armless was rest = rest
+    one attempts.HasNoSideBound was rest = rest
     one (attempts.Failed a) was rest = rest
 
 -- the lengths of the rows of entries
@@ -92,7 +92,7 @@ module _ (p : Program) (pivots : ℕ) (cs : List Candidate) (tab : Table) (deriv
     (derived : AreDerivedBounds p tab derivations) (found : AreCandidatesOf p pivots cs)
     (last : IsLast (searches_of_program p pivots) (setting_of p) (derivations_of derivations))
     (tried : AreAttempts p pivots (bounds_of p (derivations_of derivations)) cs xs) (nothing : list_any is_sized xs ≡ false) where
-  -- the rows of entries, without that of the virtual entry
+  -- the rows of entries after that of the virtual entry are the program's analysis
   pub whole_analysis : (first : Vec SizeEntry Global) (rows : List (Vec SizeEntry Global))
       → map (λ row. map (λ e. Some (size_of e)) row.items) (first ∷ rows) ≡ put_whys (said_table tab) cs xs → o.sizes.items ≡ rows
       → length o.times.items ≡ length p.rules
@@ -122,7 +122,7 @@ module _ (p : Program) (pivots : ℕ) (cs : List Candidate) (tab : Table) (deriv
           ∙ said_places p pivots tab derivations derived cs found last.made xs tried nothing in
           cc
 
-  -- so are all rows of entries, where the first is left out
+  -- all rows of entries, with the first one removed, are the program's analysis
   pub removed_analysis : (sizes : List (Vec SizeEntry Global))
       → map (λ row. map (λ e. Some (size_of e)) row.items) sizes ≡ put_whys (said_table tab) cs xs → o.sizes.items ≡ remove sizes 0
       → length o.times.items ≡ length p.rules

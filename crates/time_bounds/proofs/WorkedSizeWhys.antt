@@ -29,7 +29,7 @@ use Rattle.bound_fixpoint.specs.Keys.{Bounds, key}
 use Rattle.bound_fixpoint.proofs.Cases.{either}
 use Rattle.time_bounds.specs.SaidBounds.{bounds_said}
 use Rattle.time_bounds.specs.CostWhys.{HasNoCost}
-use Rattle.time_bounds.specs.SizeWhys.{PassesEveryForm, PlaceHitsLimitSo, RestsOnSize, BendsAt, GrowsUntimed, HasNoSize}
+use Rattle.time_bounds.specs.SizeWhys.{PassesEveryForm, PlaceHitsLimitSo, RestsOnSize, MultipliesAt, GrowsUntimed, HasNoSize}
 use Rattle.time_bounds.specs.TimeWhys.{HasNoTime}
 use Rattle.time_bounds.specs.WorkedReports.{along_free, from_one}
 use Rattle.time_bounds.specs.WorkedSizeWhys.{guessing_alone, limit_hit_from, SmallPlacesAreWorkedOut, alone_with}
@@ -57,7 +57,7 @@ other_rule h =
     either h.hits_limit (λ own. let e = own.question in (let none : ⊥ = cc in none))
     (λ empty. let e = empty.hits_limit.hits_limit.0 in (let none : ⊥ = cc in none))
 
--- what is in a filtered list of the rules of the program that stays is no rule 2
+-- rule 2 is in no filtered list of the rules of the program with one rule
 no_second : (test : ℕ → Bool) → is_in 2 (filter test (0 ∷ 1 ∷ [])) ≡ true → ⊥
 no_second test m = no_is_not_yes false refl (filter-in test (0 ∷ 1 ∷ []) 2 m).0
 
@@ -67,13 +67,13 @@ from_nowhere b h = no_second (λ e. comes_before looping e h.member.result_varia
 for_itself : (b : Bounds) → RestsOnSize guessed 10 b 2 1 (key 2 1) → ⊥
 for_itself b h = no_is_not_yes _ h.outside h.component.inside
 
--- a side bound of a place without a polynomial bends nothing
+-- a side bound of a place without a polynomial isn't nonlinear
 side_bound_straight : (members : List Member) (m : Member) (e : ℕ) (poly : Option Polynomial) → poly_at (setting_of looping) m.result_variable ≡ poly
     → poly ≡ None → (a : SideBound) → IsStraightSideBound (setting_of looping) members m e a
 side_bound_straight members m e poly is none (Linear den form multipliers) = tt
 side_bound_straight members m e poly is none Poly = λ j r. absurd (no_is_not_yes false refl (subst (λ (q : Option Polynomial). reads q Poly j ≡ true) (is ∙ none) r))
 
-straight_at : (b : Bounds) (k : ResultVariable) → poly_at (setting_of looping) k ≡ None → BendsAt looping 10 b 1 1 k → ⊥
+straight_at : (b : Bounds) (k : ResultVariable) → poly_at (setting_of looping) k ≡ None → MultipliesAt looping 10 b 1 1 k → ⊥
 straight_at b k none h =
     let is : poly_at (setting_of looping) h.member.result_variable ≡ None = ap (poly_at (setting_of looping)) h.same ∙ none in
     h.nonlinear record {
@@ -104,7 +104,7 @@ places = record {
     sides b Up h = square b h
     sides b Low h = square_low b h
 
--- the free value of the rule alone passes every form
+-- the free value of the rule alone exceeds every form
 alone_unbounded : (b : Bounds) → HasNoSize guessing_alone 10 b 1 1 (SizeUnbounded Up along_free from_one)
 alone_unbounded b = record {
   rule = _;
@@ -145,7 +145,7 @@ whole_costs zero why e = absurd (none_some (Some (Uncosted why)) e)
 whole_costs (suc zero) why e = absurd (let none : ⊥ = cc in none)
 whole_costs (suc (suc k)) why e = absurd (none_some (Some (Uncosted why)) e)
 
--- it doesn't rise on the low side
+-- the free value doesn't rise on the low side
 not_down : PassesEveryForm guessing_alone 1 1 Low along_free from_one → ⊥
 not_down h =
     down (of_rule (λ r. IsUnboundedRay (prepared r).rows (prepared r).left (value_on Low (prepared r) 1) (at along_free)) _

@@ -38,7 +38,7 @@ use Rattle.time_bounds.proofs.StayingRule.{staying_so}
 own : EachHasItsOwn
 own = record { first_time = refl; second_time = refl; first_size = refl; second_size = refl; no_third = refl }
 
--- a rule after another that is the same
+-- 1 and 2 are numbers of rules
 two_rules : (t : ℕ) → is_in t (1 ∷ 2 ∷ []) ≡ true → IsRule twice t
 two_rules t h = of_two (IsRule twice) 1 2 (record { rule = _; numbered = refl }) (record { rule = _; numbered = refl }) t h
 
@@ -88,7 +88,7 @@ alone_holds =
     (both alone_shape (both (no_rows one) (both (no_rows nowhere) (both free_kept (both refl (both refl
     (both (loses_one 0) tt)))))))
 
--- a floor with a denominator unbalances the constant
+-- a floor with a denominator doesn't balance the constant
 unbalanced : GapHolds looping (forms_at looping) (gap_alone 1 one one one) → ⊥
 unfolding divisor_of
 unbalanced h =
@@ -136,7 +136,7 @@ gaps = record {
   not_balanced = λ h. unbalanced h.shown;
 }
 
--- no rule's emptiness question is a rank question
+-- the limit hit of a rank question isn't one of a rule's feasibility question
 never_first : (cause : LimitCause) (ts : List ℕ) → FirstHitsLimitSo looping 10 ts (own_limit_hit cause) → ⊥
 never_first cause [] h = h
 never_first cause (t ∷ ts) (inl h) = let e = h.hits_limit.0 in (let none : ⊥ = cc in none)

@@ -37,7 +37,7 @@ bounds = record {
   no_third = refl;
 }
 
--- the limit hit of a ranking question is none of a rule's own question
+-- the limit hit of a ranking question isn't one of a rule's feasibility question
 never_first : (ts : List ℕ) → FirstHitsLimitSo looping 10 ts other_limit_hit → ⊥
 never_first [] h = h
 never_first (t ∷ ts) (inl h) = let e = h.hits_limit.0 in (let none : ⊥ = cc in none)

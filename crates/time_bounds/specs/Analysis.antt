@@ -21,7 +21,7 @@ abbrev pub IsTimeOf : Searches → Program → List Derivation → ℕ → Time 
 IsTimeOf q p fs t (Timed b) = bounds_of p fs t 0 ≡ Some b
 IsTimeOf q p fs t (Untimed why) = IsNoBound q (setting_of p) fs t 0 (OfTime why)
 
--- the same for each rule from k on, in order
+-- the same for each rule from rule k on, in order
 abbrev pub AreTimesOf : Searches → Program → List Derivation → ℕ → List Time → Type 0
 AreTimesOf q p fs k times = EachNumbered (IsTimeOf q p fs) k times
 
@@ -35,12 +35,12 @@ IsSizeOf q p fs t i (Unsized why) = IsNoBound q (setting_of p) fs t i (OfSize wh
 abbrev pub AreSizesOf : Searches → Program → List Derivation → ℕ → ℕ → List Size → Type 0
 AreSizesOf q p fs t i sizes = EachNumbered (IsSizeOf q p fs t) i sizes
 
--- and of the places of each rule from t on, in order
+-- the same for the places of each rule from rule t on, in order
 abbrev pub AreSizeRowsOf : Searches → Program → List Derivation → ℕ → List (List Size) → Type 0
 AreSizeRowsOf q p fs t rows = EachNumbered (λ u row. AreSizesOf q p fs u 1 row) t rows
 
--- the entry of the cost of rule t follows from known bounds: there is none where the rule has no cost; else it is the
--- bound that is composed of them, as its certificate says; or the first reason why there is none
+-- the entry of the cost of rule t follows from known bounds: the rule has no cost and no entry; or the entry is the
+-- bound that is composed of them, by its certificate; or it is the first reason why there is none
 abbrev pub IsCostOver : Program → ℕ → Bounds → ℕ → Option RuleCost → Type 0
 IsCostOver p pivots b t None = ¬ (HasCost p t)
 IsCostOver p pivots b t (Some (Costed x)) =
@@ -51,10 +51,10 @@ IsCostOver p pivots b t (Some (Uncosted why)) = IsCostOf p pivots (over b) t (No
 abbrev pub AreCostsOver : Program → ℕ → Bounds → ℕ → List (Option RuleCost) → Type 0
 AreCostsOver p pivots b t costs = EachNumbered (IsCostOver p pivots b) t costs
 
--- the report is that of the last derivations of the rounds, over the searches of the program with this many pivots: of
--- each rule the time that is known with them, or why none is; of each rule with a cost the bound on it over what is
--- known with them, or why there is none; of each place of its target the size that is known, or why none is; and the
--- rewritten sum of what each rule spends at most, where all of this has a bound
+-- the report is that of the last derivations of the rounds, over the searches of the program with this many pivots: for
+-- each rule the known time, or why there is none; for each rule with a cost the bound on it over the known bounds, or
+-- why there is none; for each place of its target the known size, or why there is none; and the rewritten sum of what
+-- each rule spends at most, if all of this has a bound
 pub record IsAnalysis (p : Program) (pivots : ℕ) (r : Report) : Type 0 where
   pub derivations : List Derivation
   pub last : IsLast (searches_of_program p pivots) (setting_of p) derivations

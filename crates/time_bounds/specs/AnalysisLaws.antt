@@ -37,8 +37,8 @@ number_of_cost (Some (costs.Large n)) = 0
 abbrev pub number_of_size : SizeEntry → ℕ
 number_of_size x = lemma_stored (size_stored x)
 
--- two outcomes are one as plain data: they have the same report, the same lemmas and the same gaps, in order, and what
--- they say of each time and of each size carries the same number
+-- two outcomes are one as plain data: they have the same report, the same lemmas and the same gaps, in order, and the
+-- entries of each time and of each size carry the same numbers
 pub record AreOneOutcome (x y : Outcome) : Type 0 where
   pub report : report_of x ≡ report_of y
   pub lemmas : map proof_of x.lemmas.items ≡ map proof_of y.lemmas.items

@@ -37,14 +37,14 @@ use Rattle.time_bounds.specs.ProgramSearches.{searches_of_program}
 abbrev pub CarriesTime : (ℕ → ℕ → ℕ) → ℕ → TimeEntry → Type 0
 CarriesTime number t x = CarriesNumber (number t 0) (time_stored x)
 
--- the entry of a place's size carries its number, and so do those of the places after a rule
+-- the entry of a place's size carries the number of its lemma; and so do the entries of the places after a rule
 abbrev pub CarriesSize : (ℕ → ℕ → ℕ) → ℕ → ℕ → SizeEntry → Type 0
 CarriesSize number t i x = CarriesNumber (number t i) (size_stored x)
 
 abbrev pub CarriesSizes : (ℕ → ℕ → ℕ) → ℕ → List SizeEntry → Type 0
 CarriesSizes number t row = EachNumbered (CarriesSize number t) 1 row
 
--- the gaps that times name are numbered in the order of rules: the first behind n earlier ones has the number n + 1,
+-- the gaps that times name are numbered in the order of rules: the first one after n earlier ones has the number n + 1,
 -- and so on, and after the last one there are this many
 abbrev pub AreGapsInOrder : ℕ → List TimeEntry → ℕ → Type 0
 AreGapsInOrder n [] count = n ≡ count
@@ -53,8 +53,8 @@ AreGapsInOrder n (times.Gap g ∷ entries) count = (g ≡ suc n) × AreGapsInOrd
 AreGapsInOrder n (times.OutOfLimits x ∷ entries) count = AreGapsInOrder n entries count
 AreGapsInOrder n (times.Large k ∷ entries) count = AreGapsInOrder n entries count
 
--- the known costs of rules carry numbers in the order of rules: the first behind n earlier lemmas carries n + 1, and so
--- on
+-- the known costs of rules carry numbers in the order of rules: the first one after n earlier lemmas carries n + 1, and
+-- so on
 abbrev pub CarryCosts : ℕ → List (Option CostEntry) → Type 0
 CarryCosts n [] = ⊤
 CarryCosts n (None ∷ entries) = CarryCosts n entries

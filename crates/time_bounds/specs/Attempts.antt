@@ -22,7 +22,7 @@ use Rattle.time_bounds.specs.declared.candidates.Candidate.{Candidate}
 use Rattle.time_bounds.specs.declared.candidates.SideBounds.{SideBounds}
 use Rattle.time_bounds.specs.declared.candidates.SideBounds.TheVariants as side_bounds
 use Rattle.time_bounds.specs.declared.sizing.ComponentAttempt.{ComponentAttempt}
-use Rattle.time_bounds.specs.declared.sizing.ComponentAttempt.TheVariants.{Known, Found, Armless, Failed}
+use Rattle.time_bounds.specs.declared.sizing.ComponentAttempt.TheVariants.{Known, Found, HasNoSideBound, Failed}
 use Rattle.time_bounds.specs.Candidates.{result_variables_in}
 use Rattle.time_bounds.specs.ProgramSearches.{searches_of_program}
 
@@ -49,7 +49,7 @@ why_armless (side_bounds.Loop members) = None
 abbrev pub why_of : Candidate → ComponentAttempt → Option NoSize
 why_of c Known = None
 why_of c Found = None
-why_of c Armless = why_armless c.side_bounds
+why_of c HasNoSideBound = why_armless c.side_bounds
 why_of c (Failed a) = why_by a
 
 -- the candidate was tried over bounds, and has no size for this reason
@@ -63,10 +63,10 @@ pub record LacksSize (p : Program) (pivots : ℕ) (b : Bounds) (c : Candidate) (
 abbrev pub IsAttempt : Program → ℕ → Bounds → Candidate → ComponentAttempt → Type 0
 IsAttempt p pivots b c Known = are_open b (result_variables_in c) ≡ false
 IsAttempt p pivots b c Found = are_open b (result_variables_in c) ≡ true
-IsAttempt p pivots b c Armless = LacksSize p pivots b c Armless
+IsAttempt p pivots b c HasNoSideBound = LacksSize p pivots b c HasNoSideBound
 IsAttempt p pivots b c (Failed a) = LacksSize p pivots b c (Failed a)
 
--- of each candidate, in order
+-- the same for each candidate, in order
 abbrev pub AreAttempts : Program → ℕ → Bounds → List Candidate → List ComponentAttempt → Type 0
 AreAttempts p pivots b [] [] = ⊤
 AreAttempts p pivots b [] (x ∷ attempts) = ⊥
@@ -77,7 +77,7 @@ AreAttempts p pivots b (c ∷ cs) (x ∷ attempts) = IsAttempt p pivots b c x ×
 abbrev pub is_sized : ComponentAttempt → Bool
 is_sized Known = false
 is_sized Found = true
-is_sized Armless = false
+is_sized HasNoSideBound = false
 is_sized (Failed a) = false
 
 -- the attempt that an answer for a candidate gives
@@ -117,7 +117,7 @@ derivations_by keys node (answers.Large n) = []
 pub record ArePlacesOf (p : Program) (c : Candidate) : Type 0 where
   pub each : All (λ m. IsRule p m.rule × IsPlace p m.rule m.place) (result_variables_in c)
 
--- a candidate is tried over derivations, which gives more
+-- trying a candidate over the old derivations gives the new ones
 pub record IsSizeStep (p : Program) (pivots : ℕ) (old : List Derivation) (c : Candidate) (x : ComponentAttempt) (new : List Derivation)
     : Type 0 where
   pub more : List plain.Derivation

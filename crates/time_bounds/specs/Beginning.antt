@@ -22,7 +22,7 @@ abbrev pub empty_derivations : ℕ → List GuardFeasibility → List Derivation
 empty_derivations t [] = []
 empty_derivations t (a ∷ empties) = empty_here t a ++ empty_derivations (t + 1) empties
 
--- the key of the time of rule t, if its status is that its guard is infeasible; and of the rules from t on
+-- the key of the time of rule t, if its status is that its guard is infeasible; and those of the rules from t on
 abbrev pub empty_key : ℕ → RuleStatus → List ResultVariable
 empty_key t Empty = time_key t ∷ []
 empty_key t Unreached = []

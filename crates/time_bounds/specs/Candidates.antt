@@ -31,16 +31,16 @@ is_bound (answers.Bound l) = true
 is_bound (answers.UnboundedSide l) = false
 is_bound (answers.OutOfLimits t) = false
 
--- a place with its local bound
+-- a result variable with its local bound
 pub record IsMember (local : Locals) (result_variable : ResultVariable) (m : Member) : Type 0 where
   pub result_variable_is : m.result_variable ≡ result_variable
   pub bound_is : local result_variable.rule result_variable.place ≡ HasBound m.local
 
--- there is one member at least, and where they don't loop there is one
+-- there is at least one member, and a component that doesn't loop has exactly one
 pub record IsLone (looping : Bool) (result_variables : List ResultVariable) : Type 0 where
   pub only : looping ≡ false → (m : ResultVariable) × (result_variables ≡ m ∷ [])
 
--- each member of a component has an answer, and where it doesn't loop there is one member
+-- each member of a component has an answer, and a component that doesn't loop has one member
 pub record IsAnswered (locals : List (List LocalAnswer)) (c : Component) : Type 0 where
   pub answered : AreAnswered locals (members_of c)
   pub lone : IsLone c.looping (members_of c)
@@ -54,7 +54,7 @@ AreSideBounds local result_variables looping (side_bounds.Alone m) =
 AreSideBounds local result_variables looping (side_bounds.Loop members) =
     (lacks_side_bounds local result_variables ≡ None) × (looping ≡ true) × AreMembers local result_variables (map member_of members.items)
 
--- members are the only one, which doesn't loop, or those of a loop
+-- the side bounds are those of the only member, which doesn't loop, or of the members of a loop
 abbrev pub IsSideBoundsOf : List code.Member → Bool → SideBounds → Type 0
 IsSideBoundsOf members looping (side_bounds.Lacking entry) = ⊥
 IsSideBoundsOf members looping (side_bounds.Alone m) = (looping ≡ false) × (members ≡ m ∷ [])
@@ -65,7 +65,7 @@ pub record IsArmed (local : Locals) (component : Component) (c : Candidate) : Ty
   pub result_variables_are : result_variables_in c ≡ members_of component
   pub side_bounds_are : AreSideBounds local (members_of component) component.looping c.side_bounds
 
--- each of these has the side bounds of one of these components, in order
+-- each candidate has the members of one of these components, in order, with their side bounds
 abbrev pub AreArmed : Locals → List Component → List Candidate → Type 0
 AreArmed local [] [] = ⊤
 AreArmed local [] (c ∷ cs) = ⊥
@@ -78,7 +78,7 @@ pub record IsAccepted (p : Program) (m : Member) : Type 0 where
   pub up : AcceptsUp (setting_of p) m
   pub low : AcceptsLow (setting_of p) m
 
--- the side bounds of the members of a loop are accepted, too
+-- the side bounds of the members of a loop are accepted
 pub record AreAccepted (p : Program) (members : List Member) : Type 0 where
   pub shape : HasCycleShape (setting_of p) members
   pub up : All (AcceptsUp (setting_of p)) members
@@ -89,7 +89,7 @@ HasAccepted p (side_bounds.Lacking entry) = ⊤
 HasAccepted p (side_bounds.Alone m) = IsAccepted p (member_of m)
 HasAccepted p (side_bounds.Loop members) = AreAccepted p (map member_of members.items)
 
--- the places are answered so, and have these side bounds, which are accepted
+-- the places of the candidate have these answers, and its side bounds are accepted
 pub record IsRightCandidate (p : Program) (pivots : ℕ) (local : Locals) (c : Candidate) : Type 0 where
   pub answered : AreLocalsOf p pivots local (result_variables_in c)
   pub side_bounds_are : AreSideBounds local (result_variables_in c) (loops (setting_of p) local (result_variables_in c)) c.side_bounds

@@ -18,7 +18,7 @@ use Rattle.cost_bounds.specs.CostOutcomes.{BoundedBy, NotBounded, IsCostOf}
 use Rattle.time_bounds.specs.Analysis.{AreCostsOver}
 use Rattle.time_bounds.specs.AnalysisLemmas.{AreCertified, CarryCosts}
 
--- the cost of rule t isn't bounded over known bounds, for the reason of an entry; and no lemma was added
+-- the cost of rule t isn't bounded over known bounds, for the reason of an entry; no lemma was added
 abbrev pub AddsNone : Program → ℕ → Bounds → ℕ → CostEntry → List Proof → List Proof → Type 0
 AddsNone p pivots b t (costs.Known s) old new = ⊥
 AddsNone p pivots b t (costs.UnboundedSide l) old new = IsCostOf p pivots (over b) t (NotBounded (unbounded_of l)) × (new ≡ old)
@@ -41,8 +41,8 @@ AddsCost p pivots b number t (Some (costs.Missing m)) old new = AddsNone p pivot
 AddsCost p pivots b number t (Some (costs.Untimed u)) old new = AddsNone p pivots b t (costs.Untimed u) old new
 AddsCost p pivots b number t (Some (costs.Large n)) old new = AddsNone p pivots b t (costs.Large n) old new
 
--- the entries of the costs of the first rules, in order; and behind lemmas before, those of the costs that have a bound,
--- whose numbers the entries carry
+-- the entries of the costs of the first rules, in order; the lemmas of the costs that have a bound were appended to the
+-- earlier ones, and the entries carry their numbers
 pub record AreCostEntries (p : Program) (pivots : ℕ) (b : Bounds) (number : ℕ → ℕ → ℕ) (before : List Proof)
     (entries : List (Option CostEntry)) (lemmas : List Proof) : Type 0 where
   pub each : AreCostsOver p pivots b 1 (map (option_map cost_of) entries)

@@ -9,9 +9,10 @@ use Rattle.bound_fixpoint.specs.Keys.{Bounds, over}
 use Rattle.cost_bounds.specs.CostReasons.{prepared_cost, HasNoCostBound, StepIsUnbounded}
 use Rattle.time_bounds.specs.SizeWhys.{PassesForms}
 
--- the cost of one step passes every affine form in the arguments, from the point along the ray: so no affine form in the
--- arguments bounds it on all rational points of the cost rows, which are those of the guard and that the cost is at least
--- 0. A cost of degree 2 or more counts as a variable of its own there, and comparisons of degree 2 or more have no rows
+-- the cost of one step passes every affine form in the arguments, from the point along the ray: so no affine form in
+-- the arguments bounds it on all rational points of the cost rows, which are those of the guard and that the cost is at
+-- least 0. A cost of degree 2 or more counts as a variable of its own there, and comparisons of degree 2 or more have
+-- no rows
 pub record CostPassesForms (p : Program) (t : ℕ) (side : Side) (ray : List ℤ) (kept : ScaledPoint) : Type 0 where
   pub step : StepIsUnbounded p t side ray kept
   pub passes : PassesForms (prepared_cost step.costs).rows (prepared_cost step.costs).left

@@ -13,26 +13,26 @@ use Rattle.time_bounds.specs.declared.sizing.ComponentAttempt.TheVariants as att
 use Rattle.time_bounds.specs.Attempts.{IsAttempt, is_sized}
 use Rattle.time_bounds.specs.Candidates.{result_variables_in}
 
--- all that was known is
+-- all bounds that were known still are
 pub record HasGrown (old new : Bounds) : Type 0 where
   pub each : (t i : ℕ) (b : Bound) → old t i ≡ Some b → new t i ≡ Some b
 
 -- the reason of an answer remains true over a table: what was missing is missing; a nonlinear side bound and a large
 -- bound remain reasons
-abbrev pub ReasonStands : Table → Sizing → Type 0
-ReasonStands tab (Found premises bound) = ⊥
-ReasonStands tab (Missing m) = tab.size m.rule m.place ≡ None
-ReasonStands tab (Nonlinear m) = ⊤
-ReasonStands tab (Untimed t) = tab.time t ≡ None
-ReasonStands tab (Large n) = ⊤
+abbrev pub ReasonIsTrue : Table → Sizing → Type 0
+ReasonIsTrue tab (Found premises bound) = ⊥
+ReasonIsTrue tab (Missing m) = tab.size m.rule m.place ≡ None
+ReasonIsTrue tab (Nonlinear m) = ⊤
+ReasonIsTrue tab (Untimed t) = tab.time t ≡ None
+ReasonIsTrue tab (Large n) = ⊤
 
 -- there is such an answer at a position, and its reason remains true over the table
-pub record StandsAt (tab : Table) (tried : List ComponentAttempt) (i : ℕ) (a : Sizing) : Type 0 where
+pub record IsTrueAnswerAt (tab : Table) (tried : List ComponentAttempt) (i : ℕ) (a : Sizing) : Type 0 where
   pub there : slice_get tried i ≡ Some (attempts.Failed a)
-  pub stands : ReasonStands tab a
+  pub stands : ReasonIsTrue tab a
 
--- this was the attempt at the candidate over bounds between these; where a size was found, each of its places has one
--- at last
+-- this was the attempt at the candidate over bounds between the first and the last ones; if a size was found, each of
+-- its places has one with the last ones
 pub record WasAttempt (p : Program) (pivots : ℕ) (first last : Bounds) (c : Candidate) (x : ComponentAttempt) : Type 0 where
   pub between : Bounds
   pub after : HasGrown first between
@@ -49,7 +49,7 @@ WereAttempts p pivots first last (c ∷ cs) (x ∷ attempts) =
     WasAttempt p pivots first last c x × WereAttempts p pivots first last cs attempts
 
 -- an earlier answer for the candidate, whose reason remains true with what is known
-pub record IsStanding (p : Program) (pivots : ℕ) (b : Bounds) (c : Candidate) (a : Sizing) : Type 0 where
+pub record IsStillTrue (p : Program) (pivots : ℕ) (b : Bounds) (c : Candidate) (a : Sizing) : Type 0 where
   pub first : Bounds
   pub was : WasAttempt p pivots first b c (attempts.Failed a)
-  pub stands : ReasonStands (over b) a
+  pub stands : ReasonIsTrue (over b) a

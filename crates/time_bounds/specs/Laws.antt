@@ -11,7 +11,7 @@ pub record SpendingsHold (p : Program) (bounds : List (Option Bound)) : Type 0 w
   pub holds : (i : ℕ) (b : Bound) → i < length bounds → slice_index_or bounds i None ≡ Some b → HoldsCost p (suc i) b
   pub based : (i : ℕ) (b : Bound) → i < length bounds → slice_index_or bounds i None ≡ Some b → IsBased b
 
--- where these bounds hold of all rules, every run costs at most what their total says
+-- if these bounds hold of all rules, every run costs at most what their total says
 pub record TotalsHold : Type 0 where
   pub each : (p : Program) (bounds : List (Option Bound)) (b : Bound) → SpendingsHold p bounds → total_of bounds ≡ Some b
       → HoldsTotal p b

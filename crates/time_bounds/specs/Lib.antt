@@ -1,9 +1,9 @@
--- the total, and what it is worth
+-- the total, and what it proves
 pub mod Totals
 pub mod Laws
 -- entries in order, and the numbers of lemmas
 pub mod Numbered
--- what is answered of a program, and the searches that it makes
+-- the answers about a program, and the searches on it
 pub mod ProgramRules
 pub mod ProgramSizes
 pub mod ProgramSearches
@@ -24,10 +24,10 @@ pub mod SizeSaid
 pub mod EarlierAnswers
 pub mod OpenDerivations
 pub mod RoundsMade
--- what is found before the first round
+-- the statuses of rules, and the derivations before the first round
 pub mod RuleStatuses
 pub mod Beginning
--- what an analysis says
+-- what the report of an analysis says
 pub mod Analysis
 pub mod AnalysisLemmas
 pub mod CostEntries
@@ -43,7 +43,7 @@ pub mod WorkedReports
 pub mod WorkedTimeWhys
 pub mod WorkedSizeWhys
 pub mod WorkedWhys
--- what is found can be printed
+-- derived bounds can be printed
 pub mod PrintableLaws
 -- the crates below, which callers name through this one
 pub use Rattle.rank_search.specs.rule_questions

@@ -20,7 +20,7 @@ is_live_rule_status Empty = false
 is_live_rule_status Unreached = false
 is_live_rule_status Live = true
 
--- these are answered of the places of a rule from i on
+-- these are the answers for the places of a rule from place i on
 abbrev pub AreAnswersAt : Prepared → ℕ → ℕ → GuardFeasibility → ℕ → List LocalAnswer → Type 0
 AreAnswersAt m t pivots empty i [] = ⊤
 AreAnswersAt m t pivots empty i (a ∷ answers) =
@@ -32,7 +32,7 @@ pub record AreAnswersAfter (p : Program) (pivots t : ℕ) (f : RuleStatus) (answ
   pub each : (i : ℕ) (a : LocalAnswer) → f ≡ Live → slice_get answers i ≡ Some a
       → IsLocalOf p pivots t (suc i) (local_answer_of a)
 
--- and so of each rule from k on, in order
+-- the same for each rule from rule k on, in order
 abbrev pub AreAllAnswers : Program → ℕ → ℕ → List RuleStatus → List (List LocalAnswer) → Type 0
 AreAllAnswers p pivots k [] [] = ⊤
 AreAllAnswers p pivots k [] (answers ∷ lists) = ⊥
@@ -45,6 +45,6 @@ abbrev pub answer_in : List (List LocalAnswer) → ℕ → ℕ → Option LocalA
 answer_in locals t zero = None
 answer_in locals t (suc i) = slice_get (answers_for locals t) i
 
--- each of these places has one
+-- each of these places has an answer
 abbrev pub AreAnswered : List (List LocalAnswer) → List ResultVariable → Type 0
 AreAnswered locals result_variables = All (λ m. (a : LocalAnswer) × (answer_in locals m.rule m.place ≡ Some a)) result_variables

@@ -18,7 +18,7 @@ time_stored (times.Gap g) = None
 time_stored (times.OutOfLimits x) = None
 time_stored (times.Large n) = None
 
--- and that of a size
+-- the bound of a size with its lemma, if it is known
 abbrev pub size_stored : SizeEntry → Option Stored
 size_stored (sizes.Known s) = Some s
 size_stored (sizes.UnboundedSide l) = None

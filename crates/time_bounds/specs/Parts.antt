@@ -16,8 +16,8 @@ pub record IsOpenSet (p : Program) (tab : Table) (t : ℕ) (s : OpenSet) : Type 
   pub set : IsSetOfRule p (bounds_in tab) t s.set.items
   pub shut : AreShutOf p (bounds_in tab) s.set.items (places_of s.shut.items)
 
--- the flags say which rules have no time; those that are in one component have the same set, and what was found for a
--- component is the set of each of them, with its shut places
+-- the flags say which rules have no time; rules of one component have the same set, and the set stored for a component
+-- is that of each of its rules, with its shut places
 pub record AreParts (p : Program) (tab : Table) (parts : Parts) : Type 0 where
   pub flags : AreUntimed p tab parts.untimed.items
   pub one_each : length parts.of_rules.items ≡ suc (length p.rules)

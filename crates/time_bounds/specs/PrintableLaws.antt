@@ -1,4 +1,4 @@
--- The bounds that are found of a program can be printed.
+-- The bounds derived for a program can be printed.
 use Rattle.std.specs.Prelude.{◌≡◌, ℕ, List, [], ◌∷◌, length, Option, Some, None, ⊤}
 use Rattle.model.specs.Programs.{Program}
 use Rattle.model.specs.Bounds.{Bound}

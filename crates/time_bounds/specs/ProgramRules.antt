@@ -1,4 +1,4 @@
--- The answers of `find_empty` and `find_rank` on the rules of a program within a number of pivots.
+-- The answers of the searches on the rules of a program within a number of pivots: on feasibility and on ranking.
 use Rattle.std.specs.Prelude.{◌≡◌, ℕ, List, Some}
 use Rattle.model.specs.Programs.{Program, Rule, rule_at}
 use Rattle.guard_prep.specs.Prepared.{prepared}
@@ -29,12 +29,12 @@ ranking_of (ranks.Ranked node) = Ranked (rank_of node)
 ranking_of (ranks.NoRank gap) = Unranked (gap_of gap)
 ranking_of (ranks.OutOfLimits t) = RankHitLimit t
 
--- this is answered of the emptiness of rule t
+-- this is the answer on the feasibility of rule t
 abbrev pub IsEmptinessOf : Program → ℕ → ℕ → Emptiness → Type 0
 IsEmptinessOf p pivots t e = (r : Rule) × (rule_at p t ≡ Some r)
     × ((a : GuardFeasibility) × (emptiness_of a ≡ e) × IsEmptyAnswer (prepared r) t pivots a)
 
--- the rule is empty: its rows have no point, as these multipliers show
+-- the rule is infeasible: its rows have no point, as these multipliers show
 abbrev pub IsEmptyRule : Program → ℕ → ℕ → Type 0
 IsEmptyRule p pivots t = (multipliers : List ℕ) × IsEmptinessOf p pivots t (NoPoint multipliers)
 

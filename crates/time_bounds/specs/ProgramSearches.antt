@@ -9,8 +9,9 @@ use Rattle.bound_fixpoint.specs.Searches.{Searches}
 use Rattle.time_bounds.specs.ProgramRules.{IsEmptinessOf, IsRankingOf}
 use Rattle.time_bounds.specs.ProgramSizes.{AreLive, AreLocals, AreLocalsOf, AnswersPlaces, lacks_side_bounds}
 
--- the searches of a program, where each linear program may take so many pivots: whether a rule is empty, which function
--- ranks a rule over a set, the components of the places of live rules, and which node gives a component its size
+-- the searches of a program, if each linear program may take this many pivots: whether a rule is infeasible, which
+-- function ranks a rule over a set, the components of the places of live rules, and which node gives a component its
+-- size
 abbrev pub searches_of_program : Program → ℕ → Searches
 searches_of_program p pivots = record {
   Empties = IsEmptinessOf p pivots;

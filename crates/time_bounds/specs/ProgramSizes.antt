@@ -23,18 +23,18 @@ use Rattle.bound_fixpoint.specs.Components.{IsDead}
 use Rattle.bound_fixpoint.specs.Right.{IsReasonFor}
 use Rattle.time_bounds.specs.ProgramRules.{IsEmptinessOf, IsEmptyRule, EmptyHitsLimitSo}
 
--- the rules that are live: those that don't never run
+-- the live rules: those that aren't known never to run
 pub record AreLive (p : Program) (pivots : ℕ) (is_live : ℕ → Bool) : Type 0 where
   pub is_empty : ℕ → Bool
   pub empty : (t : ℕ) → IsRule p t → (is_empty t ≡ true) ↔ IsEmptyRule p pivots t
   pub live : (t : ℕ) → (is_live t ≡ true) ↔ (IsRule p t × (¬ IsDead p is_empty t))
 
--- no linear program of a place exceeds a limit, and those of a side give no form
+-- no linear program of a place exceeds a limit, and those of one side give no form
 pub record LacksSide (m : Prepared) (place pivots : ℕ) (side : Side) (ray : List ℤ) : Type 0 where
   pub straight : is_polynomial_at m place ≡ false
   pub lacks : LacksForm m place pivots side ray
 
--- the new value bounds itself, as a polynomial in the arguments; or both its sides have forms
+-- the new value is its own bound, as a polynomial in the arguments; or both its sides have forms
 abbrev pub HasBounds : Prepared → ℕ → ℕ → LocalBound → Type 0
 HasBounds m place pivots l =
     ((is_polynomial_at m place ≡ true) × (l ≡ both_polynomial)) ⊎ HasSideBounds m place pivots l
@@ -51,15 +51,14 @@ pub record PointHitsLimitSo (p : Program) (pivots : ℕ) (m : Prepared) (result_
 abbrev pub HitsLimitAt : Program → ℕ → Prepared → ResultVariable → LimitHit → Type 0
 HitsLimitAt p pivots m result_variable x = IsOwnLimitHit m result_variable pivots x ⊎ PointHitsLimitSo p pivots m result_variable x
 
--- what is answered of a place: its bounds; a side without a form, and a point that the rule has; or which limit is
--- passed
+-- the answer for a place: its bounds; a side without a form, and a point of the rule; or the limit that is exceeded
 abbrev pub IsAnswerAt : Program → ℕ → Prepared → ResultVariable → Local → Type 0
 IsAnswerAt p pivots m result_variable (HasBound l) = HasBounds m result_variable.place pivots l
 IsAnswerAt p pivots m result_variable (IsUnboundedOn side ray kept) =
     LacksSide m result_variable.place pivots side ray × IsEmptinessOf p pivots result_variable.rule (HasPoint kept)
 IsAnswerAt p pivots m result_variable (HasHitLimit x) = HitsLimitAt p pivots m result_variable x
 
--- this is answered of a place after a rule
+-- the answer for a place after a rule
 pub record IsLocalOf (p : Program) (pivots : ℕ) (t i : ℕ) (x : Local) : Type 0 where
   pub rule : Rule
   pub numbered : rule_at p t ≡ Some rule
@@ -71,7 +70,7 @@ abbrev pub AreLocals : Program → ℕ → (ℕ → Bool) → Locals → Type 0
 AreLocals p pivots is_live local =
     (t i : ℕ) → is_live t ≡ true → IsPlace p t i → IsLocalOf p pivots t i (local t i)
 
--- and of each of these places
+-- the same for each of these places
 abbrev pub AreLocalsOf : Program → ℕ → Locals → List ResultVariable → Type 0
 AreLocalsOf p pivots local result_variables = All (λ m. IsLocalOf p pivots m.rule m.place (local m.rule m.place)) result_variables
 
@@ -105,7 +104,7 @@ pub record AreMembers (local : Locals) (result_variables : List ResultVariable) 
   pub result_variables_are : result_variables ≡ map (λ m. m.result_variable) members
   pub bounds_are : All (λ m. local m.result_variable.rule m.result_variable.place ≡ HasBound m.local) members
 
--- what is answered of places that don't loop: of the only one the node that gives it a size, or the first check that
+-- the answer for a component that doesn't loop: the node that gives its only place a size, or the first check that
 -- fails
 abbrev pub AnswersAlone : Setting → Table → List Member → SizeOutcome → Type 0
 AnswersAlone s tab [] answer = ⊥
@@ -113,7 +112,7 @@ AnswersAlone s tab (m ∷ []) (SizedBy node) = (node ≡ SpreadBy m) × AcceptsS
 AnswersAlone s tab (m ∷ []) (Unsized why) = (r : Reason) × IsReasonFor why r × IsFirstAmong (spread_checks s tab m) r
 AnswersAlone s tab (m ∷ n ∷ members) answer = ⊥
 
--- and of places that do
+-- the answer for a component that loops
 abbrev pub AnswersLoop : Setting → Table → List Member → SizeOutcome → Type 0
 AnswersLoop s tab members (SizedBy node) = (node ≡ CycleBy members) × AcceptsCycle s tab members
 AnswersLoop s tab members (Unsized why) =
@@ -123,7 +122,7 @@ abbrev pub AnswersMembers : Bool → Setting → Table → List Member → SizeO
 AnswersMembers false s tab members answer = AnswersAlone s tab members answer
 AnswersMembers true s tab members answer = AnswersLoop s tab members answer
 
--- what is answered of a component over a table: that a place of it has an unbounded side or a limit hit; else the node
+-- the answer for a component over a table: that one of its places has an unbounded side or a limit hit; else the node
 -- that gives it a size, or the first check that fails
 pub record IsJudged (s : Setting) (tab : Table) (local : Locals) (result_variables : List ResultVariable) (answer : SizeOutcome)
     : Type 0 where

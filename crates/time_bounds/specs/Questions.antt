@@ -24,7 +24,7 @@ use Rattle.time_bounds.specs.declared.asking.AnsweredRankQuestion.{AnsweredRankQ
 use Rattle.time_bounds.specs.declared.context.Context.{Context}
 use Rattle.size_bounds.specs.declared.table.Table.{Table}
 
--- the answers for these rows, of rule k and those after it, in order
+-- the answers for these rows, those of rule k and of the rules after it, in order
 abbrev pub AreAnswersFrom : ℕ → ℕ → List RuleRows → List GuardFeasibility → Type 0
 AreAnswersFrom pivots k [] [] = ⊤
 AreAnswersFrom pivots k [] (a ∷ answers) = ⊥
@@ -36,7 +36,7 @@ AreAnswersFrom pivots k (m ∷ prepared_rules) (a ∷ answers) =
 abbrev pub program_in : Context → Program
 program_in cx = program_of cx.program.now
 
--- the program is valid, and the graph, the rows and the answers are its own
+-- the program is valid, and the graph, the rows and the answers are those of the program
 pub record BelongsTogether (cx : Context) : Type 0 where
   pub valid : IsValid (program_in cx)
   pub graph : IsGraphOf cx.graph (program_in cx)
@@ -66,26 +66,26 @@ pub record AnswersQuestion (p : Program) (pivots : ℕ) (empties : List GuardFea
       a.answer
   pub shape : HasShape a.answer
 
--- it is the earlier question, of this set and these shut places
+-- this is the earlier question, of this set and these shut places
 pub record IsSameQuestion (before : Option AnsweredRankQuestion) (set : List ℕ) (shut : List (ℕ × ℕ)) (a : AnsweredRankQuestion) : Type 0 where
   pub asked : before ≡ Some a
   pub same_set : a.set.items ≡ set
   pub same_shut : a.shut.items ≡ shut
 
--- and these are the set of the rule, and its shut places
+-- the question's set and shut places are those of the rule
 pub record IsAsked (p : Program) (b : Bounds) (t : ℕ) (a : AnsweredRankQuestion) : Type 0 where
   pub set : IsSetOfRule p b t a.set.items
   pub shut : AreShutOf p b a.set.items (places_of a.shut.items)
 
--- of each rule from k on a question that was answered, or none
+-- for each rule from rule k on a question that was answered, or none
 abbrev pub AreAnsweredFrom : Program → ℕ → List GuardFeasibility → ℕ → List (Option AnsweredRankQuestion) → Type 0
 AreAnsweredFrom p pivots empties k [] = ⊤
 AreAnsweredFrom p pivots empties k (None ∷ kept) = AreAnsweredFrom p pivots empties (suc k) kept
 AreAnsweredFrom p pivots empties k (Some a ∷ kept) =
     AnswersQuestion p pivots empties k a × AreAnsweredFrom p pivots empties (suc k) kept
 
--- a table of a program as rounds meet it: it has a time or none of the virtual entry and of each rule; that of the
--- virtual entry is known, and so is that of each rule whose rows are known to have no point
+-- a table of a program, as rounds use it: it has a time or none for the virtual entry and for each rule; that of the
+-- virtual entry is known, and so is that of each infeasible rule
 pub record IsTable (p : Program) (tab : Table) (empties : List GuardFeasibility) : Type 0 where
   pub one_each : length tab.times.items ≡ suc (length p.rules)
   pub start : is_untimed (bounds_in tab) 0 ≡ false

@@ -1,4 +1,4 @@
--- The rounds of a program: their beginning, and the results of each.
+-- The rounds of a program: the results before the first one, and those of each.
 use Rattle.std.specs.Prelude.{◌≡◌, List, ◌++◌, length, map, Option}
 use Rattle.cert_types.specs.cert_program.Setting.{setting_of}
 use Rattle.bound_fixpoint.specs.Keys.{Bounds, rule_numbers}
@@ -18,7 +18,7 @@ use Rattle.time_bounds.specs.Questions.{AreAnsweredFrom, program_in}
 use Rattle.time_bounds.specs.EarlierAnswers.{WereAttempts}
 use Rattle.time_bounds.specs.TriedRules.{AreAskedOver}
 
--- what is known with derivations
+-- the bounds that are known with derivations
 abbrev pub known_with : Context → List Derivation → Bounds
 known_with cx fs = plain.bounds_of (program_in cx) (derivations_of fs)
 
@@ -26,7 +26,7 @@ known_with cx fs = plain.bounds_of (program_in cx) (derivations_of fs)
 abbrev pub AreMade : Context → List Derivation → Type 0
 AreMade cx fs = IsMade (searches_of_program (program_in cx) cx.pivots) (setting_of (program_in cx)) (derivations_of fs)
 
--- the derivations are made by rounds, and then by the times of a further one
+-- the derivations are made by rounds, followed by the times of a further one
 pub record AreMadeWithTimes (cx : Context) (fs : List Derivation) : Type 0 where
   pub earlier : List plain.Derivation
   pub made : IsMade (searches_of_program (program_in cx) cx.pivots) (setting_of (program_in cx)) earlier
@@ -35,7 +35,8 @@ pub record AreMadeWithTimes (cx : Context) (fs : List Derivation) : Type 0 where
       (map TimeOf (rule_numbers (program_in cx))) times
   pub all : derivations_of fs ≡ earlier ++ times
 
--- for each rule a question is kept that was answered, or none; and these were the earlier attempts at components
+-- these are answered questions of rules, or none, over earlier derivations; and these were the earlier attempts at
+-- components
 pub record AreKeptFor (cx : Context) (cs : List Candidate) (fs : List Derivation) (kept : LastRound) : Type 0 where
   pub one_each : length kept.asked.items ≡ length (program_in cx).rules
   pub answered : AreAnsweredFrom (program_in cx) cx.pivots cx.empties.items 1 kept.asked.items

@@ -1,4 +1,4 @@
--- The status of rules: whether they run in no run.
+-- The status of rules: whether they are known never to run.
 use Rattle.std.specs.Prelude.{◌≡◌, ◌↔◌, ℕ, zero, suc, Bool, true, false, cond, List, [], ◌∷◌, length, filter}
 use Rattle.std.specs.Prelude.{Option, Some, None, slice_index_or}
 use Rattle.std.specs.List.{range_with_len}
@@ -23,7 +23,7 @@ abbrev pub is_said_empty : Option GuardFeasibility → Bool
 is_said_empty None = false
 is_said_empty (Some a) = says_empty a
 
--- the rules whose answer is that they have no point, in order
+-- the rules whose answer is that their rows have no point, in order
 abbrev pub said_empty : List GuardFeasibility → List ℕ
 said_empty empties = filter (λ t. is_said_empty (answer_for empties t)) (range_with_len 1 (length empties))
 
@@ -55,7 +55,7 @@ is_dead_rule_status Empty = true
 is_dead_rule_status Unreached = true
 is_dead_rule_status Live = false
 
--- of each rule this is its status: it is empty, or else it never runs
+-- each rule has its status: infeasible, or else unreached, or live
 pub record AreRuleStatuses (q : Searches) (p : Program) (rule_statuses : List RuleStatus) : Type 0 where
   pub one_each : length rule_statuses ≡ length p.rules
   pub empty : (t : ℕ) → IsRule p t → (is_empty_rule_status (rule_status_at rule_statuses t) ≡ true) ↔ IsEmpty q t

@@ -11,6 +11,6 @@ use Rattle.time_bounds.specs.ProgramSearches.{searches_of_program}
 pub record ProgramSearchesAreRight : Type 0 where
   pub each : (p : Program) (pivots : ℕ) → IsValid p → AreRight (searches_of_program p pivots) (setting_of p)
 
--- and each question has one answer within a number of pivots
+-- each question has one answer within a number of pivots
 pub record ProgramSearchesAreOne : Type 0 where
   pub each : (p : Program) (pivots : ℕ) → AreOne (searches_of_program p pivots)

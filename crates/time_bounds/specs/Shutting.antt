@@ -20,7 +20,7 @@ at_place a i = record { symbol = a; place = i }
 abbrev pub place_if : Table → List ℕ → ℕ → ℕ → List SymbolPlace
 place_if tab rules a i = cond (lacks_any tab rules i) (at_place a i ∷ []) []
 
--- of the first so many places of a symbol those that have no size after one of these rules
+-- among the first n places of a symbol those that have no size after one of these rules
 abbrev pub shut_at : Table → List ℕ → ℕ → ℕ → List SymbolPlace
 shut_at tab rules a arity = map (at_place a) (filter (lacks_any tab rules) (range_with_len 1 arity))
 
@@ -32,7 +32,7 @@ into p es a = filter (λ e. same_symbol (target_of p e) (Some a)) es
 abbrev pub shut_by : Program → Table → List ℕ → ℕ → List SymbolPlace
 shut_by p tab es a = shut_at tab (into p es a) a (arity_of p a)
 
--- of this many symbols from a on
+-- the shut places of this many symbols, from symbol a on
 abbrev pub shut_from : Program → Table → List ℕ → ℕ → ℕ → List SymbolPlace
 shut_from p tab es a zero = []
 shut_from p tab es a (suc n) = shut_by p tab es a ++ shut_from p tab es (a + 1) n
@@ -41,11 +41,11 @@ shut_from p tab es a (suc n) = shut_by p tab es a ++ shut_from p tab es (a + 1) 
 abbrev pub mark_of : Program → List ℕ → ℕ → Option ℕ
 mark_of p es a = cond (list_any (λ e. same_symbol (target_of p e) (Some a)) es) (Some a) None
 
--- of the first so many symbols
+-- the marks of the first n symbols
 abbrev pub marks_of : Program → List ℕ → ℕ → List (Option ℕ)
 marks_of p es n = map (mark_of p es) (range_with_len 0 n)
 
--- a mark is put at the symbol of this number, where there is one
+-- a mark is put at the symbol of this number, if there is one
 abbrev pub put_mark : List (Option ℕ) → Option ℕ → List (Option ℕ)
 put_mark marks None = marks
 put_mark marks (Some a) = slice_set marks a (Some a)

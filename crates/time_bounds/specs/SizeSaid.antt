@@ -28,7 +28,7 @@ seen_row row = map (λ o. option_map size_of o) row
 abbrev pub seen_rows : List (List (Option SizeEntry)) → List (List (Option Size))
 seen_rows rows = map seen_row rows
 
--- what a table says of a size
+-- the entry of a stored size
 abbrev pub said_stored : Option Stored → Option Size
 said_stored o = option_map (λ s. Sized (bound_of s.bound)) o
 
@@ -36,28 +36,28 @@ said_stored o = option_map (λ s. Sized (bound_of s.bound)) o
 abbrev pub said_table : Table → List (List (Option Size))
 said_table tab = map (λ row. map said_stored row) (rows_of tab)
 
--- a value, if there is one, is written at a place that has none
+-- a value, if there is one, is written at a place without one
 abbrev pub put_some : {A : Type 0} → List (List (Option A)) → ResultVariable → Option A → List (List (Option A))
 put_some rows m None = rows
 put_some rows m (Some a) = put_place rows m.rule m.place a
 
--- a value is written at these places, where there is none
+-- a value is written at those of these places that have none
 abbrev pub put_result_variables : {A : Type 0} → List (List (Option A)) → List ResultVariable → A → List (List (Option A))
 put_result_variables rows [] a = rows
 put_result_variables rows (m ∷ result_variables) a = put_result_variables (put_place rows m.rule m.place a) result_variables a
 
--- why places have no size is written there, where it is known
+-- the reason why places have no size, if there is one, is written at them
 abbrev pub put_why : List (List (Option Size)) → List ResultVariable → Option NoSize → List (List (Option Size))
 put_why rows result_variables None = rows
 put_why rows result_variables (Some why) = put_result_variables rows result_variables (Unsized why)
 
--- the same for the places of each of these candidates, by the round's attempt at it
+-- the reasons of these candidates are written at their places, by the round's attempt at each
 abbrev pub put_whys : List (List (Option Size)) → List Candidate → List ComponentAttempt → List (List (Option Size))
 put_whys rows [] attempts = rows
 put_whys rows (c ∷ cs) [] = rows
 put_whys rows (c ∷ cs) (x ∷ attempts) = put_whys (put_why rows (result_variables_in c) (why_of c x)) cs attempts
 
--- each of them exists
+-- each of these entries is present
 abbrev pub AreThere : {A : Type 0} → List (Option A) → Type 0
 AreThere [] = ⊤
 AreThere (None ∷ os) = ⊥
@@ -77,11 +77,11 @@ pub record CarryRow (row : List (Option Stored)) (said : List (Option SizeEntry)
 pub record CarryPlaces (tab : Table) (said : List (List (Option SizeEntry))) : Type 0 where
   pub each : (t i : ℕ) (e : SizeEntry) → placed said t i ≡ Some e → CarriesNumber (number_at tab t i) (size_stored e)
 
--- rows keep that
+-- the new rows keep each entry of the old ones, with its number
 pub record KeepPlaces (old new : List (List (Option SizeEntry))) : Type 0 where
   pub each : (tab : Table) → CarryPlaces tab old → CarryPlaces tab new
 
--- an entry is a reason, where there is one
+-- the entry, if there is one, is a reason
 pub record IsReason (entry : Option SizeEntry) : Type 0 where
   pub why : Option NoSize
   pub is_why : option_map size_of entry ≡ option_map Unsized why

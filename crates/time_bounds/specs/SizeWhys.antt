@@ -31,7 +31,7 @@ use Rattle.bound_fixpoint.specs.Searches.{Unsized}
 use Rattle.time_bounds.specs.ProgramSearches.{searches_of_program}
 use Rattle.time_bounds.specs.ProgramSizes.{IsLocalOf, AnswersMembers, HitsLimitAt}
 
--- the point that lies so often the ray from a point, over the same denominator: its numerators
+-- the point that is reached from a point by adding the ray n times, over the same denominator: its numerators
 abbrev pub moved : ScaledPoint → List ℤ → ℕ → ℕ → ℤ
 moved kept ray n u = at kept.parts u +ℤ pos n *ℤ at ray u
 
@@ -75,7 +75,7 @@ pub record IsComponentOf (p : Program) (pivots t i : ℕ) (members : List Member
   pub inside : has_key (map (λ m. m.result_variable) members) t i ≡ true
   pub bounds : All (λ m. IsLocalOf p pivots m.result_variable.rule m.result_variable.place (HasBound m.local)) members
 
--- of what the size of members needs over these bounds, this is the first that is missing
+-- among the premises of the size of members, this is the first that is missing
 abbrev pub LacksFirst : Setting → Bounds → List Member → NoSize → Type 0
 LacksFirst s b members why = AnswersMembers (do_loop s members) s (over b) members (Unsized why)
 
@@ -101,7 +101,7 @@ pub record RestsOnSize (p : Program) (pivots : ℕ) (b : Bounds) (t i : ℕ) (m 
 
 -- in a loop the value at this place multiplies members: its local bound is a polynomial of degree 2 or more that reads
 -- one
-pub record BendsAt (p : Program) (pivots : ℕ) (b : Bounds) (t i : ℕ) (m : ResultVariable) : Type 0 where
+pub record MultipliesAt (p : Program) (pivots : ℕ) (b : Bounds) (t i : ℕ) (m : ResultVariable) : Type 0 where
   pub members : List Member
   pub component : IsComponentOf p pivots t i members
   pub member : Member
@@ -122,7 +122,7 @@ pub record GrowsUntimed (p : Program) (pivots : ℕ) (b : Bounds) (t i u : ℕ) 
   pub missing : b u 0 ≡ None
   pub first : LacksFirst (setting_of p) b members (SizeUntimed u)
 
--- the size that members compose, where they loop and where there is but one
+-- the size that members compose: of a loop, or of a single member that doesn't loop
 abbrev pub composed_size : Bool → Setting → Table → List Member → Bound
 composed_size true s tab members = cycle_size s tab members
 composed_size false s tab [] = Constant 0
@@ -143,6 +143,6 @@ abbrev pub HasNoSize : Program → ℕ → Bounds → ℕ → ℕ → NoSize →
 HasNoSize p pivots b t i (SizeUnbounded side ray kept) = PassesEveryForm p t i side ray kept
 HasNoSize p pivots b t i (SizeHitLimit x) = PlaceHitsLimitSo p pivots t i x
 HasNoSize p pivots b t i (SizeMissing m) = RestsOnSize p pivots b t i m
-HasNoSize p pivots b t i (SizeNonlinear m) = BendsAt p pivots b t i m
+HasNoSize p pivots b t i (SizeNonlinear m) = MultipliesAt p pivots b t i m
 HasNoSize p pivots b t i (SizeUntimed u) = GrowsUntimed p pivots b t i u
 HasNoSize p pivots b t i (SizeLarge n) = SizeIsLarge p pivots b t i n

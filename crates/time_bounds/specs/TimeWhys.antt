@@ -28,9 +28,9 @@ FirstHitsLimitSo p pivots [] x = ⊥
 FirstHitsLimitSo p pivots (t ∷ ts) x = EmptyHitsLimitSo p pivots t x
     ⊎ (((y : LimitHit) → ¬ (EmptyHitsLimitSo p pivots t y)) × FirstHitsLimitSo p pivots ts x)
 
--- where these bounds are known, a function is searched over this set, with coefficient 0 at these places: the set holds
+-- with these known bounds, a function is searched over this set, with coefficient 0 at these places: the set contains
 -- the rule, and each rule without a time from where a path of such rules leads to it; and a place of a symbol is shut
--- where some entry of the set leads to the symbol and has no size there
+-- if some entry of the set leads to the symbol and has no size there
 pub record IsSought (p : Program) (b : Bounds) (t : ℕ) (set : List ℕ) (shut : List SymbolPlace) : Type 0 where
   pub is_set : IsSetOfRule p b t set
   pub are_shut : AreShutOf p b set shut
@@ -46,8 +46,8 @@ pub record NoFunctionRanks (p : Program) (b : Bounds) (t : ℕ) (g : Gap) : Type
   pub shown : GapHolds p (forms_at p) g
 
 -- the linear program of a rank question exceeds no limit and has no solution, but it isn't known of each rule of the
--- set that it has a point, without which that excludes no function: the linear program of the first such rule exceeds
--- this limit
+-- set that it has a point, and without that no function is excluded: the linear program for a point of the first such
+-- rule exceeds this limit
 pub record PointsLimitHitSo (p : Program) (pivots : ℕ) (b : RankedSet) (x : LimitHit) : Type 0 where
   pub hits_no_limit : NothingHitsLimit (rank_program b) pivots
   pub unsolved : ¬ (HasSolution (rank_program b))

@@ -33,7 +33,7 @@ spendings_by [] costs = []
 spendings_by (time ∷ times) [] = []
 spendings_by (time ∷ times) (cost ∷ costs) = spent_by time cost ∷ spendings_by times costs
 
--- a bound before others, where all of them are known
+-- a bound before others, if all of them are known
 abbrev pub before : Option Bound → Option Parts → Option Parts
 before None rest = None
 before (Some b) None = None

@@ -10,7 +10,7 @@ use Rattle.bound_fixpoint.specs.Keys.{Bounds, is_untimed, time_key}
 use Rattle.bound_fixpoint.specs.Derivations.{Derivation, RankBy}
 use Rattle.bound_fixpoint.specs.Searches.{NoBound}
 use Rattle.bound_fixpoint.specs.Answers as told
-use Rattle.bound_fixpoint.specs.Answers.{Lacks, TellsRanking, TellsTime}
+use Rattle.bound_fixpoint.specs.Answers.{Lacks, AnswersRanking, AnswersTime}
 use Rattle.time_bounds.specs.declared.asking.AnsweredRankQuestion.{AnsweredRankQuestion}
 use Rattle.time_bounds.specs.declared.tried_rules.RuleAttempt.{RuleAttempt}
 use Rattle.time_bounds.specs.declared.tried_rules.RuleAttempt.TheVariants.{Known, Found, Missing}
@@ -25,18 +25,18 @@ pub record IsMissing (p : Program) (b : Bounds) (pivots : ℕ) (empties : List G
   pub asked : IsAsked p b t a
   pub answered : AnswersQuestion p pivots empties t a
   pub why : NoBound
-  pub tells : TellsRanking (setting_of p) b (ranking_of a.answer) (Lacks why)
+  pub is_answer : AnswersRanking (setting_of p) b (ranking_of a.answer) (Lacks why)
 
--- a round's result for rule t over bounds is right: its time was known; or it had none, and the answer to its question
--- gives this one, or none
+-- a round's result for rule t over bounds is right: the rule had a time; or it had none, and the answer to its question
+-- gives this time, or none
 abbrev pub IsTried : Program → Bounds → ℕ → List GuardFeasibility → ℕ → RuleAttempt → Type 0
 IsTried p b pivots empties t Known = is_untimed b t ≡ false
 IsTried p b pivots empties t (Found node premises bound) = (is_untimed b t ≡ true)
-    × TellsTime (searches_of_program p pivots) (setting_of p) b t
+    × AnswersTime (searches_of_program p pivots) (setting_of p) b t
     (told.Found (RankBy (rank_of node)) (map result_variable_of premises.items) (bound_of bound))
 IsTried p b pivots empties t (Missing a) = (is_untimed b t ≡ true) × IsMissing p b pivots empties t a
 
--- of each rule from k on, in order
+-- the same for each rule from rule k on, in order
 abbrev pub AreTried : Program → Bounds → ℕ → List GuardFeasibility → ℕ → List RuleAttempt → Type 0
 AreTried p b pivots empties k tries = EachNumbered (IsTried p b pivots empties) k tries
 
@@ -55,14 +55,14 @@ abbrev pub derivations_in : ℕ → List RuleAttempt → List Derivation
 derivations_in t [] = []
 derivations_in t (x ∷ tries) = derivation_in t x ++ derivations_in (suc t) tries
 
--- the question that is kept of a rule
+-- the query of a rule whose time is missing
 abbrev pub kept_in : RuleAttempt → Option AnsweredRankQuestion
 kept_in Known = None
 kept_in (Found node premises bound) = None
 kept_in (Missing a) = Some a
 
--- for rule t a question is kept that was asked over some bounds, where its time was missing and still is; or none is
--- kept, and its time is known with later ones
+-- for rule t there is a query over some bounds, with which its time was missing, as it still is; or there is none, and
+-- its time is known with the later bounds
 abbrev pub IsAskedOver : Program → Bounds → Bounds → ℕ → List GuardFeasibility → ℕ → Option AnsweredRankQuestion → Type 0
 IsAskedOver p b later pivots empties t None = is_untimed later t ≡ false
 IsAskedOver p b later pivots empties t (Some a) = (is_untimed b t ≡ true) × IsMissing p b pivots empties t a

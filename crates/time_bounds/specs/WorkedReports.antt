@@ -10,7 +10,7 @@ use Rattle.cert_types.specs.cert_program.WorkedGaps.{looping, gap_alone}
 use Rattle.bound_fixpoint.specs.Keys.{Bounds, key}
 use Rattle.time_bounds.specs.SaidBounds.{bounds_said}
 
--- the rule that stays has no time, by its gap, and the argument after it keeps its size
+-- the rule of k(A) -> k(A) has no time, by its gap, and the argument after it keeps its size
 abbrev pub staying_gap : Gap
 staying_gap = gap_alone 1 one nowhere one
 

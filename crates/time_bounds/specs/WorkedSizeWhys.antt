@@ -29,9 +29,9 @@ abbrev pub limit_hit_from : Question → LimitHit
 limit_hit_from question = record { question = question; cause = causes.Budget 10 }
 
 -- whatever bounds are known: a square isn't unbounded, though the square itself counts as any number; a limit hit of
--- another place's question, or of another rule's, is none of this place; a size doesn't depend on one of a rule that
--- doesn't exist; a value that is kept doesn't bend, nor by the place of a rule that doesn't exist, and grows by no such
--- rule; a size isn't the reason for itself; and no size with 200 nodes or fewer is too large
+-- another place's question, or of another rule's, isn't one of this place; a size doesn't depend on one of a rule that
+-- doesn't exist; a value that is kept isn't nonlinear, not even by the place of a rule that doesn't exist, and doesn't
+-- grow by such a rule; a size isn't the reason for itself; and no size with 200 nodes or fewer is too large
 pub record SmallPlacesAreWorkedOut : Type 0 where
   pub square : (b : Bounds) (side : Side) → ¬ (HasNoSize three_rules 10 b 2 1 (SizeUnbounded side along_free from_one))
   pub other_place : (b : Bounds) → ¬ (HasNoSize guessed 10 b 1 1 (SizeHitLimit (limit_hit_from (asked.Local 2 1))))
@@ -44,11 +44,11 @@ pub record SmallPlacesAreWorkedOut : Type 0 where
   pub small : (p : Program) (pivots : ℕ) (b : Bounds) (t i n : ℕ) → n ≤ 200
       → ¬ (HasNoSize p pivots b t i (SizeLarge n))
 
--- the rule has a time, and the place after it this reason
+-- a report where the rule has a time, and the place after it no size, for this reason
 abbrev pub alone_with : NoSize → Report
 alone_with why = record { times = Timed (Constant 1) ∷ []; costs = None ∷ []; total = None; sizes = (Unsized why ∷ []) ∷ [] }
 
--- two rules, where A - 1 is called unbounded, too
+-- a report of two rules where A - 1 is called unbounded, too
 abbrev pub wrong_at_2 : Report
 wrong_at_2 = record {
   times = Timed (Constant 1) ∷ Untimed (NoFunction (gap_of_one place_of_l (pos 1) 1 (pos 1) 0 (pos 1) 1)) ∷ [];
@@ -57,8 +57,8 @@ wrong_at_2 = record {
   sizes = (Unsized (SizeUnbounded Up along_free from_one) ∷ []) ∷ (Unsized (SizeUnbounded Up along_free from_one) ∷ []) ∷ [];
 }
 
--- all of these; and the reasons in a whole report with an unbounded side are true, and aren't where the report says
--- that the place is unbounded below, or that another one is unbounded
+-- all worked values of missing sizes; and the reasons in a whole report with an unbounded side are true, and aren't if
+-- the report says that the place is unbounded below, or that another one is unbounded
 pub record MissingSizesAreWorkedOut : Type 0 where
   pub places : SmallPlacesAreWorkedOut
   pub whole : ReasonsAreTrue guessing_alone 10 (alone_with (SizeUnbounded Up along_free from_one))

@@ -30,7 +30,7 @@ twice = record {
 abbrev pub pair_gap : Gap
 pair_gap = gap_with 1 (1 ∷ 2 ∷ []) [] (one ∷ nowhere ∷ []) nowhere (one ∷ one ∷ [])
 
--- the second rule has a time in the report, and the argument after it a size
+-- a report where the second rule has a time, and the argument after it a size
 abbrev pub second_report : Report
 second_report = record {
   times = Untimed (NoFunction staying_gap) ∷ Timed (Constant 1) ∷ [];
@@ -39,7 +39,7 @@ second_report = record {
   sizes = (Unsized (SizeMissing (key 2 1)) ∷ []) ∷ (Sized (Input 0) ∷ []) ∷ [];
 }
 
--- or a time, and no size
+-- a report where the second rule has a time, and the argument after it no size
 abbrev pub unsized_report : Report
 unsized_report = record {
   times = Untimed (NoFunction staying_gap) ∷ Timed (Constant 1) ∷ [];
@@ -48,7 +48,7 @@ unsized_report = record {
   sizes = (Sized (Input 0) ∷ []) ∷ (Unsized (SizeMissing (key 1 1)) ∷ []) ∷ [];
 }
 
--- or neither rule a time, and both places sizes
+-- a report where neither rule has a time, and both places have sizes
 abbrev pub both_report : Report
 both_report = record {
   times = Untimed (NoFunction pair_gap) ∷ Untimed (NoFunction pair_gap) ∷ [];
@@ -66,7 +66,7 @@ unsized_said = bounds_said twice unsized_report
 abbrev pub both_said : Bounds
 both_said = bounds_said twice both_report
 
--- of each rule and place the report says its own bound
+-- for each rule and place the report has its own bound
 pub record EachHasItsOwn : Type 0 where
   pub first_time : second_said 1 0 ≡ None
   pub second_time : second_said 2 0 ≡ Some (Constant 1)
@@ -74,8 +74,8 @@ pub record EachHasItsOwn : Type 0 where
   pub second_size : second_said 2 1 ≡ Some (Input 0)
   pub no_third : second_said 3 0 ≡ None
 
--- where the second rule has a time, the set of the first is the first alone, and else both. The second enters the
--- symbol then: where it has no size, its place is shut, and else it isn't
+-- if the second rule has a time, the set of the first is the first alone, and else both. In the first case the second
+-- rule is an entry of the set: if the place after it has no size, this place is shut, and else it isn't
 pub record SetsAreSought : Type 0 where
   pub alone : IsSought twice second_said 1 (1 ∷ []) []
   pub not_both : ¬ (IsSought twice second_said 1 (1 ∷ 2 ∷ []) [])
@@ -108,7 +108,7 @@ pub record LimitsSaySo : Type 0 where
   pub not_wide : ¬ (HasNoTime looping 10 staying_said 1 (TimeHitLimit (own_limit_hit (causes.Wide 5))))
   pub small : (p : Program) (pivots : ℕ) (b : Bounds) (t n : ℕ) → n ≤ 200 → ¬ (HasNoTime p pivots b t (TimeLarge n))
 
--- where a report has another gap than the one that holds
+-- a report with another gap than the one that holds
 abbrev pub wrong_report : Report
 wrong_report = record {
   times = Untimed (NoFunction (gap_alone 1 one one one)) ∷ [];
@@ -117,7 +117,7 @@ wrong_report = record {
   sizes = (Sized (Input 0) ∷ []) ∷ [];
 }
 
--- all of these; and the reasons in a whole report are true, and with another gap aren't
+-- all worked values of missing times; and the reasons in a whole report are true, and with another gap aren't
 pub record MissingTimesAreWorkedOut : Type 0 where
   pub own : EachHasItsOwn
   pub sets : SetsAreSought

@@ -34,9 +34,9 @@ pub record BoundsAreSaid : Type 0 where
 abbrev pub other_limit_hit : LimitHit
 other_limit_hit = record { question = asked.Rank 2; cause = causes.Budget 10 }
 
--- no function ranks the rule, as its gap shows. The same gap says nothing of another rule; and none does that is of no
--- rule of the set, or may not look at a place whose size is known; and a limit hit of another rule's question is none
--- of this one
+-- no function ranks the rule, as its gap shows. The same gap shows nothing of another rule; nor does a gap whose set
+-- lacks the rule, or which shuts a place whose size is known; and a limit hit of another rule's question isn't one of
+-- this rule's
 pub record TimeWhysAreWorkedOut : Type 0 where
   pub gap : HasNoTime looping 10 staying_said 1 (NoFunction staying_gap)
   pub other_rule : ¬ (HasNoTime looping 10 staying_said 2 (NoFunction staying_gap))
@@ -61,7 +61,7 @@ pub record SizeWhysAreWorkedOut : Type 0 where
   pub known : ¬ (HasNoSize looping 10 staying_said 1 1 (SizeMissing (key 0 1)))
   pub timed : ¬ (HasNoSize guessed 10 guessed_said 2 1 (SizeUntimed 1))
 
--- all of these
+-- all worked values of reasons
 pub record WhysAreWorkedOut : Type 0 where
   pub bounds : BoundsAreSaid
   pub times : TimeWhysAreWorkedOut

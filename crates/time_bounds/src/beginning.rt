@@ -20,8 +20,9 @@ use cert_types::{EmptyNode, GuardFeasibility, ResultVariable};
 use model::Memory;
 use std::alloc::Global;
 
-/// The derivations before the first round, by the status of each rule: the time 0 of each rule that is empty; the time
-/// 0 of each other one that is unreached, with all empty ones as premises; and the size 0 at each place after both.
+/// The derivations before the first round, by the status of each rule: the time 0 of each infeasible rule; the time 0
+/// of each other rule that is unreached, with the times of all infeasible ones as premises; and the size 0 at each
+/// place after both.
 pub(crate) fn first_derivations(
     cx: &Context,
     rule_statuses: &[RuleStatus],
@@ -40,7 +41,7 @@ pub(crate) fn first_derivations(
     Ok(derivations)
 }
 
-// A derivation for each empty rule.
+// A derivation for each infeasible rule.
 fn push_empty(
     alloc: Global,
     derivations: &mut Vec<Derivation>,
@@ -55,7 +56,7 @@ fn push_empty(
     Ok(())
 }
 
-// The find of a rule, where it is empty.
+// The derivation of a rule, if it is infeasible.
 fn push_if_empty(
     alloc: Global,
     derivations: &mut Vec<Derivation>,
@@ -74,7 +75,7 @@ fn push_if_empty(
     }
 }
 
-// The find of an empty rule.
+// The derivation of an infeasible rule.
 fn empty_derivation(alloc: Global, rule: u32, node: &EmptyNode) -> Result<Derivation, Memory>
     ensures { IfOk result (λ f. derivation_of f ≡ empty_derivation_of rule node.now.multipliers.items) }
 {
@@ -89,7 +90,7 @@ fn empty_derivation(alloc: Global, rule: u32, node: &EmptyNode) -> Result<Deriva
     })
 }
 
-// The keys of the times of empty rules.
+// The keys of the times of infeasible rules.
 fn dead_keys(alloc: Global, rule_statuses: &[RuleStatus]) -> Result<Vec<ResultVariable>, Memory>
     requires { length rule_statuses.now < 2 ^ 31 }
     ensures { IfOk result (λ keys. map result_variable_of keys.items ≡ empty_keys 1 rule_statuses.now) }
@@ -101,7 +102,7 @@ fn dead_keys(alloc: Global, rule_statuses: &[RuleStatus]) -> Result<Vec<ResultVa
     Ok(keys)
 }
 
-// The key of the time of a rule, where it is empty.
+// The key of the time of a rule, if it is infeasible.
 fn push_key(
     keys: &mut Vec<ResultVariable>,
     rule: u32,
@@ -119,7 +120,7 @@ fn push_key(
     }
 }
 
-// A derivation for each rule that is unreached and not empty, with all empty ones as premises.
+// A derivation for each feasible rule that is unreached, with the times of all infeasible ones as premises.
 fn push_unreached(
     alloc: Global,
     derivations: &mut Vec<Derivation>,
@@ -136,7 +137,7 @@ fn push_unreached(
     Ok(())
 }
 
-// The find of a rule, where it is unreached.
+// The derivation of a rule, if it is unreached.
 fn push_if_unreached(
     alloc: Global,
     derivations: &mut Vec<Derivation>,
@@ -157,7 +158,7 @@ fn push_if_unreached(
     }
 }
 
-// The find of an unreached rule.
+// The derivation of an unreached rule.
 fn unreached_derivation(
     alloc: Global,
     rule: u32,
@@ -198,7 +199,7 @@ fn push_never(
     Ok(())
 }
 
-// The find of the sizes after a rule, if it never runs and leads to this many places, not none.
+// The derivation of the sizes after a rule, if it never runs and leads to a symbol with this many places, at least one.
 fn push_if_never(
     alloc: Global,
     derivations: &mut Vec<Derivation>,
@@ -216,7 +217,7 @@ fn push_if_never(
     Ok(())
 }
 
-// The find of the sizes at this many places after a rule that never runs.
+// The derivation of the sizes at this many places after a rule that never runs.
 fn sized_derivation(alloc: Global, rule: u32, arity: u32) -> Result<Derivation, Memory>
     requires { arity < 2 ^ 31 }
     ensures { IfOk result (λ f. derivation_of f ≡ sized_derivation_of rule arity) }

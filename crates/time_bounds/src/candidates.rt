@@ -38,7 +38,7 @@ pub(crate) struct Candidate {
 /// The side bounds of the members of a component.
 #[derive(Debug, Drop)]
 pub(crate) enum SideBounds {
-    /// A member has none, for this reason.
+    /// A member has no side bounds, for this reason.
     Lacking(SizeEntry),
     /// The only member doesn't loop.
     Alone(Member),
@@ -185,7 +185,7 @@ fn first_limit_hit(
     None
 }
 
-// These places, each of which has a local bound, with these bounds.
+// These places, each of which has a local bound, with their local bounds.
 fn members_of(
     alloc: Global,
     locals: &[Vec<LocalAnswer>],
@@ -223,7 +223,7 @@ fn member_at(
     }
 }
 
-// The answer for a place that has one.
+// The answer for a place, which has one.
 fn answer_at(locals: &[Vec<LocalAnswer>], result_variable: ResultVariable) -> &LocalAnswer
     requires { (a : LocalAnswer) × (answer_in (answer_lists locals.now) result_variable.rule result_variable.place ≡ Some a) }
     ensures { answer_in (answer_lists locals.now) result_variable.rule result_variable.place ≡ Some result.now }

@@ -25,8 +25,8 @@ pub(crate) struct CostsAndLemmas {
     pub lemmas: Vec<Proof>,
 }
 
-/// For each rule with a cost the bound on it over the final table, or why there is none. The lemmas of the bounds go
-/// behind the given ones, in the order of rules.
+/// For each rule with a cost the bound on it over the final table, or why there is none. The lemmas of the bounds are
+/// appended to the given ones, in the order of rules.
 pub(crate) fn cost_entries(
     cx: &Context,
     table: &Table,

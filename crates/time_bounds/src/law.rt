@@ -28,10 +28,10 @@ pub fn found_bounds_are_printable()
 
 /// The law that the searches of a valid program answer right, which is what a missing bound means. For a rule's rows:
 /// multipliers that certify that they have no point, or a point. For a rule over a set: a function that ranks it, or a
-/// gap, and then none does. For a component of the places of live rules: a node that gives it a size, or the reason why
-/// it has none: a side is unbounded, as a ray shows, a size or a time is missing, a side bound bends, or the bound is
-/// too large. Or a limit hit, which is that of the question itself, or of a rule's emptiness on which it depends. The
-/// function has no code: its contract is the law.
+/// gap, which shows that no function does. For a component of the places of live rules: a node that gives it a size, or
+/// the reason why it has none: a side is unbounded, as a ray shows, a size or a time is missing, a side bound is
+/// nonlinear, or the bound is too large. Or a limit hit, which is that of the question itself, or of the feasibility of
+/// a rule on which it depends. The function has no code: its contract is the law.
 pub fn searches_are_right()
     ensures { ProgramSearchesAreRight }
 {}
@@ -48,11 +48,11 @@ pub fn searches_are_one()
 /// solution, but one that decides whether a rule of the set has a point exceeds the limit, the first that exceeds any;
 /// or the composed time is too large. For a place without a size: the new value exceeds every affine form in the
 /// arguments, along a ray and from a point; or a linear program exceeds a limit; or the size depends on one that isn't
-/// known, bends in a loop, grows by a rule without a time, or is too large. For a rule with a cost that has no bound:
-/// the cost of one step exceeds every affine form in the arguments; or a linear program exceeds a limit; or a size that
-/// its bound reads, or the rule's time, isn't known; or the composed bound is too large. For functions and forms alike
-/// a new value or a cost of degree 2 or more counts as a variable of its own, which may be any number, and comparisons
-/// of degree 2 or more are ignored. The function has no code: its contract is the law.
+/// known, is nonlinear in a loop, grows by a rule without a time, or is too large. For a rule with a cost that has no
+/// bound: the cost of one step exceeds every affine form in the arguments; or a linear program exceeds a limit; or a
+/// size that its bound reads, or the rule's time, isn't known; or the composed bound is too large. For functions and
+/// forms alike a new value or a cost of degree 2 or more counts as a variable of its own, which may be any number, and
+/// comparisons of degree 2 or more are ignored. The function has no code: its contract is the law.
 pub fn reasons_are_true()
     ensures { AnalysesGiveReasons }
 {}

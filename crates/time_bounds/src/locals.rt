@@ -42,8 +42,8 @@ fn is_live(rule_status: RuleStatus) -> bool
     }
 }
 
-/// How large the new value at each place of each live rule can be in one step, rule by rule. A rule that never runs
-/// needs no question.
+/// For each place of each live rule, how large the new value can be in one step, rule by rule. A rule that never runs
+/// isn't queried.
 pub(crate) fn all_locals(
     cx: &Context,
     rule_statuses: &[RuleStatus],

@@ -33,8 +33,8 @@ pub(crate) fn take_all(
     Ok(())
 }
 
-/// The result of a round for the rules: the queries that are kept for those that have no time, and the derivations of
-/// the times that were found.
+/// The result of a round for the rules: the queries of those that have no time, and the derivations of the times that
+/// were found.
 #[derive(Debug, Drop)]
 pub(crate) struct SplitRules {
     pub asked: Vec<Option<AnsweredRankQuestion>>,
@@ -57,7 +57,7 @@ pub(crate) fn part_all(alloc: Global, tries: Vec<RuleAttempt>) -> Result<SplitRu
     Ok(SplitRules { asked, derivations })
 }
 
-// Appends the derivation of a rule, where its time was found, and gives the question that is kept.
+// Appends the derivation of a rule, if its time was found, and returns its query otherwise.
 fn part(
     alloc: Global,
     rule: u32,

@@ -71,7 +71,7 @@ fn next_round(
     Ok(LastRound { asked, attempts })
 }
 
-// The times of a round are taken into the book. Gives the questions that are kept.
+// Adds the times of a round to the derived bounds. Returns the queries of the rules without a time.
 fn times_of_round(
     cx: &Context,
     derived: &mut DerivedBounds,

@@ -1,4 +1,4 @@
-//! The status of rules that never run: empty, or unreached.
+//! The status of rules that never run: infeasible, or unreached.
 
 ghost use Rattle.std.specs.Prelude.{◌≡◌, ◌<◌, ◌-◌, ◌^◌, length, IfOk};
 ghost use Rattle.std.specs.List.{All};
@@ -15,9 +15,9 @@ use std::alloc::Global;
 /// Whether a rule is known never to run.
 #[derive(Clone, Copy, Debug, PartialEq, Eq)]
 pub(crate) enum RuleStatus {
-    /// Its rows have no point.
+    /// The rows of the rule have no point.
     Empty,
-    /// No path of rules that aren't empty leads to its source.
+    /// No path of feasible rules leads to the source of the rule.
     Unreached,
     /// Neither is known.
     Live,

@@ -48,7 +48,7 @@ pub(crate) fn shut_places(
     Ok(shut)
 }
 
-// At each symbol to which an entry leads its own number.
+// At each symbol to which an entry leads, the symbol's own number.
 fn entered_symbols(alloc: Global, p: &Program, entering: &[u32]) -> Result<Vec<Option<u32>>, Memory>
     requires { IsValid (program_of p.now) }
     ensures { IfOk result (λ marks. marks.items

@@ -138,7 +138,7 @@ fn reason(
     match attempt {
         ComponentAttempt::Known => Ok(None),
         ComponentAttempt::Found => Ok(None),
-        ComponentAttempt::Armless => lacking_side_bounds(alloc, &candidate.side_bounds),
+        ComponentAttempt::HasNoSideBound => lacking_side_bounds(alloc, &candidate.side_bounds),
         ComponentAttempt::Failed(answer) => Ok(failed(answer)),
     }
 }
@@ -213,7 +213,7 @@ fn entry_row(alloc: Global, row: Vec<Option<SizeEntry>>) -> Result<Vec<SizeEntry
     Ok(said)
 }
 
-// The entry that is there.
+// The entry, which is present.
 fn there(entry: Option<SizeEntry>) -> SizeEntry
     requires { AreThere (entry ∷ []) }
     ensures { entry ≡ Some result }

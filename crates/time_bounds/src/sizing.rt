@@ -14,7 +14,7 @@ ghost use Rattle.time_bounds.specs.Questions.{BelongsTogether, program_in};
 ghost use Rattle.time_bounds.specs.Candidates.{IsRightCandidate, AreCandidatesOf, result_variables_in};
 ghost use Rattle.time_bounds.specs.Attempts.{IsSizeStep, ArePlacesOf, attempt_by, derivations_by as derivations_by_of, node_in};
 ghost use Rattle.time_bounds.specs.Attempts.{has_side_bounds};
-ghost use Rattle.time_bounds.specs.EarlierAnswers.{ReasonStands, StandsAt, IsStanding, WereAttempts};
+ghost use Rattle.time_bounds.specs.EarlierAnswers.{ReasonIsTrue, IsTrueAnswerAt, IsStillTrue, WereAttempts};
 ghost use Rattle.time_bounds.specs.RoundsMade.{known_with, AreMadeWithTimes, AreSizesMade};
 
 use crate::candidates::{Candidate, SideBounds};
@@ -29,17 +29,17 @@ use std::alloc::Global;
 /// The result of a round for a component.
 #[derive(Debug, Drop)]
 pub(crate) enum ComponentAttempt {
-    /// Its places had sizes.
+    /// All its places already had sizes.
     Known,
-    /// They have one now.
+    /// Its places have a size now.
     Found,
-    /// They have none, since one has no side bounds.
-    Armless,
-    /// They have none, by this answer.
+    /// Its places have no size, since one of them has no side bounds.
+    HasNoSideBound,
+    /// Its places have no size, by this answer.
     Failed(Sizing),
 }
 
-/// Tries each component with a place without a size, in order, and takes the sizes that are found into the book.
+/// Tries each component with a place without a size, in order, and adds the sizes that are found to the derived bounds.
 /// `before` has the last round's attempts, if there was one: an answer whose reason remains true is reused.
 pub(crate) fn try_components(
     cx: &Context,
@@ -67,7 +67,7 @@ pub(crate) fn try_components(
 
 // The earlier answer for the component at a position, if there is one and its reason remains true over the table.
 fn standing(table: &Table, before: &[ComponentAttempt], position: usize) -> Option<Sizing>
-    ensures { IfSome result (λ a. StandsAt (table_of table.now) before.now position a) }
+    ensures { IfSome result (λ a. IsTrueAnswerAt (table_of table.now) before.now position a) }
 {
     if position >= before.len() {
         return None;
@@ -75,14 +75,14 @@ fn standing(table: &Table, before: &[ComponentAttempt], position: usize) -> Opti
     match &before[position] {
         ComponentAttempt::Known => None,
         ComponentAttempt::Found => None,
-        ComponentAttempt::Armless => None,
+        ComponentAttempt::HasNoSideBound => None,
         ComponentAttempt::Failed(answer) => again(table, answer),
     }
 }
 
 // An answer without a size, if its reason remains true over the table.
 fn again(table: &Table, answer: &Sizing) -> Option<Sizing>
-    ensures { IfSome result (λ a. (a ≡ answer.now) × ReasonStands (table_of table.now) a) }
+    ensures { IfSome result (λ a. (a ≡ answer.now) × ReasonIsTrue (table_of table.now) a) }
 {
     match answer {
         Sizing::Found { .. } => None,
@@ -113,7 +113,7 @@ fn try_component(
     requires candidate { (local : Locals) × IsRightCandidate (program_in cx.now) cx.now.pivots local candidate.now }
     requires within { ArePlacesOf (program_in cx.now) candidate.now }
     requires uniform { AreUniform (known_with cx.now derived.old.derivations.items) (result_variables_in candidate.now) }
-    requires again { IfSome again (λ a. IsStanding (program_in cx.now) cx.now.pivots
+    requires again { IfSome again (λ a. IsStillTrue (program_in cx.now) cx.now.pivots
         (known_with cx.now derived.old.derivations.items) candidate.now a) }
     requires derived { AreDerivedBounds (program_in cx.now) derived.old.table derived.old.derivations.items }
     ensures step { IfOk result (λ x. IsSizeStep (program_in cx.now) cx.now.pivots derived.old.derivations.items candidate.now x
@@ -146,7 +146,7 @@ fn try_side_bounds(
     ensures derived { OnOk result (AreDerivedBounds (program_in cx.now) derived.new.table derived.new.derivations.items) }
 {
     match &candidate.side_bounds {
-        SideBounds::Lacking(_) => Ok(ComponentAttempt::Armless),
+        SideBounds::Lacking(_) => Ok(ComponentAttempt::HasNoSideBound),
         SideBounds::Alone(member) => {
             let sizing = sized_spread(
                 cx.alloc,
@@ -183,7 +183,8 @@ fn are_open(table: &Table, result_variables: &[ResultVariable]) -> bool
     false
 }
 
-// Takes an answer for a component with side bounds: where it has a size, it is taken into the book for all places.
+// Takes an answer for a component with side bounds: if it has a size, this is added to the derived bounds for all
+// places.
 fn take(
     cx: &Context,
     candidate: &Candidate,

@@ -11,8 +11,8 @@ use model::Memory;
 use outcome::{CostEntry, TimeEntry};
 use std::alloc::Global;
 
-/// The bound on what all steps cost together: the rewritten sum, in the order of rules, of the bound on the cost of each
-/// rule that has one, and of the time of each other rule. There is none where one of these is missing.
+/// The bound on what all steps cost together: the rewritten sum, in the order of rules, of the bound on the cost of
+/// each rule that has one, and of the time of each other rule. There is none where one of these is missing.
 ///
 /// # Errors
 ///

@@ -21,7 +21,7 @@ use size_bounds::Table;
 /// The result of a round for a rule.
 #[derive(Debug, Drop)]
 pub(crate) enum RuleAttempt {
-    /// Its time was known.
+    /// The rule already had a time.
     Known,
     /// A function ranks it, and with the bounds of these keys the node composes this time.
     Found {
@@ -29,7 +29,7 @@ pub(crate) enum RuleAttempt {
         premises: Vec<ResultVariable>,
         bound: Bound,
     },
-    /// It has none, by this answer.
+    /// The rule has no time, by this answer.
     Missing(AnsweredRankQuestion),
 }
 

@@ -1,4 +1,4 @@
--- Texts of while programs are decided: bytes are the text of one program at most, or have one first fault.
+-- Texts of while programs are decided: bytes either are the text of one program or have one first fault.
 use Rattle.std.proofs.Common.{length}
 use Rattle.text_grammar.specs.Texts.{reader}
 use Rattle.text_grammar.proofs.text_core.FirstFaults.{one_first_each}

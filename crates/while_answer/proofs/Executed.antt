@@ -1,4 +1,4 @@
--- What runs of the translation say of executions.
+-- How runs of the translation bound executions.
 use Rattle.model.proofs.SpendingSums.{plain_totals_are_lengths}
 use Rattle.while_model.proofs.Translating.{executions_are_runs, totals_bound_executions}
 use Rattle.while_front.proofs.ValidPrograms.{readable_are_valid}

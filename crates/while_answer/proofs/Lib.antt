@@ -1,4 +1,4 @@
--- that texts are decided, what runs say of executions, and worked values
+-- The lemmas that texts are decided, on runs and executions, and on worked values.
 pub mod Decided
 pub mod Executed
 pub mod WorkedAnswers

@@ -1,4 +1,4 @@
--- What was worked out by hand of answers to while programs.
+-- The worked values of answers to while programs.
 use Rattle.std.proofs.Common.{◌≡◌, ℕ, zero, suc, ◌≤◌, List, [], ◌∷◌, ℤ, pos, refl, subst, arith}
 use Rattle.std.specs.Fmt.{digits}
 use Rattle.while_model.specs.Statements.{Statements, Skip, Nothing, Simple}
@@ -16,7 +16,7 @@ use Rattle.while_text.proofs.Lawful.{lawful}
 use Rattle.while_answer.specs.Spelled.{IsFirstFault}
 use Rattle.while_answer.specs.Worked.{TextsAreWorkedOut, StepsAreWorkedOut, skipping, counting_down}
 
--- a text without bytes is refused at its end
+-- An empty text is refused at its end.
 pub nothing_written : IsFirstFault [] (record { kind = Syntax; at = 0 })
 nothing_written =
     subst (λ (a : Answer Source Kind). Answers (reader (while_text [])) 0 (tokens []) a)
@@ -27,7 +27,7 @@ pub texts_worked : TextsAreWorkedOut
 unfolding digits
 texts_worked = record { none = refl; points = refl; later = refl; unknown = refl; strange = refl; limit = refl; nothing = nothing_written }
 
--- behind a step of `skip` nothing is left
+-- After a step of `skip` no statement is left.
 nothing_left : (start : List ℤ) (n : ℕ) (left : Statements) (end : List ℤ)
     → IsExecution (Simple Skip Nothing) start (suc n) left end → left ≡ Nothing
 nothing_left start zero left end (before, env, (is, same), step) =
@@ -35,7 +35,7 @@ nothing_left start zero left end (before, env, (is, same), step) =
 nothing_left start (suc n) left end (before, env, led, step) =
     absurd (subst (λ (s : Statements). Executes s env left end) (nothing_left start n before env led) step)
 
--- so there is no second step
+-- An execution of `skip` has at most one step.
 one_step : (start : List ℤ) (n : ℕ) (left : Statements) (end : List ℤ)
     → IsExecution (Simple Skip Nothing) start n left end → n ≤ 1
 one_step start zero left end h = omega arith

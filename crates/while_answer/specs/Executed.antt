@@ -1,4 +1,4 @@
--- What the runs of a while program's translation say of its executions.
+-- How the runs of a while program's translation bound its executions.
 use Rattle.std.specs.Prelude.{◌≡◌, ◌↔◌, ℕ, ◌≤◌, List, length, ℤ}
 use Rattle.while_text.specs.model.Bounds.{Bound, val}
 use Rattle.while_text.specs.model.Programs.{Program}
@@ -8,17 +8,17 @@ use Rattle.while_text.specs.while_model.Laws.{RunEndsWith}
 use Rattle.while_text.specs.while_model.Translation.{program_of}
 use Rattle.while_text.specs.Reading.{Source}
 
--- the integer transition system of a program
+-- The integer transition system of a program.
 abbrev pub translation_of : Source → Program
 translation_of source = program_of source.names source.program
 
--- from a value for each input, some execution of n steps ends with these values exactly where some run of n steps of
--- the translation does
+-- From a value for each input, some execution of n steps ends with given values exactly if some run of n steps of the
+-- translation does.
 pub record EndsAsRuns (source : Source) : Type 0 where
   pub each : (start : List ℤ) → length start ≡ length source.names → (n : ℕ) (end : List ℤ)
       → EndsWith source.program start n end ↔ RunEndsWith (translation_of source) start n end
 
--- each execution from a value for each input has at most as many steps as the bound says
+-- Each execution from a value for each input has at most as many steps as the bound.
 pub record HasStepsWithin (source : Source) (bound : Bound) : Type 0 where
   pub each : (start : List ℤ) → length start ≡ length source.names → (n : ℕ) (end : List ℤ)
       → EndsWith source.program start n end → n ≤ val bound (sizes_of_start start)

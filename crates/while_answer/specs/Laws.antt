@@ -1,4 +1,4 @@
--- That texts of while programs are decided, and what is known of the programs that they spell.
+-- Texts of while programs are decided, and the laws of the programs that they spell.
 use Rattle.std.specs.Prelude.{◌≡◌, ℕ, List}
 use Rattle.text_grammar.specs.text_core.Readers.{Fault}
 use Rattle.while_text.specs.model.Bounds.{Bound}
@@ -9,14 +9,15 @@ use Rattle.while_text.specs.Reading.{Source}
 use Rattle.while_answer.specs.Spelled.{IsWithin, IsTextWithin, IsFirstFault}
 use Rattle.while_answer.specs.Executed.{translation_of, EndsAsRuns, HasStepsWithin}
 
--- bytes are the text of one while program within the limits at most, or have one first fault at most, and not both
+-- The bytes either are the text of a while program within the limits, and of only one, or have a first fault, and only
+-- one.
 pub record WhileTextsAreDecided : Type 0 where
   pub one : (bytes : List ℕ) (a b : Source) → IsTextWithin bytes a → IsTextWithin bytes b → a ≡ b
   pub one_fault : (bytes : List ℕ) (x y : Fault Kind) → IsFirstFault bytes x → IsFirstFault bytes y → x ≡ y
   pub apart : (bytes : List ℕ) (a : Source) (x : Fault Kind) → IsTextWithin bytes a → ¬ (IsFirstFault bytes x)
 
--- the translation of a program within the limits is valid, the program's executions end as the translation's runs do,
--- and a bound on what all steps of these runs cost together bounds the steps of the executions
+-- The translation of a program within the limits is valid, the program's executions end with the same values as the
+-- translation's runs, and a bound on the total cost of these runs bounds the steps of the executions.
 pub record ExecutionsFollowRuns : Type 0 where
   pub valid : (source : Source) → IsWithin source → IsValid (translation_of source)
   pub ends : (source : Source) → IsWithin source → EndsAsRuns source

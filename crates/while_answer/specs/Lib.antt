@@ -1,11 +1,11 @@
--- what the contracts of this crate, and of those above it, cite
+-- The specs that contracts of this crate and of other crates cite.
 pub mod Texts
 pub mod Spelled
 pub mod Executed
 pub mod Laws
--- values that were worked out by hand
+-- Worked values.
 pub mod Worked
--- the crates below, which callers name through this one
+-- The crates below, which callers name through this one.
 pub use Rattle.while_text.specs as while_text
 pub use Rattle.while_text.specs.while_tree
 pub use Rattle.while_text.specs.while_model

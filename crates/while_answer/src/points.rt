@@ -11,7 +11,7 @@ use std::alloc::Global;
 ///
 /// # Errors
 ///
-/// `Memory` where an allocation fails.
+/// `Memory` if an allocation fails.
 pub fn points_text(alloc: Global, at: &[u64]) -> Result<Vec<u8>, Memory>
     ensures { IfOk result (λ text. text.items ≡ point_lines 0 at.now) }
 {

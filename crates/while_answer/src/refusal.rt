@@ -13,7 +13,7 @@ use while_text::{WhileError, WhileKind};
 ///
 /// # Errors
 ///
-/// `Memory` where an allocation fails, and where the text wasn't read because memory ran out.
+/// `Memory` if an allocation fails, or if the text wasn't read because memory ran out.
 pub fn refusal_text(alloc: Global, error: &WhileError) -> Result<Vec<u8>, Memory>
     ensures result_is { IfOk result (λ text. IfSome (refusal_in error.now) (λ x. text.items ≡ text_of_refusal x)) }
     ensures memory { refusal_in error.now ≡ None → IsErr result }
@@ -29,7 +29,7 @@ pub fn refusal_text(alloc: Global, error: &WhileError) -> Result<Vec<u8>, Memory
     }
 }
 
-// Which limit is passed.
+// The text of the limit that is exceeded.
 fn limit_text(kind: WhileKind) -> &'static [u8]
     ensures { result.now ≡ text_of_limit kind }
 {

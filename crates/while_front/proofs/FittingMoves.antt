@@ -1,4 +1,4 @@
--- The moves of statements that fit: how many there are, where they lead, and that their actions and guards fit.
+-- The moves of statements that fit: their number, the points that they reach, and that their actions and guards fit.
 use Rattle.std.proofs.Common.{◌≡◌, ◌⊎◌, inl, inr, ℕ, suc, ◌+◌, ◌<◌, ◌≤◌, List, [], ◌∷◌, ◌++◌, length, map, refl, sym}
 use Rattle.std.proofs.Common.{ap, subst, arith, length-append}
 use Rattle.std.specs.List.{AllByRecursion}
@@ -13,19 +13,19 @@ use Rattle.while_model.proofs.Sources.{IsBranchMove, IsMoveOf}
 use Rattle.its_model.specs.Valid.{IsValidAtom}
 use Rattle.while_tree.specs.Readable.{FitsAction, FitsTest, Fits, rules_of}
 
--- the action of a move fits, and so does its guard
+-- The action of a move and its guard fit.
 pub record FitsMove (n : ℕ) (m : Move) : Type 0 where
   pub action : FitsAction n m.action
   pub few : length m.guard ≤ atom_limit
   pub guard : AllByRecursion (IsValidAtom (n + free_count m.action)) m.guard
 
--- what holds of all holds of each one
+-- A predicate that holds of all elements holds of each member.
 all_at : {X : Type 0} (P : X → Type 0) (xs : List X) (x : X) → AllByRecursion P xs → IsIn x xs → P x
 all_at P [] x h i = absurd i
 all_at P (y ∷ xs) x h (inl e) = subst P (sym e) h.0
 all_at P (y ∷ xs) x h (inr i) = all_at P xs x h.1 i
 
--- the moves of a test that fits fit
+-- The moves of a test that fits fit.
 fits_branch : (n : ℕ) (m : Move) (at : ℕ) (test : List Atom) (one other : ℕ) → FitsTest n test
     → IsBranchMove m at test one other → FitsMove n m
 fits_branch n m at test one other t (inl e) =
@@ -44,7 +44,7 @@ fits_branch n m at test one other t (inr (atom, there, e)) =
       guard = (subst (λ (k : ℕ). IsValidAtom k atom) same fits, tt);
     })
 
--- the moves of statements that fit fit
+-- The moves of statements that fit fit.
 pub fits_moves : (n : ℕ) (m : Move) (here : Statements) (at after : ℕ) → Fits n here → IsMoveOf m at after here
     → FitsMove n m
 fits_moves n m Nothing at after f h = absurd h
@@ -63,7 +63,7 @@ fits_moves n m (If test block other rest) at after (t, b, o, r) (inr (inr (inl i
 fits_moves n m (If test block other rest) at after (t, b, o, r) (inr (inr (inr i))) =
     fits_moves n m rest (suc at + size block + size other) after r i
 
--- statements begin at a point that isn't behind both that of the first one and the one after them
+-- The first point of statements is at most `top`, if their number and the point after them are.
 first_bound : (at after top : ℕ) (here : Statements) → after ≤ top → at ≤ top → first at after here ≤ top
 first_bound at after top Nothing a b = a
 first_bound at after top (Simple action rest) a b = b
@@ -75,7 +75,7 @@ branch_bound : (m : Move) (at : ℕ) (test : List Atom) (one other top : ℕ) �
 branch_bound m at test one other top a b (inl e) = subst (λ (x : Move). x.to ≤ top) (sym e) a
 branch_bound m at test one other top a b (inr (atom, there, e)) = subst (λ (x : Move). x.to ≤ top) (sym e) b
 
--- no move leads behind the statements and the point after them
+-- No move leads to a point past the statements and the point after them.
 pub to_bound : (m : Move) (here : Statements) (at after top : ℕ) → after ≤ top → at + size here ≤ top
     → IsMoveOf m at after here → m.to ≤ top
 to_bound m Nothing at after top a s h = absurd h
@@ -111,7 +111,7 @@ to_bound m (If test block other rest) at after top a s h =
     go (inr (inr (inl i))) next one two later = two next i
     go (inr (inr (inr i))) next one two later = later i
 
--- the moves of a test, and others, are one for the test, one for each negation, and those others
+-- The number of moves of a test and of others: one for the test, one for each negation, and the others.
 branch_length : (at : ℕ) (test : List Atom) (one other : ℕ) (more : List Move)
     → length (moves_by at test one other ++ more) ≡ suc (length (negations test)) + length more
 branch_length at test one other more =
@@ -121,7 +121,7 @@ branch_length at test one other more =
       length-map (negations test) (λ (atom : Atom). passing at (atom ∷ []) other),
     )
 
--- there is a rule for each move
+-- There is a rule for each move.
 pub length_moves : (here : Statements) (at after : ℕ) → length (moves at after here) ≡ rules_of here
 length_moves Nothing at after = refl
 length_moves (Simple action rest) at after = ap suc (length_moves rest (suc at) after)
@@ -147,7 +147,7 @@ length_moves (If test block other rest) at after =
     let last_one = length_moves rest (suc at + size block + size other) after in
     omega (arith, all, both, last_both, first_one, second_one, last_one)
 
--- each statement has a rule
+-- There are at least as many rules as statements.
 pub size_le_rules : (here : Statements) → size here ≤ rules_of here
 size_le_rules Nothing = omega arith
 size_le_rules (Simple action rest) = let r = size_le_rules rest in omega (arith, r)

@@ -1,4 +1,5 @@
--- The points of moves: none occurs twice, each has a property that all ends of moves have, and they are at most two a move.
+-- The points of moves: none occurs twice, each has a property that all ends of moves have, and there are at most two
+-- per move.
 use Rattle.std.proofs.Common.{◌≡◌, ◌≢◌, ◌⊎◌, inl, inr, ℕ, suc, ◌+◌, ◌*◌, ◌<◌, ◌≤◌, ◌==◌, ◌||◌, Bool, true, false, List, []}
 use Rattle.std.proofs.Common.{◌∷◌, ◌++◌, length, refl, sym, subst, arith, length-append}
 use Rattle.std.specs.Prelude.{⊤}
@@ -10,12 +11,12 @@ use Rattle.while_model.specs.Translation.{with_point, with_points, number_in}
 use Rattle.while_model.proofs.Members.{IsIn, is_in-append}
 use Rattle.while_model.proofs.Numbers.{with_point-has, with_points-keeps}
 
--- no point occurs twice
+-- No point occurs twice.
 abbrev pub AreApart : List ℕ → Type 0
 AreApart [] = ⊤
 AreApart (x ∷ xs) = ¬ (IsIn x xs) × AreApart xs
 
--- a point that a test doesn't find isn't in the list
+-- A point that the test by `list_any` doesn't find isn't in the list.
 not_in : (k : ℕ) (points : List ℕ) → list_any (λ x. x == k) points ≡ false → ¬ (IsIn k points)
 not_in k [] h i = i
 not_in k (x ∷ points) h i = go (eqb_tells x k) (not_in k points) i
@@ -26,7 +27,7 @@ not_in k (x ∷ points) h i = go (eqb_tells x k) (not_in k points) i
     go (inr (test, other)) later (inl e) = other (sym e)
     go (inr (test, other)) later (inr there) = later (rw test at h) there
 
--- points with one more that isn't among them
+-- If no point occurs twice, neither does one after a new point is appended.
 apart_append : (points : List ℕ) (k : ℕ) → AreApart points → ¬ (IsIn k points) → AreApart (points ++ k ∷ [])
 apart_append [] k h new = ((λ i. i), tt)
 apart_append (x ∷ points) k (absent, h) new = (
@@ -46,14 +47,14 @@ apart_point points k h = go (list_any (λ x. x == k) points) refl
     go true e = rw e h
     go false e = rw e (apart_append points k h (not_in k points e))
 
--- none of the points of moves occurs twice
+-- None of the points of moves occurs twice.
 pub apart_points : (points : List ℕ) (ms : List Move) → AreApart points → AreApart (with_points points ms)
 apart_points points [] h = h
 apart_points points (m ∷ ms) h =
     apart_points (with_point (with_point points m.from) m.to) ms
     (apart_point (with_point points m.from) m.to (apart_point points m.from h))
 
--- what holds of all holds of all with one more of which it holds
+-- A predicate that holds of all elements and of one more holds of the list with that one appended.
 pub all_append : {X : Type 0} (P : X → Type 0) (xs : List X) (y : X) → AllByRecursion P xs → P y
     → AllByRecursion P (xs ++ y ∷ [])
 all_append P [] y h p = (p, tt)
@@ -67,7 +68,7 @@ all_point P points k h p = go (list_any (λ x. x == k) points) refl
     go true e = rw e h
     go false e = rw e (all_append P points k h p)
 
--- what holds of both ends of each move holds of each point
+-- A predicate that holds of both ends of each move holds of each point.
 pub all_points : (P : ℕ → Type 0) (points : List ℕ) (ms : List Move) → AllByRecursion P points
     → ((m : Move) → IsIn m ms → P m.from × P m.to) → AllByRecursion P (with_points points ms)
 all_points P points [] h each = h
@@ -76,7 +77,7 @@ all_points P points (m ∷ ms) h each =
     (all_point P (with_point points m.from) m.to (all_point P points m.from h (each m (inl refl)).0) (each m (inl refl)).1)
     (λ n i. each n (inr i))
 
--- the point that a move reaches is among the points
+-- The point that a move reaches is among the points.
 pub to_among : (points : List ℕ) (ms : List Move) (m : Move) → IsIn m ms → IsIn m.to (with_points points ms)
 to_among points [] m h = absurd h
 to_among points (n ∷ ms) m (inl e) =
@@ -85,7 +86,7 @@ to_among points (n ∷ ms) m (inl e) =
     (with_point-has (with_point points n.from) n.to))
 to_among points (n ∷ ms) m (inr h) = to_among (with_point (with_point points n.from) n.to) ms m h
 
--- the number of a point is one of those of the points
+-- The number of a point is below the number of points.
 pub number_below : (points : List ℕ) (k : ℕ) → IsIn k points → number_in points k < length points
 number_below [] k h = absurd h
 number_below (x ∷ points) k h = go (number_below points k) (eqb_tells x k) h
@@ -104,7 +105,7 @@ length_point points k = go (list_any (λ x. x == k) points) refl
     go true e = rw e (omega arith)
     go false e = rw e (omega (arith, length-append points (k ∷ [])))
 
--- there are at most two points a move
+-- There are at most two points per move.
 pub length_points : (points : List ℕ) (ms : List Move)
     → length (with_points points ms) ≤ length points + 2 * length ms
 length_points points [] = omega arith

@@ -1,4 +1,4 @@
--- Names of symbols and of variables of a translation: each is a name, and no name occurs twice.
+-- The names of symbols and variables of a translation are names, and none occurs twice.
 use Rattle.std.proofs.Common.{◌≡◌, ℕ, zero, suc, ◌<◌, ◌^◌, ◌&&◌, ◌||◌, Bool, true, false, List, [], ◌∷◌, ◌++◌, length, map}
 use Rattle.std.proofs.Common.{inl, inr, refl, sym, arith}
 use Rattle.std.specs.Prelude.{nat_eq}
@@ -17,7 +17,7 @@ use Rattle.its_model.specs.text_core.Names.{continues_name, IsName, is_same, is_
 use Rattle.its_model.proofs.text_core.NameLaws.{same_equal}
 use Rattle.while_front.proofs.PointLists.{AreApart}
 
--- a name goes on with a digit
+-- A digit continues a name.
 digit_continues : (c : ℕ) → digit_value c < 10 → continues_name c ≡ true
 digit_continues c h = grind (arith, nat_tests)
 
@@ -25,11 +25,11 @@ digits_continue : (ds : List ℕ) → AllDigits 10 ds → list_all continues_nam
 digits_continue [] h = refl
 digits_continue (c ∷ ds) h = rw (digit_continues c h.0, digits_continue ds h.1) refl
 
--- the name of a point is a name
+-- The name of a point is a name.
 pub point_is_name : (k : ℕ) → k < 2 ^ 64 → IsName (112 ∷ decimal k)
 point_is_name k small = (refl, digits_continue (decimal k) (decimal_is_IsNumeral k small).0.1)
 
--- a name isn't among the names of other points
+-- The name of a point isn't among the names of other points.
 absent : (inputs : List Name) (x : ℕ) (xs : List ℕ) → x < 2 ^ 64 → AllByRecursion (λ k. k < 2 ^ 64) xs
     → ¬ (IsIn x xs) → is_among (112 ∷ decimal x) (map (λ s. s.name) (map (symbol_of inputs) xs)) ≡ false
 absent inputs x [] small smalls new = refl
@@ -48,14 +48,14 @@ absent inputs x (y ∷ xs) small (low, smalls) new =
     go true e later = absurd (new (inl (same_point (same_equal (112 ∷ decimal x) (112 ∷ decimal y) e))))
     go false e later = later
 
--- symbols of points of which none occurs twice have distinct names
+-- The symbols of points have distinct names if no point occurs twice.
 pub symbols_distinct : (inputs : List Name) (xs : List ℕ) → AllByRecursion (λ k. k < 2 ^ 64) xs → AreApart xs
     → AreDistinct (map (λ s. s.name) (map (symbol_of inputs) xs))
 symbols_distinct inputs [] smalls apart = tt
 symbols_distinct inputs (x ∷ xs) (small, smalls) (new, apart) =
     (absent inputs x xs small smalls new, symbols_distinct inputs xs smalls apart)
 
--- what comes behind a test that passes may change
+-- The second part of a conjunction that holds may be replaced by one that it implies.
 both_pass : (a b d : Bool) → (b ≡ true → d ≡ true) → (a && b) ≡ true → (a && d) ≡ true
 both_pass true b d f h = f h
 both_pass false b d f h = absurd (true≢false (sym h))
@@ -66,7 +66,7 @@ one_more (c ∷ bytes) h =
     both_pass (continues_name c) (list_all continues_name bytes) (list_all continues_name (bytes ++ 95 ∷ []))
     (one_more bytes) h
 
--- a name with a `_` behind it is a name
+-- A name with a `_` after it is a name.
 longer_is_name : (name : Name) → IsName name → IsName (name ++ 95 ∷ [])
 longer_is_name [] h = absurd h
 longer_is_name (b ∷ bytes) (begins, goes_on) = (begins, one_more bytes goes_on)
@@ -81,11 +81,11 @@ apart_is_name names (suc most) name h =
     go true e later = rw e later
     go false e later = rw e h
 
--- the name of a free variable is a name
+-- The name of a free variable is a name.
 pub free_is_name : (inputs : List Name) → IsName (free_name inputs)
 free_is_name inputs = apart_is_name inputs (longest inputs) (104 ∷ []) (refl, refl)
 
--- what is neither among names nor the same as another is not among both
+-- A name that is neither among names nor the same as x is not among the names with x appended.
 absent_append : (n : Name) (names : List Name) (x : Name) → is_among n names ≡ false → is_same n x ≡ false
     → is_among n (names ++ x ∷ []) ≡ false
 absent_append n [] x a s = rw s refl
@@ -97,7 +97,7 @@ absent_append n (y ∷ names) x a s = go (is_same n y) a (λ h. absent_append n 
     go true h f = absurd (true≢false h)
     go false h f = f h
 
--- names with one more that isn't among them
+-- Distinct names stay distinct after a new name is appended.
 pub distinct_append : (names : List Name) (x : Name) → AreDistinct names → ¬ (Contains names x)
     → AreDistinct (names ++ x ∷ [])
 distinct_append [] x d new = (refl, tt)

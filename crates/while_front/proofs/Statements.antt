@@ -1,4 +1,4 @@
--- What one statement adds to those after it: its number of statements, and its moves.
+-- The share of one statement in a program: its number of statements and its moves.
 use Rattle.std.proofs.Common.{◌≡◌, ℕ, suc, ◌+◌, ◌<◌, ◌^◌, List, [], ◌∷◌, ◌++◌, length, map, refl, sym, ◌∙◌, ap, subst, arith}
 use Rattle.std.proofs.Common.{append_assoc, cond, drop, false}
 use Rattle.std.specs.Prelude.{◌==◌, get_or}
@@ -11,25 +11,25 @@ use Rattle.while_tree.specs.declared.stmt.Stmt.{Stmt}
 use Rattle.while_tree.specs.Views.{Statement, Plain, Loop, Branch, before, joined, stmt_of, statements_of}
 use Rattle.while_front.specs.Views.{statement_size, statement_moves}
 
--- the number of statements is that of the first one and that of the others
+-- The number of statements is that of the first one plus that of the others.
 pub size_before : (s : Statement) (rest : Statements) → size (before s rest) ≡ statement_size s + size rest
 size_before (Plain action) rest = omega arith
 size_before (Loop test block) rest = omega arith
 size_before (Branch test block other) rest = omega arith
 
--- a statement has a number
+-- A statement counts for at least one.
 pub statement_size_positive : (s : Statement) → 0 < statement_size s
 statement_size_positive (Plain action) = omega arith
 statement_size_positive (Loop test block) = omega arith
 statement_size_positive (Branch test block other) = omega arith
 
--- statements begin at their first one
+-- The first point of statements that begin with a statement is the number `at`.
 pub first_before : (at after : ℕ) (s : Statement) (rest : Statements) → first at after (before s rest) ≡ at
 first_before at after (Plain action) rest = refl
 first_before at after (Loop test block) rest = refl
 first_before at after (Branch test block other) rest = refl
 
--- where there is a statement, they begin at its number, and else at the point after them
+-- The first point of a list of statements that isn't empty is its number `at`.
 pub first_some : (at after : ℕ) (body : List Stmt) → 0 < length body → first at after (statements_of body) ≡ at
 first_some at after [] h = absurd (omega (arith, h))
 first_some at after (s ∷ body) h = first_before at after (stmt_of s) (statements_of body)
@@ -38,12 +38,12 @@ pub first_none : (at after : ℕ) (body : List Stmt) → length body ≡ 0 → f
 first_none at after [] h = refl
 first_none at after (s ∷ body) h = absurd (omega (arith, h))
 
--- the moves of an action, and of statements after it
+-- The moves of an action followed by other statements.
 action-moves : (action : Action) (rest : Statements) (at after a : ℕ) → suc at ≡ a
     → moves at after (Simple action rest) ≡ statement_moves at (first a after rest) (Plain action) ++ moves a after rest
 action-moves action rest at after a e = rw (← e) refl
 
--- the moves of a loop, and of statements after it
+-- The moves of a loop followed by other statements.
 loop-moves : (test : List Atom) (block rest : Statements) (at after a b : ℕ) → suc at ≡ a → suc at + size block ≡ b
     → moves at after (While test block rest)
     ≡ (moves_by at test (first a at block) (first b after rest) ++ moves a at block) ++ moves b after rest
@@ -60,7 +60,7 @@ loop-moves test block rest at after a b e f =
     exact = sym (append_assoc (moves_by at test (first (suc at) at block) (first (suc at + size block) after rest))
         (moves (suc at) at block) (moves (suc at + size block) after rest))
 
--- the moves of a branch, and of statements after it
+-- The moves of a branch followed by other statements.
 branch-moves : (test : List Atom) (block other rest : Statements) (at after a b d : ℕ) → suc at ≡ a
     → suc at + size block ≡ b → suc at + size block + size other ≡ d
     → moves at after (If test block other rest)
@@ -87,7 +87,7 @@ branch-moves test block other rest at after a b d e f g =
         let last = moves (suc at + size block + size other) after rest in
         sym (append_assoc tests (one ++ two) last ∙ ap (λ (v : List Move). tests ++ v) (append_assoc one two last))
 
--- the moves of statements are those of the first one and those of the others
+-- The moves of statements are those of the first one and then those of the others.
 pub moves_before : (s : Statement) (rest : Statements) (at after : ℕ) → moves at after (before s rest)
     ≡ statement_moves at (first (at + statement_size s) after rest) s ++ moves (at + statement_size s) after rest
 moves_before (Plain action) rest at after = action-moves action rest at after (at + 1) (omega arith)
@@ -97,7 +97,7 @@ moves_before (Branch test block other) rest at after =
     branch-moves test block other rest at after (at + 1) (at + 1 + size block) (at + (1 + size block + size other))
     (omega arith) (omega arith) (omega arith)
 
--- with the moves of one statement more, and those of the others, the moves are those of all
+-- Moves so far, followed by those of one more statement and those of the others, are all moves.
 pub moves_step : (out new all : List Move) (s : Statement) (rest : List Statement) (here after next : ℕ)
     → next ≡ first (here + statement_size s) after (joined rest) → new ≡ out ++ statement_moves here next s
     → out ++ moves here after (joined (s ∷ rest)) ≡ all
@@ -117,7 +117,7 @@ moves_step out new all s rest here after next n e h = both ∙ h
         ∙ append_assoc out (statement_moves here (first (here + statement_size s) after (joined rest)) s)
         (moves (here + statement_size s) after (joined rest)) ∙ sym whole
 
--- the point after a statement: that of the next one, or the one after all where none is left
+-- The point after a statement is that of the next one, or the one after all if no statement is left.
 pub next_is : (at after left : ℕ) (rest : List Stmt) → left ≡ length rest
     → cond (left == 0) after at ≡ first at after (statements_of rest)
 next_is at after left [] e = rw e refl
@@ -125,7 +125,7 @@ next_is at after left (s ∷ rest) e =
     let some : (left == 0) ≡ false = grind (arith, nat_tests, e) in
     rw some (sym (first_before at after (stmt_of s) (statements_of rest)))
 
--- one statement more of those that are left
+-- After one statement, one less is left.
 pub left_step : (body : List Stmt) (i : ℕ) (item : Stmt) → i < length body → item ≡ get_or body i item
     → statements_of (drop i body) ≡ before (stmt_of item) (statements_of (drop (i + 1) body))
 left_step body i item low e =

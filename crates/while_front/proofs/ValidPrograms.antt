@@ -26,7 +26,7 @@ use Rattle.while_front.proofs.FittingMoves.{FitsMove, fits_moves, to_bound, leng
 use Rattle.while_front.proofs.PointLists.{apart_points, all_append, all_points, to_among, number_below, length_points}
 use Rattle.while_front.proofs.PointNames.{point_is_name, symbols_distinct, free_is_name, distinct_append}
 
--- variables are expressions over more variables
+-- The variables from `first` on are expressions over `most` variables.
 variables_valid : (n first most : ℕ) → first + n ≤ most
     → AllByRecursion (IsValidTerm most) (map (λ x. Variable x) (range_with_len first n))
 variables_valid zero first most h = tt
@@ -35,14 +35,14 @@ variables_valid (suc n) first most h = (
   variables_valid n (first + 1) most (omega (arith, h)),
 )
 
--- what holds of all holds of all where it holds of what is written among them
+-- A predicate that holds of all elements holds of them after one is replaced by an element of which it holds.
 all_set : {X : Type 0} (P : X → Type 0) (xs : List X) (i : ℕ) (y : X) → AllByRecursion P xs → P y
     → AllByRecursion P (set xs i y)
 all_set P [] i y h p = tt
 all_set P (x ∷ xs) zero y h p = (p, h.1)
 all_set P (x ∷ xs) (suc i) y h p = (h.0, all_set P xs i y h.1 p)
 
--- there are so many variables, and so many updates
+-- The list of the first n variables has n elements.
 variables_length : (n : ℕ) → length (variables n) ≡ n
 variables_length n = length-map (range_with_len 0 n) (λ x. Variable x) ∙ length-range_with_len 0 n
 
@@ -51,7 +51,7 @@ updates_length n (Assign x e) = length-set (variables n) x e ∙ variables_lengt
 updates_length n (Choose x) = length-set (variables n) x (Variable n) ∙ variables_length n
 updates_length n Skip = variables_length n
 
--- the updates of an action that fits are valid
+-- The updates of an action that fits are valid.
 updates_valid : (n : ℕ) (action : Action) → FitsAction n action
     → AllByRecursion (IsValidTerm (n + free_count action)) (updates_of n action)
 updates_valid n (Assign x e) (low, valid) =
@@ -63,7 +63,7 @@ updates_valid n (Choose x) low =
     (record { variables = omega arith; expands = refl })
 updates_valid n Skip fits = variables_valid n 0 (n + 0) (omega arith)
 
--- there is a name for each free variable, at most one
+-- Each free variable has a name, and there is at most one.
 free_names_length : (inputs : List Name) (action : Action) → length (free_names inputs action) ≡ free_count action
 free_names_length inputs (Assign x e) = refl
 free_names_length inputs (Choose x) = refl
@@ -74,7 +74,7 @@ free_count_le (Assign x e) = omega arith
 free_count_le (Choose x) = omega arith
 free_count_le Skip = omega arith
 
--- the variables of a rule have names, which are distinct
+-- The variables of a rule have names, which are distinct.
 names_valid : (inputs : List Name) (action : Action) → AllByRecursion IsName inputs
     → AllByRecursion IsName (inputs ++ free_names inputs action)
 names_valid inputs (Assign x e) h = rw append-nil h
@@ -87,13 +87,13 @@ names_distinct inputs (Assign x e) h = rw append-nil h
 names_distinct inputs (Choose x) h = distinct_append inputs (free_name inputs) h (free_names_are_apart.each inputs)
 names_distinct inputs Skip h = rw append-nil h
 
--- what holds of the images of all moves holds of each image
+-- A predicate that holds of the image of each move holds of all images.
 all_image : {X : Type 0} (P : X → Type 0) (f : Move → X) (ms : List Move) → ((m : Move) → IsIn m ms → P (f m))
     → AllByRecursion P (map f ms)
 all_image P f [] each = tt
 all_image P f (m ∷ ms) each = (each m (inl refl), all_image P f ms (λ n i. each n (inr i)))
 
--- a test that one of two passes
+-- A disjunction whose first part holds holds.
 first_passes : (a b : Bool) → a ≡ true → (a || b) ≡ true
 first_passes a b e = rw e refl
 
@@ -101,7 +101,7 @@ second_passes : (a b : Bool) → b ≡ true → (a || b) ≡ true
 second_passes true b e = refl
 second_passes false b e = e
 
--- the rule of a move that leaves point 0 leaves the start symbol
+-- The rule of a move that leaves point 0 leaves the start symbol.
 start_left : (inputs : List Name) (points : List ℕ) (ms : List Move) (m : Move) → IsIn m ms → m.from ≡ 0
     → list_any (λ r. nat_eq (number_in points 0) r.source) (map (rule_of inputs points) ms) ≡ true
 start_left inputs points [] m i e = absurd i
@@ -117,7 +117,7 @@ start_left inputs points (n ∷ ms) m (inr i) e =
     (list_any (λ r. nat_eq (number_in points 0) r.source) (map (rule_of inputs points) ms))
     (start_left inputs points ms m i e)
 
--- symbols of small points are valid
+-- The symbols of points below 2^64 are valid.
 symbols_valid : (inputs : List Name) (xs : List ℕ) → length inputs ≤ 32 → AllByRecursion (λ k. k < 2 ^ 64) xs
     → AllByRecursion IsValidSymbol (map (symbol_of inputs) xs)
 symbols_valid inputs [] few smalls = tt
@@ -125,11 +125,11 @@ symbols_valid inputs (x ∷ xs) few (small, smalls) =
     (record { name = point_is_name x small; arity = few }, symbols_valid inputs xs few smalls)
 
 module _ (inputs : List Name) (program : Statements) (readable : IsReadable inputs program) where
-  -- the points of the program
+  -- The points of the program.
   abbrev points : List ℕ
   points = points_of (program_moves program)
 
-  -- both ends of each move are small
+  -- Both ends of each move are below 2^64.
   ends_small : (m : Move) → IsIn m (program_moves program) → (m.from < 2 ^ 64) × (m.to < 2 ^ 64)
   ends_small m i =
       let move = listed-only m program 0 (size program) i in
@@ -138,28 +138,28 @@ module _ (inputs : List Name) (program : Statements) (readable : IsReadable inpu
       let few = size_le_rules program in
       let most = readable.few_rules in (omega (arith, range.1, few, most), omega (arith, bound, few, most))
 
-  -- so are the points
+  -- The points are below 2^64.
   points_small : AllByRecursion (λ k. k < 2 ^ 64) points
   points_small = all_points (λ k. k < 2 ^ 64) [] (program_moves program) tt ends_small
 
-  -- the start is one of them
+  -- Point 0, the start, is among the points.
   start_among : IsIn 0 points
   start_among =
       let s = starts program readable.nonempty in
       subst (λ (k : ℕ). IsIn k points) s.2
       (from_among [] (program_moves program) s.0 (listed s.0 program 0 (size program) s.1))
 
-  -- the symbol of a point has a place for each input
+  -- The symbol of a point has a place for each input.
   places_at : (k : ℕ) → IsIn k points → arity_of (program_of inputs program) (number_in points k) ≡ length inputs
   places_at k i = ap (λ (o : Option Symbol). arity_in o) (
       slice_get-map (symbol_of inputs) points (number_in points k)
       ∙ ap (λ (o : Option ℕ). option_map (symbol_of inputs) o) (point_at points k i))
 
-  -- the number of a point is that of a symbol
+  -- The number of a point is that of a symbol.
   symbol_below : (k : ℕ) → IsIn k points → number_in points k < length (map (symbol_of inputs) points)
   symbol_below k i = let low = number_below points k i in omega (arith, low, length-map points (symbol_of inputs))
 
-  -- the rule of each move is valid
+  -- The rule of each move is valid.
   move_valid : (m : Move) → IsIn m (program_moves program)
       → IsValidRule (program_of inputs program) (rule_of inputs points m)
   move_valid m i =
@@ -204,7 +204,7 @@ module _ (inputs : List Name) (program : Statements) (readable : IsReadable inpu
         start_distinct = readable.distinct;
       }
 
-  -- its points can be numbered
+  -- The translation has room: its inputs and points can be numbered.
   pub has_room : HasRoom inputs (program_moves program)
   has_room =
       let few = readable.few_rules in
@@ -212,28 +212,28 @@ module _ (inputs : List Name) (program : Statements) (readable : IsReadable inpu
       let moves = length_moves program 0 (size program) in
       record { few_inputs = readable.few_inputs; few_points = omega (arith, few, count, moves) }
 
--- the translation of every program within the limits is valid
+-- The translation of every program within the limits is valid.
 pub readable_are_valid : ReadableProgramsAreValid
 readable_are_valid = record { each = λ inputs program readable. translation_valid inputs program readable }
 
--- statements of a program within the limits can be numbered
+-- The statements of a program within the limits can be numbered.
 pub readable_size : (inputs : List Name) (program : Statements) → IsReadable inputs program → size program < 2 ^ 32
 readable_size inputs program readable =
     let few = size_le_rules program in let most = readable.few_rules in omega (arith, few, most)
 
--- so can the points of its moves
+-- The translation of a program within the limits has room.
 pub room_for : (inputs : List Name) (program : Statements) (ms : List Move) → IsReadable inputs program
     → ms ≡ program_moves program → HasRoom inputs ms
 room_for inputs program ms readable e =
     subst (λ (x : List Move). HasRoom inputs x) (sym e) (has_room inputs program readable)
 
--- a program that is its translation is valid
+-- A program equal to the translation is valid.
 pub valid_as : (inputs : List Name) (program : Statements) (p : Program) → IsReadable inputs program
     → p ≡ program_of inputs program → IsValid p
 valid_as inputs program p readable e =
     subst (λ (x : Program). IsValid x) (sym e) (translation_valid inputs program readable)
 
--- a result that is the translation of a program within the limits is valid
+-- A result that, if it is a program, is the translation of a program within the limits is valid.
 pub valid_if : {M E : Type 0} (view : M → Program) (inputs : List Name) (program : Statements) → IsReadable inputs program
     → (result : Result M E) → IfOk result (λ p. view p ≡ program_of inputs program) → IfOk result (λ p. IsValid (view p))
 valid_if view inputs program readable (Ok p) e = valid_as inputs program (view p) readable e

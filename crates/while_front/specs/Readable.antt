@@ -1,4 +1,4 @@
--- When there is room for a translation, and that the translations of programs within the limits are valid.
+-- When a translation has room, and that the translations of programs within the limits are valid.
 use Rattle.std.specs.Prelude.{ℕ, ◌<◌, ◌≤◌, ◌^◌, List, length}
 use Rattle.while_model.specs.model.Limits.{place_limit}
 use Rattle.while_model.specs.model.Programs.{Name}
@@ -8,11 +8,11 @@ use Rattle.while_model.specs.Translation.{points_of, program_of}
 use Rattle.its_model.specs.Valid.{IsValid}
 use Rattle.while_tree.specs.Readable.{IsReadable}
 
--- inputs and the points of moves can be numbered
+-- There are numbers for the inputs and for the points of the moves.
 pub record HasRoom (inputs : List Name) (ms : List Move) : Type 0 where
   pub few_inputs : length inputs ≤ place_limit
   pub few_points : length (points_of ms) < 2 ^ 32
 
--- the translation of a program within the limits is valid
+-- The translation of a program within the limits is valid.
 pub record ReadableProgramsAreValid : Type 0 where
   pub each : (inputs : List Name) (program : Statements) → IsReadable inputs program → IsValid (program_of inputs program)

@@ -33,7 +33,7 @@ fn is_among(names: &[Name], bytes: &[u8]) -> bool
     false
 }
 
-// `h`, with the fewest `_` behind it that make it none of these names.
+// `h`, with the fewest `_` after it that make it none of these names.
 #[tactic(auto, using(crate::proofs::Names::apart_none, crate::proofs::Names::apart_zero, crate::proofs::Names::apart_more))]
 pub(crate) fn free_name(alloc: Global, inputs: &[Name]) -> Result<Name, Memory>
     ensures { IfOk result (λ name. name_of name ≡ free_name_of (map name_of inputs.now)) }

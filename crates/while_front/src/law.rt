@@ -1,4 +1,4 @@
-//! What holds of the translation of every program that can be read.
+//! A law of the translation of every program that can be read.
 
 ghost use Rattle.while_front.specs.Readable.{ReadableProgramsAreValid};
 

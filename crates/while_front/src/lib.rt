@@ -1,7 +1,8 @@
 //! Programs of the small while language as integer transition systems.
 //!
-//! Builds on `while_tree` (programs as types) and `while_model` (executions, and what a translation is). Main guarantee:
-//! `translate` gives exactly the translated program, which is valid, so its runs are the executions.
+//! Builds on `while_tree` (programs as types) and `while_model` (executions, and the definition of the translation).
+//! Main guarantee: `translate` gives exactly the translated program, which is valid;
+//! its runs correspond to the executions (`while_model`).
 #![tactic(auto)]
 
 mod free_name;

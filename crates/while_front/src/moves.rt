@@ -14,7 +14,7 @@ use program_copies::{copied_atoms, copied_expr};
 use std::alloc::Global;
 use while_tree::Stmt;
 
-/// What happens along a move: a variable takes the value of an expression, or any integer, or nothing happens.
+/// The action of a move: a variable takes the value of an expression or any integer, or nothing happens.
 #[derive(Debug, PartialEq, Eq, Drop)]
 pub(crate) enum Action {
     Assign(u32, Expr),
@@ -22,7 +22,7 @@ pub(crate) enum Action {
     Skip,
 }
 
-/// A move from a point to a point, which is possible where its guard holds.
+/// A move from a point to a point, which is possible if its guard holds.
 #[derive(Debug, PartialEq, Eq, Drop)]
 pub(crate) struct Move {
     pub(crate) from: u32,
@@ -31,7 +31,7 @@ pub(crate) struct Move {
     pub(crate) action: Action,
 }
 
-/// The point of a test, the point where the test holds, and the one where it fails.
+/// The point of a test, the point that follows if the test holds, and the one that follows if it fails.
 #[derive(Clone, Copy, Debug, PartialEq, Eq)]
 pub(crate) struct Fork {
     pub(crate) at: u32,
@@ -39,7 +39,7 @@ pub(crate) struct Fork {
     pub(crate) fails: u32,
 }
 
-// The number of statements, those in blocks among them.
+// The number of statements, including those in blocks.
 #[cycle(sized)]
 #[tactic(auto, using(crate::proofs::Statements::size_before))]
 pub(crate) fn size_of(body: &[Stmt]) -> u32
@@ -53,7 +53,7 @@ pub(crate) fn size_of(body: &[Stmt]) -> u32
     count
 }
 
-// The number of statements of one, those in its blocks among them.
+// One more than the number of statements in the blocks of a statement: it counts itself too.
 #[cycle(sized)]
 fn statement_size_of(stmt: &Stmt) -> u32
     requires { statement_size (stmt_of stmt.now) < 2 ^ 32 }
@@ -68,7 +68,7 @@ fn statement_size_of(stmt: &Stmt) -> u32
     }
 }
 
-// The point at which statements begin, which are numbered from `at` on.
+// The first point of statements that are numbered from `at` on, or `after` if there are none.
 #[tactic(auto, using(crate::proofs::Statements::first_some, crate::proofs::Statements::first_none))]
 fn first_of(at: u32, after: u32, body: &[Stmt]) -> u32
     ensures { result ≡ first at after (statements_of body.now) }
@@ -76,14 +76,14 @@ fn first_of(at: u32, after: u32, body: &[Stmt]) -> u32
     if body.is_empty() { after } else { at }
 }
 
-// The point after a statement: that of the next one, or the one after all where none is left.
+// The point after a statement: that of the next one, or the one after all if no statement is left.
 fn next_point(left: usize, behind: u32, after: u32) -> u32
     ensures { result ≡ (if left == 0 then after else behind) }
 {
     if left == 0 { after } else { behind }
 }
 
-// Appends the moves of statements that are numbered from `at` on, where the point after them is `after`.
+// Appends the moves of statements that are numbered from `at` on and followed by the point `after`.
 #[cycle(moved)]
 pub(crate) fn push_moves(
     alloc: Global,
@@ -108,7 +108,7 @@ pub(crate) fn push_moves(
     Ok(())
 }
 
-// Appends the moves of one statement, where the point after it is `next`.
+// Appends the moves of one statement that is followed by the point `next`.
 #[cycle(moved)]
 fn push_statement(
     alloc: Global,
@@ -172,7 +172,7 @@ fn push_action(
     Ok(())
 }
 
-// Appends the moves of a test: one where it holds, and then one for each negation of its atoms.
+// Appends the moves of a test: one for the test, and then one for each negation of its atoms.
 fn push_test(alloc: Global, moves: &mut Vec<Move>, test: &[Atom], fork: Fork) -> Result<(), Memory>
     ensures { OnOk result (map move_of moves.new.items
         ≡ map move_of moves.old.items ++ moves_by fork.at (map atom_of test.now) fork.holds fork.fails) }
@@ -183,7 +183,7 @@ fn push_test(alloc: Global, moves: &mut Vec<Move>, test: &[Atom], fork: Fork) ->
     push_negated(alloc, moves, negated, fork.at, fork.fails)
 }
 
-// Appends a move on which nothing happens.
+// Appends a move without an action.
 fn push_passing(moves: &mut Vec<Move>, from: u32, guard: Vec<Atom>, to: u32) -> Result<(), Memory>
     ensures { OnOk result (map move_of moves.new.items
         ≡ map move_of moves.old.items ++ passing from (map atom_of guard.items) to ∷ []) }

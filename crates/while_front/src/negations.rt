@@ -1,4 +1,4 @@
-//! The atoms that hold where a test fails.
+//! The negations of tests: a test fails if one of these atoms holds.
 
 ghost use Rattle.std.specs.Prelude.{◌≡◌, ◌++◌, ◌∷◌, [], map, IfOk, OnOk};
 ghost use Rattle.while_model.specs.model.Programs.{Compare};
@@ -22,7 +22,7 @@ pub(crate) fn negations(alloc: Global, test: &[Atom]) -> Result<Vec<Atom>, Memor
     Ok(atoms)
 }
 
-// Appends the negations of an atom: that of an equation is `<`, and then `>`.
+// Appends the negations of an atom: those of an equation are `<`, and then `>`.
 fn push_negations(alloc: Global, atoms: &mut Vec<Atom>, atom: &Atom) -> Result<(), Memory>
     ensures { OnOk result
         (map atom_of atoms.new.items ≡ map atom_of atoms.old.items ++ negations_of_atom (atom_of atom.now)) }
@@ -42,7 +42,7 @@ fn push_negations(alloc: Global, atoms: &mut Vec<Atom>, atom: &Atom) -> Result<(
     }
 }
 
-// Appends a comparison of copies of two expressions.
+// Appends a comparison of copies of the two expressions.
 fn push_comparison(
     alloc: Global,
     atoms: &mut Vec<Atom>,

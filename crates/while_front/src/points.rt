@@ -44,7 +44,7 @@ fn add_point(points: &mut Vec<u32>, k: u32) -> Result<(), Memory>
     Ok(())
 }
 
-// The position of a point among points, or their number where it isn't among them.
+// The position of a point in the list, or the list's length if it isn't there.
 pub(crate) fn number_in(points: &[u32], k: u32) -> u32
     requires { length points.now < 2 ^ 32 }
     ensures { result ≡ number_of_point points.now k }

@@ -27,7 +27,7 @@ fn free_count(action: &Action) -> u32
     }
 }
 
-// The names of a rule's variables: the inputs, and the free variable where there is one.
+// The names of a rule's variables: the inputs, and the free variable if there is one.
 fn names_of(
     alloc: Global,
     inputs: &[Name],
@@ -47,7 +47,7 @@ fn names_of(
     Ok(names)
 }
 
-// A move as a rule, where these are the points.
+// A move as a rule; the symbols are numbered by the list of points.
 pub(crate) fn rule_from(
     alloc: Global,
     inputs: &[Name],
@@ -78,7 +78,7 @@ pub(crate) fn rule_from(
     })
 }
 
-// A point as a symbol with so many places: its name is `p` and the number of the point.
+// A point as a symbol with a place for each input: its name is `p` and the number of the point.
 pub(crate) fn symbol_from(alloc: Global, inputs: &[Name], k: u32) -> Result<Symbol, Memory>
     requires { length inputs.now ≤ place_limit }
     ensures { IfOk result (λ s. symbol_of s ≡ symbol_of_point (map name_of inputs.now) k) }

@@ -21,17 +21,17 @@ use program_copies::copied_names;
 use std::alloc::Global;
 use while_tree::Whole;
 
-/// The integer transition system of a while program. Its executions are the runs of the system, with as many steps and
-/// the same values.
+/// The integer transition system of a while program. The executions of the program correspond to the runs of the
+/// system, with the same number of steps and the same values.
 ///
 /// Statements are numbered from 0 in the order of their first bytes. Statement k is the symbol `p` followed by k, and
-/// the end is `p` followed by the number of statements. Rules come by statement: a test has one where it holds, and
-/// then one for each negation of its atoms. The free variable of a choice is called `h`, with as many `_` as make it no
-/// input.
+/// the end is `p` followed by the number of statements. Rules come by statement: a test has one rule with the test as
+/// its guard, and then one for each negation of its atoms. The free variable of a choice is called `h`, with as many
+/// `_` as make it no input.
 ///
 /// # Errors
 ///
-/// `Memory` where an allocation fails.
+/// `Memory` if an allocation fails.
 pub fn translate(alloc: Global, w: &Whole) -> Result<Program, Memory>
     requires { IsReadable (map name_of w.now.names.items) (statements_of w.now.body.items) }
     ensures program { IfOk result (λ p. program_of p

@@ -9,7 +9,7 @@ use crate::moves::Action;
 use poly_terms::{Expr, Memory};
 use std::alloc::Global;
 
-// Each variable itself, so many.
+// The first n variables, as expressions.
 #[tactic(auto, using(crate::proofs::UpdateLists::variables_push))]
 fn variables(alloc: Global, n: u32) -> Result<Vec<Expr>, Memory>
     ensures { IfOk result (λ updates. map term_of updates.items ≡ variables_of n) }
@@ -21,7 +21,7 @@ fn variables(alloc: Global, n: u32) -> Result<Vec<Expr>, Memory>
     Ok(updates)
 }
 
-// Writes an expression over an update, where there is one.
+// Overwrites the update of variable x, if there is one, with an expression.
 #[tactic(auto, using(crate::proofs::UpdateLists::terms_set))]
 fn put(updates: &mut Vec<Expr>, x: u32, e: Expr)
     ensures { map term_of updates.new.items ≡ set (map term_of updates.old.items) x (term_of e) }

@@ -1,4 +1,4 @@
--- Reading an expression without a fault follows the parsing of expressions, piece by piece.
+-- Reading an expression without a fault follows the parsing of expressions, token by token.
 use Rattle.std.proofs.Common.{◌≡◌, ℕ, ◌<◌, ◌≤◌, Bool, false, cond, not, ◌&&◌, List, [], ◌∷◌, ◌++◌}
 use Rattle.std.proofs.Common.{length, Some, refl, sym, ap, subst, ◌∙◌, arith}
 use Rattle.std.specs.Prelude.{◌==◌, ⊤, pos}
@@ -17,20 +17,20 @@ use Rattle.while_text.specs.declared.piece.Piece.{Piece}
 use Rattle.while_text.specs.Courses.{Course, goes_on, depth_after, is_last, opens_block}
 use Rattle.while_text.specs.Courses.{after_value, after_left, after_phase, course_after, with_token as counted, plus}
 use Rattle.while_text.specs.Courses.{negation_count}
-use Rattle.while_text.specs.Drafts.{Draft, bytes_of, number_of, front_after, with_token, block_opens, made_in}
+use Rattle.while_text.specs.Drafts.{Draft, bytes_of, number_of, state_after, with_token, block_opens, made_in}
 use Rattle.while_text.specs.Drafts.{made_of_value, made_of_value_token, made_of_left, made_of_left_side, draft_after}
 use Rattle.while_text.specs.Drafts.{term_of, no_front, atom_of}
 use Rattle.while_text.specs.Reading.{State}
 use Rattle.while_text.proofs.SilentReading.{HasNone, sound_after}
 use Rattle.while_laws.specs.Spelled.{spelled}
-use Rattle.while_laws.proofs.FrontFacts.{is_read, is_raised, stops, follows}
-use Rattle.while_laws.proofs.FrontFacts.{Follows, open_after, tokens_bound}
-use Rattle.while_laws.proofs.FrontsMade.{front_steps}
+use Rattle.while_laws.proofs.StateFacts.{is_read, is_raised, stops, follows}
+use Rattle.while_laws.proofs.StateFacts.{Follows, open_after, tokens_bound}
+use Rattle.while_laws.proofs.StatesMade.{state_steps}
 use Rattle.while_laws.proofs.Quiet.{IsExpression, IsWithin, within, written_by}
 use Rattle.while_laws.proofs.Sorts.{IsKnown, Agree, agrees, by_sort}
 use Rattle.while_laws.proofs.TokenFacts.{IsCounted}
 
--- an expression goes on in a part of a text: only on a left side no token ends it
+-- An expression continues after a token: on a left side always, elsewhere if the token isn't its last one.
 abbrev pub GoesOn : Phase → Bool → Type 0
 GoesOn phases.Left last = ⊤
 GoesOn phases.Value last = last ≡ false
@@ -47,7 +47,7 @@ expression_phase phases.Assignment last h = absurd h
 expression_phase phases.Test last h = absurd h
 
 module _ (text : List ℕ) (p : Piece) (q : programs.Piece) (is : spelled text p ≡ Some q) where
-  -- a token of an expression that goes on is counted, and read into its state
+  -- A token of an expression that continues is counted, and the state of the expression takes it.
   token_counted : (phase : Phase) (c : Course) → c.phase ≡ phase → GoesOn phase (is_last p c)
       → course_after p c ≡ counted p.sort c
   token_counted phase c e h =
@@ -73,7 +73,7 @@ module _ (text : List ℕ) (p : Piece) (q : programs.Piece) (is : spelled text p
       go phases.Test k = absurd k
 
   token_read : (phase : Phase) (c : Course) (d : Draft) → c.phase ≡ phase → GoesOn phase (is_last p c)
-      → draft_after text p c d ≡ record d { front = with_token text p d }
+      → draft_after text p c d ≡ record d { grammar_state = with_token text p d }
   token_read phase c d e h =
       ap (λ (v : Bool). cond v (block_opens d.opener d) (made_in c.phase text p c d)) block
       ∙ ap (λ (x : Phase). made_in x text p c d) e ∙ go phase h
@@ -81,30 +81,30 @@ module _ (text : List ℕ) (p : Piece) (q : programs.Piece) (is : spelled text p
       block : opens_block p.sort ≡ false
       block = (agrees p.sort (bytes_of text p) q is).no_block
 
-      go : (x : Phase) → GoesOn x (is_last p c) → made_in x text p c d ≡ record d { front = with_token text p d }
+      go : (x : Phase) → GoesOn x (is_last p c) → made_in x text p c d ≡ record d { grammar_state = with_token text p d }
       go phases.Left k =
           by_sort (λ s y. made_of_left text p s d ≡ made_of_left_side text p d) (bytes_of text p) refl (λ n. refl) refl
           refl refl refl refl refl p.sort q is
-          ∙ ap (λ (v : Bool). cond v (record d { left = term_of d.front; front = no_front })
-          (record d { front = with_token text p d })) (agrees p.sort (bytes_of text p) q is).no_relation
+          ∙ ap (λ (v : Bool). cond v (record d { left = term_of d.grammar_state; grammar_state = no_front })
+          (record d { grammar_state = with_token text p d })) (agrees p.sort (bytes_of text p) q is).no_relation
       go phases.Value k =
           by_sort (λ s y. made_of_value text p c s d ≡ made_of_value_token text p c d) (bytes_of text p) refl (λ n. refl)
           refl refl refl refl refl refl p.sort q is
-          ∙ ap (λ (v : Bool). cond v (record d { value = term_of (with_token text p d); front = no_front })
-          (record d { front = with_token text p d })) k
+          ∙ ap (λ (v : Bool). cond v (record d { value = term_of (with_token text p d); grammar_state = no_front })
+          (record d { grammar_state = with_token text p d })) k
       go phases.Right k =
           ap (λ (v : Bool). cond v (record d {
             test = d.test ++ atom_of text p c d ∷ [];
             left = Literal (pos 0);
-            front = no_front;
-          }) (record d { front = with_token text p d })) k
+            grammar_state = no_front;
+          }) (record d { grammar_state = with_token text p d })) k
       go phases.Inputs k = absurd k
       go phases.Statements k = absurd k
       go phases.Assignment k = absurd k
       go phases.Test k = absurd k
 
 module _ (text : List ℕ) (phase : Phase) (relation : Relation) (d : Draft) where
-  -- the state of reading stands at a written state of an expression, of which everything is made but the inputs
+  -- The reader's state corresponds to a state of the written expression; everything but the inputs is kept.
   pub record Along (e : Front) (s : State) : Type 0 where
     pub phase_is : s.course.phase ≡ phase
     pub tokens_are : s.course.tokens ≡ token_count e
@@ -112,7 +112,7 @@ module _ (text : List ℕ) (phase : Phase) (relation : Relation) (d : Draft) whe
     pub raised_is : s.course.raised ≡ is_raised e.operand
     pub relation_is : s.course.relation ≡ relation
     pub names_are : d.names ≡ with_front d.names e
-    pub draft_is : s.draft ≡ record d { front = front_terms d.names e }
+    pub draft_is : s.draft ≡ record d { grammar_state = front_terms d.names e }
 
   module _ (e g : Front) (p : Piece) (q : programs.Piece) (s : State) (few : length d.names ≤ 32)
       (along : Along e s) (is : spelled text p ≡ Some q) (leads : step e q ≡ Some g)
@@ -129,23 +129,23 @@ module _ (text : List ℕ) (phase : Phase) (relation : Relation) (d : Draft) whe
     low : token_count e < 1024
     low = let t = limits.few in let n = along.tokens_are in omega (arith, t, n)
 
-    -- the state of the expression after the token
+    -- The state of the expression after the token.
     made : (d.names ≡ with_front d.names g)
-        × (front_after (number_of d.names (bytes_of text p)) p.sort (front_terms d.names e) ≡ front_terms d.names g)
-    made = front_steps d.names e g p.sort (bytes_of text p) q few
+        × (state_after (number_of d.names (bytes_of text p)) p.sort (front_terms d.names e) ≡ front_terms d.names g)
+    made = state_steps d.names e g p.sort (bytes_of text p) q few
         (let b = tokens_bound e in let l = low in omega (arith, b, l)) is
         (written_by p.sort (bytes_of text p) counts limits.small)
         (subst (λ (x : Draft). IsKnown x.names p.sort (bytes_of text p)) along.draft_is limits.known) leads along.names_are
 
-    pub front_made : with_token text p s.draft ≡ front_terms d.names g
-    front_made = ap (λ (x : Draft). with_token text p x) along.draft_is ∙ made.1
+    pub state_made : with_token text p s.draft ≡ front_terms d.names g
+    state_made = ap (λ (x : Draft). with_token text p x) along.draft_is ∙ made.1
 
     depth_made : depth_after p.sort s.course.depth ≡ length g.outer
     depth_made =
         agree.depth_is s.course.depth (let b = tokens_bound e in let l = low in let n = along.depth_is in omega (arith, b, l, n))
         ∙ ap (λ (n : ℕ). open_after q n) along.depth_is ∙ sym follow.depth
 
-    -- the expression can end with the token where the state after it can
+    -- The token is the last one of the expression exactly if the written expression stops there.
     pub last_is : is_last p s.course ≡ stops g p.follower
     last_is =
         ap (λ (v : Bool). v && ((depth_after p.sort s.course.depth == 0) && not (goes_on s.course.raised p.follower)))
@@ -154,7 +154,7 @@ module _ (text : List ℕ) (phase : Phase) (relation : Relation) (d : Draft) whe
         ∙ ap (λ (v : Bool). is_read g.operand && ((length g.outer == 0) && not (goes_on v p.follower)))
         (along.raised_is ∙ sym follow.exponent)
 
-    -- where it goes on the state stands at the written state after the token
+    -- If the expression continues, the reader's state corresponds to the written state after the token.
     pub along_more : GoesOn phase (is_last p s.course) → Along g (sound_after text p s)
     along_more h = record {
       phase_is = ap (λ (c : Course). c.phase) course ∙ along.phase_is;
@@ -164,8 +164,8 @@ module _ (text : List ℕ) (phase : Phase) (relation : Relation) (d : Draft) whe
       relation_is = ap (λ (c : Course). c.relation) course ∙ along.relation_is;
       names_are = made.0;
       draft_is = token_read text p q is phase s.course s.draft along.phase_is h
-          ∙ ap (λ (x : terms.Front). record s.draft { front = x }) front_made
-          ∙ ap (λ (x : Draft). record x { front = front_terms d.names g }) along.draft_is;
+          ∙ ap (λ (x : terms.Front). record s.draft { grammar_state = x }) state_made
+          ∙ ap (λ (x : Draft). record x { grammar_state = front_terms d.names g }) along.draft_is;
     }
       where
         course : course_after p s.course ≡ counted p.sort s.course

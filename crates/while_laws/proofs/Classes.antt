@@ -1,4 +1,4 @@
--- Which pieces are of a class, and of which class a piece is.
+-- The tokens of a class, and the class of a token.
 use Rattle.std.proofs.Common.{◌≡◌, ℕ, if◌then◌else◌, List, Option, Some, None, refl, ap, arith}
 use Rattle.std.specs.Prelude.{codes}
 use Rattle.text_core.specs.Names.{is_same}
@@ -12,7 +12,7 @@ use Rattle.while_text.specs.declared.piece.Sort.TheVariants as sorts
 use Rattle.while_text.specs.Grammar.{class_of_sort}
 use Rattle.while_laws.specs.Spelled.{spelled_by, sign_by, joint_by, truth_by}
 
--- what a piece of a class is in an expression
+-- A token of a class is this token of programs' expressions.
 pub name_spelled : (sort : Sort) (bytes : List ℕ) → class_of_sort sort ≡ 6 → spelled_by sort bytes ≡ Some (Word bytes)
 name_spelled sorts.Name bytes h = refl
 name_spelled sort bytes h = absurd (omega (arith, h))
@@ -46,7 +46,8 @@ pub caret_spelled : (sort : Sort) (bytes : List ℕ) → class_of_sort sort ≡ 
 caret_spelled sorts.Caret bytes h = refl
 caret_spelled sort bytes h = absurd (omega (arith, h))
 
--- a relation has a sign, a joint is one, and so is the word of the atom that always holds
+-- Each relation has a sign, each token of the class of `&&` is a sign between atoms, and `TRUE` is the word of the atom
+-- that always holds.
 pub relation_signed : (sort : Sort) (bytes : List ℕ) → class_of_sort sort ≡ 17
     → (sign : Sign) × (sign_by sort bytes ≡ Some sign)
 relation_signed sorts.AtLeast bytes h = (AtLeastSign, refl)
@@ -66,7 +67,7 @@ pub truth_worded : (sort : Sort) (bytes : List ℕ) → class_of_sort sort ≡ 5
 truth_worded sorts.Truth bytes h = ((if is_same bytes (codes "TRUE") then Capitals else Smalls), refl)
 truth_worded sort bytes h = absurd (omega (arith, h))
 
--- the class of what a piece is in an expression
+-- The class of a token of programs' expressions.
 abbrev pub class_in : programs.Piece → ℕ
 class_in (Word name) = 6
 class_in (Digits digits) = 7

@@ -1,4 +1,4 @@
--- What is derived as an expression or as atoms is what spells one of programs.
+-- The token lists derived as an expression or as atoms are those that spell one of programs.
 use Rattle.while_laws.specs.Laws.{SumsAreOfPrograms, AtomsAreOfPrograms}
 use Rattle.while_laws.proofs.Deriving.{reads, sum_derives, atom_derives, atoms_derive}
 use Rattle.while_laws.proofs.OneSum.{spelled_once}

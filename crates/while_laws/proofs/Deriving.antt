@@ -1,4 +1,4 @@
--- What spells an expression or atoms of programs is derived by the grammar of while programs.
+-- The token lists that spell an expression or atoms of programs are derived by the grammar of while programs.
 use Rattle.std.proofs.Common.{◌≡◌, ℕ, List, [], ◌∷◌, ◌++◌, map, Option, Some, refl, sym, ap, subst, ◌∙◌, inl, inr}
 use Rattle.std.proofs.Common.{append_assoc, append-nil}
 use Rattle.text_grammar.specs.declared.symbol.Symbol.{Symbol}
@@ -16,18 +16,18 @@ use Rattle.while_laws.specs.Spelled.{spelled, SpellSum, SpellAtom, SpellAtoms}
 use Rattle.while_laws.proofs.Rows.{sum_row, product_row, factor_row, base_row, sum_pieces}
 use Rattle.while_laws.proofs.Classes.{class_in, spelled_class, signed_class, joint_class, truth_class}
 
--- a list that is mapped to one in two parts, with an element between them
-record Parted {X Y : Type 0} (f : X → Y) (front : List Y) (y : Y) (back : List Y) (xs : List X) : Type 0 where
+-- A list that is mapped to two parts with an element between them has two parts with an element between them.
+record Parted {X Y : Type 0} (f : X → Y) (grammar_state : List Y) (y : Y) (back : List Y) (xs : List X) : Type 0 where
   pub before : List X
   pub at : X
   pub after : List X
   pub whole : xs ≡ before ++ at ∷ after
-  pub first : map f before ≡ front
+  pub first : map f before ≡ grammar_state
   pub middle : f at ≡ y
   pub last : map f after ≡ back
 
-parted : {X Y : Type 0} (f : X → Y) (front : List Y) (y : Y) (back : List Y) (xs : List X)
-    → map f xs ≡ front ++ y ∷ back → Parted f front y back xs
+parted : {X Y : Type 0} (f : X → Y) (grammar_state : List Y) (y : Y) (back : List Y) (xs : List X)
+    → map f xs ≡ grammar_state ++ y ∷ back → Parted f grammar_state y back xs
 parted f [] y back [] e = cc
 parted f [] y back (x ∷ xs) e = record {
   before = [];
@@ -44,16 +44,16 @@ parted f [] y back (x ∷ xs) e = record {
 
     tails : f x ∷ map f xs ≡ y ∷ back → map f xs ≡ back
     tails d = cc
-parted f (z ∷ front) y back [] e = cc
-parted f (z ∷ front) y back (x ∷ xs) e = go (parted f front y back xs (tails e))
+parted f (z ∷ grammar_state) y back [] e = cc
+parted f (z ∷ grammar_state) y back (x ∷ xs) e = go (parted f grammar_state y back xs (tails e))
   where
-    heads : f x ∷ map f xs ≡ z ∷ (front ++ y ∷ back) → f x ≡ z
+    heads : f x ∷ map f xs ≡ z ∷ (grammar_state ++ y ∷ back) → f x ≡ z
     heads d = cc
 
-    tails : f x ∷ map f xs ≡ z ∷ (front ++ y ∷ back) → map f xs ≡ front ++ y ∷ back
+    tails : f x ∷ map f xs ≡ z ∷ (grammar_state ++ y ∷ back) → map f xs ≡ grammar_state ++ y ∷ back
     tails d = cc
 
-    go : Parted f front y back xs → Parted f (z ∷ front) y back (x ∷ xs)
+    go : Parted f grammar_state y back xs → Parted f (z ∷ grammar_state) y back (x ∷ xs)
     go w = record {
       before = x ∷ w.before;
       at = w.at;
@@ -64,42 +64,42 @@ parted f (z ∷ front) y back (x ∷ xs) e = go (parted f front y back xs (tails
       last = w.last;
     }
 
--- nothing is mapped to nothing alone
+-- A list that is mapped to the empty list is empty.
 none : {X Y : Type 0} (f : X → Y) (xs : List X) → map f xs ≡ [] → xs ≡ []
 none f [] e = refl
 none f (x ∷ xs) e = cc
 
--- the events of reading pieces
+-- The events of reading tokens.
 abbrev pub reads : List Piece → List (Event Piece)
 reads [] = []
 reads (p ∷ ps) = Read p ∷ reads ps
 
--- symbols derive these pieces, which are read one by one
+-- The symbols derive these tokens, which are read one by one.
 abbrev pub Derive : List Symbol → List Piece → Type 0
 Derive symbols ps = Derives while_grammar symbols (reads ps) ps
 
--- a piece of a class, and then the rest
-piece_then : (c : ℕ) (p : Piece) (rest : List Symbol) (ps : List Piece) → class_of_sort p.sort ≡ c → Derive rest ps
+-- A token of a class, before the tokens of the other symbols, is derived.
+pub piece_then : (c : ℕ) (p : Piece) (rest : List Symbol) (ps : List Piece) → class_of_sort p.sort ≡ c → Derive rest ps
     → Derive (symbol.Piece c ∷ rest) (p ∷ ps)
 piece_then c p rest ps k d = subst (λ (n : ℕ). Derive (symbol.Piece n ∷ rest) (p ∷ ps)) k (piece p d)
 
--- pieces behind others
+-- Derivation is kept when tokens are split at a token.
 moved : (symbols : List Symbol) (ps before after qs : List Piece) (p : Piece) → ps ≡ before ++ p ∷ after
     → Derive symbols (before ++ p ∷ (after ++ qs)) → Derive symbols (ps ++ qs)
 moved symbols ps before after qs p e d =
     subst (Derive symbols) (sym (ap (λ (x : List Piece). x ++ qs) e ∙ append_assoc before (p ∷ after) qs)) d
 
 module _ (text : List ℕ) where
-  -- what pieces are in an expression
+  -- The tokens of programs' expressions that these tokens are.
   abbrev spell : List Piece → List (Option programs.Piece)
   spell ps = map (spelled text) ps
 
-  -- a piece that is one of an expression, and then the rest
+  -- A token of programs' expressions, before the tokens of the other symbols, is derived.
   spelled_then : (q : programs.Piece) (p : Piece) (rest : List Symbol) (ps : List Piece) → spelled text p ≡ Some q
       → Derive rest ps → Derive (symbol.Piece (class_in q) ∷ rest) (p ∷ ps)
   spelled_then q p rest ps e d = piece_then (class_in q) p rest ps (spelled_class p.sort (bytes_of text p) q e) d
 
-  -- the digits of an exponent
+  -- The digits of an exponent are derived.
   digits_derived : (digits : List ℕ) (ps before after : List Piece) (p : Piece) (qs : List Piece)
       (rest : List Symbol) → ps ≡ before ++ p ∷ after → spell before ≡ [] → spell after ≡ []
       → spelled text p ≡ Some (Digits digits) → Derive rest qs → Derive (symbol.Piece 7 ∷ rest) (ps ++ qs)
@@ -110,7 +110,7 @@ module _ (text : List ℕ) where
       (spelled_then (Digits digits) p rest qs h d)
 
   mutual
-    -- the pieces of an expression, before what continues it
+    -- The tokens of an expression, before those that continue it, are derived.
     sum_derived : (s : Sum) (ps qs : List Piece) (rest : List Symbol) → spell ps ≡ sum_row s
         → Derive (symbol.Made 11 ∷ rest) qs → Derive (symbol.Made 10 ∷ rest) (ps ++ qs)
     sum_derived (Alone p) ps qs rest e d =
@@ -131,7 +131,7 @@ module _ (text : List ℕ) where
         (spelled_then Minus w.at (symbol.Made 12 ∷ symbol.Made 11 ∷ rest) (w.after ++ qs) w.middle
         (product_derived p w.after qs (symbol.Made 11 ∷ rest) w.last (made 13 [] (inr (inl refl)) d)))))
 
-    -- those of a product
+    -- The tokens of a product, before those that continue it, are derived.
     product_derived : (p : Product) (ps qs : List Piece) (rest : List Symbol) → spell ps ≡ product_row p
         → Derive (symbol.Made 13 ∷ rest) qs → Derive (symbol.Made 12 ∷ rest) (ps ++ qs)
     product_derived (Single f) ps qs rest e d =
@@ -145,7 +145,7 @@ module _ (text : List ℕ) where
         (spelled_then Times w.at (symbol.Made 14 ∷ symbol.Made 13 ∷ rest) (w.after ++ qs) w.middle
         (factor_derived f w.after qs (symbol.Made 13 ∷ rest) w.last d))))
 
-    -- those of a factor, before anything
+    -- The tokens of a factor are derived before any others.
     factor_derived : (f : Factor) (ps qs : List Piece) (rest : List Symbol) → spell ps ≡ factor_row f
         → Derive rest qs → Derive (symbol.Made 14 ∷ rest) (ps ++ qs)
     factor_derived (Plain b) ps qs rest e d =
@@ -169,7 +169,7 @@ module _ (text : List ℕ) where
         (spelled_then Minus w.at (symbol.Made 14 ∷ rest) (w.after ++ qs) w.middle
         (factor_derived f w.after qs rest w.last d))))
 
-    -- those of a base, before anything
+    -- The tokens of a base are derived before any others.
     base_derived : (b : Base) (ps qs : List Piece) (rest : List Symbol) → spell ps ≡ base_row b → Derive rest qs
         → Derive (symbol.Made 16 ∷ rest) (ps ++ qs)
     base_derived (Number digits) ps qs rest e d =
@@ -197,13 +197,13 @@ module _ (text : List ℕ) where
         (spelled_then Close v.at rest (v.after ++ qs) v.middle
         (subst (λ (x : List Piece). Derive rest (x ++ qs)) (sym (none (spelled text) v.after v.last)) d))))))))
 
-  -- the pieces that spell an expression are derived, before anything
-  sum_then : (s : Sum) (ps qs : List Piece) (rest : List Symbol) → SpellSum text s ps → Derive rest qs
+  -- The tokens that spell an expression are derived before any others.
+  pub sum_then : (s : Sum) (ps qs : List Piece) (rest : List Symbol) → SpellSum text s ps → Derive rest qs
       → Derive (symbol.Made 10 ∷ rest) (ps ++ qs)
   sum_then s ps qs rest e d =
       sum_derived s ps qs rest (e ∙ sum_pieces s) (made 11 [] (inr (inr (inl refl))) d)
 
-  -- so are those of an atom
+  -- The tokens that spell an atom are derived before any others.
   atom_then : (a : Atom) (ps qs : List Piece) (rest : List Symbol) → SpellAtom text a ps → Derive rest qs
       → Derive (symbol.Made 9 ∷ rest) (ps ++ qs)
   atom_then (Always truth) ps qs rest (p, e, h) d =
@@ -217,8 +217,8 @@ module _ (text : List ℕ) where
       (piece_then 17 p (symbol.Made 10 ∷ rest) (rs ++ qs) (signed_class p.sort (bytes_of text p) sign h)
       (sum_then r rs qs rest right d))))
 
-  -- and those of atoms, before what continues them
-  atoms_then : (atoms : Atoms) (ps qs : List Piece) (rest : List Symbol) → SpellAtoms text atoms ps
+  -- The tokens that spell atoms, before those that continue them, are derived.
+  pub atoms_then : (atoms : Atoms) (ps qs : List Piece) (rest : List Symbol) → SpellAtoms text atoms ps
       → Derive (symbol.Made 8 ∷ rest) qs → Derive (symbol.Made 7 ∷ rest) (ps ++ qs)
   atoms_then (First a) ps qs rest h d =
       made 7 (symbol.Made 9 ∷ symbol.Made 8 ∷ []) (inl refl) (atom_then a ps qs (symbol.Made 8 ∷ rest) h d)
@@ -230,7 +230,7 @@ module _ (text : List ℕ) where
       (joint_class p.sort (bytes_of text p) joint h)
       (atom_then a last qs (symbol.Made 8 ∷ rest) one d))))
 
-  -- alone
+  -- Tokens followed by none are derived alone.
   alone : (n : ℕ) (ps : List Piece) → Derive (symbol.Made n ∷ []) (ps ++ []) → Derive (symbol.Made n ∷ []) ps
   alone n ps d = subst (Derive (symbol.Made n ∷ [])) (append-nil ps) d
 

@@ -1,4 +1,4 @@
--- Pieces spell one expression at most.
+-- Tokens spell at most one expression.
 use Rattle.std.proofs.Common.{◌≡◌, ℕ, List, [], ◌∷◌, Option, Some, None, refl, sym, ap, ◌∙◌}
 use Rattle.text_core.specs.Readers.{onto}
 use Rattle.expr_text.specs.Pieces.{Piece}
@@ -9,7 +9,7 @@ use Rattle.expr_text.proofs.Reading.{behind_sum, sum_finish, expression_is_read}
 use Rattle.while_text.specs.declared.piece.Piece as while_piece
 use Rattle.while_laws.specs.Spelled.{SpellSum}
 
--- the state of parsing after pieces, of which the last one is first
+-- The state of parsing after tokens, of which the last one is first.
 abbrev pub onward : Option Front → Option Piece → Option Front
 onward None q = None
 onward (Some f) None = None
@@ -19,13 +19,13 @@ abbrev pub reach : List (Option Piece) → Option Front
 reach [] = Some beginning
 reach (q ∷ done) = onward (reach done) q
 
--- the pieces of an expression lead to where it can end
+-- The tokens of an expression lead to a state in which it can end.
 pub sum_reached : (s : Sum) → reach (sum_behind Some s []) ≡ Some (behind_sum [] s)
 sum_reached s =
     expression_is_read Some (λ (done : List (Option Piece)) (f : Front). reach done ≡ Some f)
     (λ done e g q h k. ap (λ (o : Option Front). onward o (Some q)) h ∙ k) s [] refl
 
--- lists that are the same in the other order are the same
+-- Reversing a list twice gives the list.
 onto_back : {X : Type 0} (xs rest : List X) → onto (onto xs rest) [] ≡ onto rest xs
 onto_back [] rest = refl
 onto_back (x ∷ xs) rest = onto_back xs (x ∷ rest)
@@ -33,14 +33,14 @@ onto_back (x ∷ xs) rest = onto_back xs (x ∷ rest)
 onto_same : {X : Type 0} (xs ys : List X) → onto xs [] ≡ onto ys [] → xs ≡ ys
 onto_same xs ys e = sym (onto_back xs []) ∙ ap (λ zs. onto zs []) e ∙ onto_back ys []
 
--- two expressions that the same pieces spell are the same
+-- Two expressions that the same tokens spell are the same.
 pub spelled_once : (text : List ℕ) (s t : Sum) (ps : List while_piece.Piece) → SpellSum text s ps → SpellSum text t ps → s ≡ t
 spelled_once text s t ps h k =
-    one (sym (sum_finish s) ∙ ap finish (front (sym (sum_reached s)
+    one (sym (sum_finish s) ∙ ap finish (grammar_state (sym (sum_reached s)
     ∙ ap reach (onto_same (sum_behind Some s []) (sum_behind Some t []) (sym h ∙ k)) ∙ sum_reached t)) ∙ sum_finish t)
   where
-    front : Some (behind_sum [] s) ≡ Some (behind_sum [] t) → behind_sum [] s ≡ behind_sum [] t
-    front d = cc
+    grammar_state : Some (behind_sum [] s) ≡ Some (behind_sum [] t) → behind_sum [] s ≡ behind_sum [] t
+    grammar_state d = cc
 
     one : Some s ≡ Some t → s ≡ t
     one d = cc

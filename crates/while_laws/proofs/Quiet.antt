@@ -1,4 +1,4 @@
--- What is known of a token where reading it meets no fault.
+-- What is known of a token that is read without a fault.
 use Rattle.std.proofs.Common.{◌≡◌, ℕ, ◌<◌, ◌≤◌, ◌+◌, Bool, true, false, not, ◌&&◌, ◌||◌, List, [], ◌∷◌, ◌++◌, min}
 use Rattle.std.proofs.Common.{Option, Some, None, is_some, refl, sym, ap, ◌∙◌, arith}
 use Rattle.std.specs.Prelude.{nat_le, nat_lt}
@@ -16,16 +16,17 @@ use Rattle.while_text.specs.declared.piece.Sort.{Sort}
 use Rattle.while_text.specs.declared.piece.Sort.TheVariants as sorts
 use Rattle.while_text.specs.Courses.{course_after, is_in_test, is_in_expression}
 use Rattle.while_text.specs.Drafts.{bytes_of}
-use Rattle.while_text.specs.Faults.{against_first, against_last, against_rules, against_name, against_token, against_count}
-use Rattle.while_text.specs.Faults.{or_kind, is_name, is_large, is_in_sums, is_inputs}
+use Rattle.while_text.specs.Faults.{fault_of_first, fault_of_last, fault_of_rules, fault_of_name, fault_of_token}
+use Rattle.while_text.specs.Faults.{fault_of_count}
+use Rattle.while_text.specs.Faults.{is_name, is_large, is_in_sums, is_inputs}
 use Rattle.while_text.specs.Reading.{State, read, has_fault, standing_after}
-use Rattle.while_text.proofs.ReadableDrafts.{when_none, clear}
+use Rattle.while_text.proofs.ReadableDrafts.{or_none, when_none, clear}
 use Rattle.while_text.proofs.SilentReading.{HasNone, sound_after, read_sound}
 use Rattle.while_laws.specs.Values.{read_all}
 use Rattle.while_laws.proofs.Sorts.{IsWritten, IsKnown}
 use Rattle.while_laws.proofs.TokenFacts.{IsCounted}
 
--- there is no fault after a token only if there was none before it and it has none
+-- There is no fault after a token only if there was none before it and it has none.
 sound_before : (v : Standing) (fault in_test : Bool) → standing_after v fault in_test ≡ Sound
     → (v ≡ Sound) × (fault ≡ false)
 sound_before Sound false in_test e = (refl, refl)
@@ -49,12 +50,12 @@ pub record IsQuiet (text : List ℕ) (p : Piece) (s : State) : Type 0 where
 pub quiet : (text : List ℕ) (p : Piece) (s : State) → (read text p s).standing ≡ Sound → IsQuiet text p s
 quiet text p s e =
     let b = sound_before s.standing (has_fault text p s) (is_in_test (course_after p s.course).phase) e in
-    let f = no_fault (against_first text p s.course s.draft) (against_last text p s.course s.draft)
-    (against_rules p s.course) b.1 in
+    let f = no_fault (fault_of_first text p s.course s.draft) (fault_of_last text p s.course s.draft)
+    (fault_of_rules p s.course) b.1 in
     let n : HasNone text p s = record { first = f.0; last = f.1; rules = f.2 } in
     record { before = b.0; none = n; after = read_sound text p s b.0 n }
 
--- so it is along pieces
+-- If there is no fault after tokens, there was none before them.
 pub quiet_before : (text : List ℕ) (ps : List Piece) (s : State) → (read_all text s ps).standing ≡ Sound
     → s.standing ≡ Sound
 quiet_before text [] s e = e
@@ -65,22 +66,17 @@ pub read_append : (text : List ℕ) (ps qs : List Piece) (s : State)
 read_append text [] qs s = refl
 read_append text (p ∷ ps) qs s = read_append text ps qs (read text p s)
 
--- whether an expression is read in a part of a text
+-- Whether an expression is being read in this part of a text.
 abbrev pub IsExpression : Phase → Type 0
 IsExpression phase = (is_in_expression phase ≡ true) × (is_inputs phase ≡ false)
 
--- what the limits say of a token of an expression without a fault
+-- The limits that hold for a token of an expression without a fault.
 pub record IsWithin (text : List ℕ) (p : Piece) (s : State) : Type 0 where
   pub small : is_large p.sort ≡ false
   pub few : s.course.tokens < token_limit
   pub known : IsKnown s.draft.names p.sort (bytes_of text p)
 
--- where the first of two kinds is none both are
-none_of : (a b : Option Kind) → or_kind a b ≡ None → (a ≡ None) × (b ≡ None)
-none_of None b h = (refl, h)
-none_of (Some kind) b h = cc
-
-known_by : (sort : Sort) (bytes : List ℕ) (names : List Name)
+pub known_by : (sort : Sort) (bytes : List ℕ) (names : List Name)
     → (is_name sort && true && not (is_among bytes names)) ≡ false → IsKnown names sort bytes
 known_by sorts.Name bytes names e = go (is_among bytes names) e
   where
@@ -89,16 +85,16 @@ known_by sorts.Name bytes names e = go (is_among bytes names) e
     go false h = cc
 known_by sort bytes names e = tt
 
-few_by : (m n : ℕ) → nat_le m n ≡ false → n < m
+pub few_by : (m n : ℕ) → nat_le m n ≡ false → n < m
 few_by m n h = grind (arith, nat_tests, h)
 
 pub within : (text : List ℕ) (p : Piece) (s : State) → HasNone text p s → IsExpression s.course.phase
     → is_in_sums p.sort ≡ true → IsWithin text p s
 within text p s h (v, w) i =
-    let a = none_of _ _ h.first in
-    let b = none_of (against_name text p s.course s.draft) _ a.1 in
-    let e = none_of (against_token p s.course s.draft) (against_count p s.course s.draft) b.1 in
-    let t = none_of _ _ e.0 in
+    let a = or_none _ _ h.first in
+    let b = or_none (fault_of_name text p s.course s.draft) _ a.1 in
+    let e = or_none (fault_of_token p s.course s.draft) (fault_of_count p s.course s.draft) b.1 in
+    let t = or_none _ _ e.0 in
     record {
       small = when_none _ _ a.0;
       few = few_by token_limit s.course.tokens (count (when_none _ _ t.0));
@@ -116,7 +112,7 @@ within text p s h (v, w) i =
     names k =
         sym (ap (λ (x : Bool). is_name p.sort && not x && not (is_among (bytes_of text p) s.draft.names)) w) ∙ k
 
--- a number within the limit is what its digits write
+-- A number within the limit is the one that its digits write.
 within_limit : (n m : ℕ) → n ≡ min m (coefficient_limit + 1) → nat_lt coefficient_limit n ≡ false
     → (n ≡ m) × (n ≤ coefficient_limit)
 within_limit n m e h = let low = at_most coefficient_limit n h in (omega (arith, e, low), low)

@@ -1,4 +1,4 @@
--- The pieces of written expressions in their order.
+-- The tokens of written expressions in order.
 use Rattle.std.proofs.Common.{◌≡◌, List, [], ◌∷◌, ◌++◌, Option, Some, refl, ap, sym, ◌∙◌, append_assoc}
 use Rattle.std.proofs.Common.{append-nil}
 use Rattle.text_core.specs.Readers.{onto}
@@ -7,7 +7,7 @@ use Rattle.expr_text.specs.Trees.{Sum, Alone, Added, Subtracted, Product, Single
 use Rattle.expr_text.specs.Trees.{Negated, Base, Number, Named, Bracketed, sum_behind, product_behind, factor_behind}
 use Rattle.expr_text.specs.Trees.{base_behind}
 
--- the pieces of an expression, of a product, of a factor and of a base, the first one first
+-- The tokens of an expression, of a product, of a factor and of a base, first to last.
 abbrev mutual
   pub sum_row : Sum → List (Option Piece)
   sum_row (Alone p) = product_row p
@@ -29,7 +29,7 @@ abbrev mutual
   base_row (Bracketed s) = Some Open ∷ (sum_row s ++ Some Close ∷ [])
 
 mutual
-  -- they are those after which the last one comes first
+  -- The tokens in order are the reverse of the list in which the last one comes first.
   sum_in_order : (s : Sum) (before rest : List (Option Piece))
       → onto (sum_behind Some s before) rest ≡ onto before (sum_row s ++ rest)
   sum_in_order (Alone p) before rest = product_in_order p before rest
@@ -67,6 +67,6 @@ mutual
       ∙ ap (λ (xs : List (Option Piece)). onto before (Some Open ∷ xs))
       (sym (append_assoc (sum_row s) (Some Close ∷ []) rest))
 
--- the pieces of an expression in their order
+-- The tokens of an expression in order.
 pub sum_pieces : (s : Sum) → onto (sum_behind Some s []) [] ≡ sum_row s
 sum_pieces s = sum_in_order s [] [] ∙ append-nil (sum_row s)

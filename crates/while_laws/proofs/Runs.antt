@@ -1,4 +1,4 @@
--- Reading all pieces of an expression: on a left side up to its last one, and elsewhere up to where it ends.
+-- Reading all tokens of an expression: on a left side up to its last one, and elsewhere up to its end.
 use Rattle.std.proofs.Common.{◌≡◌, ℕ, ◌≤◌, true, false, List, [], ◌∷◌, ◌++◌, length, map, Option, Some, None}
 use Rattle.std.proofs.Common.{refl, sym, ap, subst, ◌∙◌}
 use Rattle.text_core.specs.Readers.{onto}
@@ -21,13 +21,13 @@ use Rattle.while_text.proofs.SilentReading.{HasNone, sound_after}
 use Rattle.while_laws.specs.Spelled.{spelled, SpellSum}
 use Rattle.while_laws.specs.Values.{read_all, follower_by, AreIn, BeginsExpression}
 use Rattle.while_laws.proofs.Along.{GoesOn, Along, along_more, last_is}
-use Rattle.while_laws.proofs.FrontFacts.{stops, stops_not, stops_there}
+use Rattle.while_laws.proofs.StateFacts.{stops, stops_not, stops_there}
 use Rattle.while_laws.proofs.OneSum.{onward, reach, sum_reached}
 use Rattle.while_laws.proofs.Quiet.{IsQuiet, quiet, quiet_before, IsExpression}
 use Rattle.while_laws.proofs.Sorts.{agrees}
 use Rattle.while_laws.proofs.TokenFacts.{IsCounted, IsChain, chain_tail, chain_behind, tokens_chained}
 
--- the state of parsing after more pieces
+-- The state of parsing after more tokens.
 abbrev pub far : Option Front → List (Option programs.Piece) → Option Front
 far o [] = o
 far o (q ∷ qs) = far (onward o q) qs
@@ -40,21 +40,21 @@ far_onto : (done rest : List (Option programs.Piece)) → far (Some beginning) (
 far_onto [] rest = refl
 far_onto (q ∷ done) rest = far_onto done (q ∷ rest)
 
--- pieces that spell an expression lead from its beginning to where it can end
+-- Tokens that spell an expression lead from its beginning to a state in which it can end.
 pub spelled_far : (text : List ℕ) (s : Sum) (ps : List Piece) → SpellSum text s ps
     → far (Some beginning) (map (spelled text) ps) ≡ Some (behind_sum [] s)
 spelled_far text s ps h =
     ap (far (Some beginning)) h ∙ far_onto (sum_behind Some s []) [] ∙ sum_reached s
 
--- one step and then the others
-record Leads (e f : Front) (o : Option programs.Piece) (qs : List (Option programs.Piece)) : Type 0 where
+-- The first token leads to a state from which the others lead on.
+pub record Leads (e f : Front) (o : Option programs.Piece) (qs : List (Option programs.Piece)) : Type 0 where
   pub piece : programs.Piece
   pub middle : Front
   pub is : o ≡ Some piece
   pub step_is : step e piece ≡ Some middle
   pub more : far (Some middle) qs ≡ Some f
 
-leads : (e f : Front) (o : Option programs.Piece) (qs : List (Option programs.Piece))
+pub leads : (e f : Front) (o : Option programs.Piece) (qs : List (Option programs.Piece))
     → far (onward (Some e) o) qs ≡ Some f → Leads e f o qs
 leads e f None qs h = absurd (nowhere (sym (far_none qs) ∙ h))
   where
@@ -69,13 +69,13 @@ leads e f (Some q) qs h = go (step e q) refl h
     go None k w = absurd (nowhere (sym (far_none qs) ∙ w))
     go (Some g) k w = record { piece = q; middle = g; is = refl; step_is = k; more = w }
 
--- the first piece of a chain is counted
+-- The first token of a chain is counted.
 head_counted : (text : List ℕ) (p : Piece) (ps : List Piece) → IsChain text (p ∷ ps) → IsCounted p.sort (bytes_of text p)
 head_counted text p [] h = h
 head_counted text p (q ∷ ps) h = h.0
 
 module _ (text : List ℕ) (relation : Relation) (d : Draft) (few : length d.names ≤ 32) where
-  -- on a left side
+  -- The tokens of a left side keep the correspondence.
   pub left_run : (ps after : List Piece) (e f : Front) (s : State) → Along text phases.Left relation d e s
       → far (Some e) (map (spelled text) ps) ≡ Some f → IsChain text (ps ++ after)
       → (read_all text s ps).standing ≡ Sound → Along text phases.Left relation d f (read_all text s ps)
@@ -97,15 +97,15 @@ module _ (text : List ℕ) (relation : Relation) (d : Draft) (few : length d.nam
           (along_more text phases.Left relation d e l.middle p l.piece s few a l.is l.step_is
           (head_counted text p (ps ++ after) c) (refl, refl) calm.none tt)
 
-  -- where the last token of an expression was read
+  -- The state after the last token of an expression.
   pub record Final (phase : Phase) (f : Front) (s : State) : Type 0 where
     pub before : State
-    pub front : Front
+    pub grammar_state : Front
     pub last : Piece
     pub piece : programs.Piece
-    pub along : Along text phase relation d front before
+    pub along : Along text phase relation d grammar_state before
     pub is : spelled text last ≡ Some piece
-    pub step_is : step front piece ≡ Some f
+    pub step_is : step grammar_state piece ≡ Some f
     pub counts : IsCounted last.sort (bytes_of text last)
     pub none : HasNone text last before
     pub ends : is_last last before.course ≡ true
@@ -113,14 +113,14 @@ module _ (text : List ℕ) (relation : Relation) (d : Draft) (few : length d.nam
 
   module _ (phase : Phase) (expression : IsExpression phase) (goes : GoesOn phase false) (next : Piece)
       (stops_at : follower_by next.sort ≡ followers.Other) (t : Sum) where
-    -- up to where it ends
+    -- The tokens of an expression lead to the state after its last one.
     pub run : (ps after : List Piece) (p : Piece) (e f : Front) (s : State) → Along text phase relation d e s
         → far (onward (Some e) (spelled text p)) (map (spelled text) ps) ≡ Some f → finish f ≡ Some t
         → IsChain text (p ∷ (ps ++ next ∷ after)) → (read_all text s (p ∷ ps)).standing ≡ Sound
         → Final phase f (read_all text s (p ∷ ps))
     run [] after p e f s a w ends c h = record {
       before = s;
-      front = e;
+      grammar_state = e;
       last = p;
       piece = l.piece;
       along = a;
@@ -163,7 +163,7 @@ module _ (text : List ℕ) (relation : Relation) (d : Draft) (few : length d.nam
             (along_more text phase relation d e l.middle p l.piece s few a l.is l.step_is c.0 expression calm.none
             (subst (GoesOn phase) (sym on) goes))
 
--- pieces that spell an expression are some
+-- Tokens that spell an expression aren't empty.
 pub some_piece : (text : List ℕ) (t : Sum) (ps : List Piece) → far (Some beginning) (map (spelled text) ps) ≡ Some (behind_sum [] t)
     → (p : Piece) × (rest : List Piece) × (ps ≡ p ∷ rest)
 some_piece text t [] w = absurd (nothing (ap ended w ∙ sum_finish t))
@@ -176,7 +176,7 @@ some_piece text t [] w = absurd (nothing (ap ended w ∙ sum_finish t))
     nothing k = cc
 some_piece text t (p ∷ rest) w = (p, rest, refl)
 
--- where an expression begins, nothing of it has been read
+-- At the beginning of an expression, none of its tokens has been read.
 pub begins_along : (text : List ℕ) (phase : Phase) (relation : Relation) (s : State) → BeginsExpression phase s
     → s.course.relation ≡ relation → Along text phase relation s.draft beginning s
 begins_along text phase relation s b r = record {
@@ -186,10 +186,10 @@ begins_along text phase relation s b r = record {
   raised_is = b.raised_is;
   relation_is = r;
   names_are = refl;
-  draft_is = ap (λ x. record s.draft { front = x }) b.front_is;
+  draft_is = ap (λ x. record s.draft { grammar_state = x }) b.state_is_represented;
 }
 
--- the tokens that stand in a text are a chain
+-- The tokens of a text form a chain.
 pub chain_in : (text : List ℕ) (ps : List Piece) (next : Piece) (i : AreIn text ps next) → IsChain text (ps ++ next ∷ i.after)
 chain_in text ps next i =
     chain_behind text i.before (ps ++ next ∷ i.after) (subst (IsChain text) i.whole (tokens_chained text))

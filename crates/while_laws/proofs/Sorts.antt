@@ -1,4 +1,4 @@
--- What the sort of a piece says of it, and what it is in an expression says.
+-- The sort of a token, and the token of programs' expressions that it is.
 use Rattle.std.proofs.Common.{◌≡◌, ℕ, ◌≤◌, true, false, List, Some, refl, subst, arith}
 use Rattle.std.specs.Prelude.{IsTrue, ⊤}
 use Rattle.std.specs.List.{list_all}
@@ -17,24 +17,24 @@ use Rattle.while_text.specs.Courses.{is_caret, is_relation, ends_operand, depth_
 use Rattle.while_text.specs.Faults.{is_in_sums}
 use Rattle.while_laws.specs.Spelled.{spelled_by}
 use Rattle.while_laws.specs.Values.{follower_by}
-use Rattle.while_laws.proofs.FrontFacts.{ends, is_power, follower_in, open_after}
+use Rattle.while_laws.proofs.StateFacts.{ends, is_power, follower_in, open_after}
 
--- a number is what its digits write, within the limit on coefficients
+-- The number of a token is the one that its digits write, up to the limit on coefficients.
 abbrev pub IsWritten : Sort → List ℕ → Type 0
 IsWritten (sorts.Number n) bytes =
     (n ≡ number_of bytes) × IsTrue (list_all is_ascii_digit bytes) × (n ≤ coefficient_limit)
 IsWritten _ bytes = ⊤
 
--- a name is among names
+-- A token that is a name is one of these names.
 abbrev pub IsKnown : List Name → Sort → List ℕ → Type 0
 IsKnown names sorts.Name bytes = is_among bytes names ≡ true
 IsKnown names _ bytes = ⊤
 
--- what is some is that
+-- `Some` is injective.
 pub some_is : {X : Type 0} (x y : X) → Some x ≡ Some y → x ≡ y
 some_is x y d = cc
 
--- a property of what a piece is in an expression, by its sort
+-- A property of a sort and its token of programs' expressions, by the sort.
 module _ (Holds : Sort → programs.Piece → Type 0) (bytes : List ℕ)
     (word : Holds sorts.Name (Word bytes)) (number : (n : ℕ) → Holds (sorts.Number n) (Digits bytes))
     (opens : Holds sorts.Open Open) (closes : Holds sorts.Close Close) (plus : Holds sorts.Plus Plus)
@@ -50,7 +50,7 @@ module _ (Holds : Sort → programs.Piece → Type 0) (bytes : List ℕ)
   by_sort sorts.Caret q e = subst (Holds sorts.Caret) (some_is Caret q e) caret
   by_sort sort q e = cc
 
--- the same tests hold of a piece and of what it is in an expression
+-- The tests on a token give the same results as those on its token of programs' expressions.
 pub record Agree (sort : Sort) (q : programs.Piece) : Type 0 where
   pub ends_is : ends_operand sort ≡ ends q
   pub caret_is : is_caret sort ≡ is_power q
@@ -152,7 +152,7 @@ agrees sort bytes q e =
       no_block = refl;
     }
 
--- the digits of a number are modest
+-- The digits of a number are within the limit on coefficients.
 pub modest : (sort : Sort) (bytes : List ℕ) (q : programs.Piece) → spelled_by sort bytes ≡ Some q
     → IsWritten sort bytes → IsModest q
 modest sort bytes q e h =
@@ -160,7 +160,7 @@ modest sort bytes q e h =
     (λ n w. (w.1, subst (λ k. k ≤ coefficient_limit) w.0 w.2)) (λ w. tt) (λ w. tt) (λ w. tt) (λ w. tt) (λ w. tt)
     (λ w. tt) sort q e h
 
--- a known name is no new one
+-- A token that is a known name is known in programs' expressions.
 pub known_piece : (names : List Name) (sort : Sort) (bytes : List ℕ) (q : programs.Piece)
     → spelled_by sort bytes ≡ Some q → IsKnown names sort bytes → names ≡ with_piece names q
 known_piece names sort bytes q e h =

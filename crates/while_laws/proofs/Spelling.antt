@@ -1,4 +1,4 @@
--- What the grammar of while programs derives as an expression or as atoms spells one of programs.
+-- The token lists that the grammar of while programs derives as an expression or as atoms spell one of programs.
 use Rattle.std.proofs.Common.{◌≡◌, ℕ, zero, suc, List, [], ◌∷◌, ◌++◌, map, Option, Some, refl, sym, ap, subst, ◌∙◌}
 use Rattle.std.proofs.Common.{inl, inr, append_assoc, append-nil}
 use Rattle.std.specs.Prelude.{⊤}
@@ -22,18 +22,18 @@ use Rattle.while_laws.proofs.Classes.{name_spelled, number_spelled, open_spelled
 use Rattle.while_laws.proofs.Classes.{minus_spelled, times_spelled, caret_spelled, relation_signed, joint_signed}
 use Rattle.while_laws.proofs.Classes.{truth_worded}
 
--- pieces in two parts, and nothing behind them
-two_parts : (ps os qs us vs : List Piece) → ps ≡ os ++ qs → qs ≡ us ++ vs → vs ≡ [] → ps ≡ os ++ us
+-- Tokens in two parts, the second followed by nothing.
+pub two_parts : (ps os qs us vs : List Piece) → ps ≡ os ++ qs → qs ≡ us ++ vs → vs ≡ [] → ps ≡ os ++ us
 two_parts ps os qs us vs e f g =
     e ∙ ap (λ (x : List Piece). os ++ x) (f ∙ ap (λ (x : List Piece). us ++ x) g ∙ append-nil us)
 
 module _ (text : List ℕ) where
-  -- what pieces are in an expression
+  -- The tokens of programs' expressions that these tokens are.
   abbrev spell : List Piece → List (Option programs.Piece)
   spell ps = map (spelled text) ps
 
-  -- the pieces of the parts of an expression, and of what continues one
-  abbrev SumIn : List Piece → Type 0
+  -- The tokens are those of a part of an expression, or those of what continues one.
+  abbrev pub SumIn : List Piece → Type 0
   SumIn ps = (s : Sum) × (spell ps ≡ sum_row s)
 
   abbrev MoreProducts : List Piece → Type 0
@@ -54,7 +54,7 @@ module _ (text : List ℕ) where
   abbrev BaseIn : List Piece → Type 0
   BaseIn ps = (b : Base) × (spell ps ≡ base_row b)
 
-  -- those of an atom and of atoms, and of what continues them
+  -- The tokens are those of an atom or of atoms, or those of what continues atoms.
   abbrev AtomIn : List Piece → Type 0
   AtomIn ps = (a : Atom) × SpellAtom text a ps
 
@@ -62,11 +62,11 @@ module _ (text : List ℕ) where
   MoreAtoms ps = (before : Atoms) (bs : List Piece) → SpellAtoms text before bs
       → (atoms : Atoms) × SpellAtoms text atoms (bs ++ ps)
 
-  abbrev AtomsIn : List Piece → Type 0
+  abbrev pub AtomsIn : List Piece → Type 0
   AtomsIn ps = (atoms : Atoms) × SpellAtoms text atoms ps
 
-  -- what the events and pieces of each nonterminal spell
-  abbrev Spells : ℕ → List (Event Piece) → List Piece → Type 0
+  -- What the events and tokens of each nonterminal spell.
+  abbrev pub Spells : ℕ → List (Event Piece) → List Piece → Type 0
   Spells zero es ps = ⊤
   Spells (suc zero) es ps = ⊤
   Spells (suc (suc zero)) es ps = ⊤
@@ -89,25 +89,25 @@ module _ (text : List ℕ) where
   abbrev Along : List Symbol → List (Event Piece) → List Piece → Type 0
   Along body es ps = StandsAlong while_grammar Spells body es ps
 
-  -- pieces in two parts are spelled part by part
+  -- Tokens in two parts are spelled part by part.
   spell_two : (ps os qs us vs : List Piece) → ps ≡ os ++ qs → qs ≡ us ++ vs → vs ≡ []
       → spell ps ≡ spell os ++ spell us
   spell_two ps os qs us vs e f g = ap spell (two_parts ps os qs us vs e f g) ∙ map-append (spelled text) os us
 
-  -- a piece and a part behind it
+  -- A token and a part after it are spelled one after the other.
   spell_behind : (p : Piece) (q : programs.Piece) (ps qs os rs : List Piece) → spelled text p ≡ Some q → ps ≡ p ∷ qs
       → qs ≡ os ++ rs → rs ≡ [] → spell ps ≡ Some q ∷ spell os
   spell_behind p q ps qs os rs h e f g =
       ap spell (e ∙ ap (λ (x : List Piece). p ∷ x) (f ∙ ap (λ (x : List Piece). os ++ x) g ∙ append-nil os))
       ∙ ap (λ (x : Option programs.Piece). x ∷ spell os) h
 
-  -- a piece alone
+  -- A single token is spelled alone.
   spell_alone : (p : Piece) (q : programs.Piece) (ps qs : List Piece) → spelled text p ≡ Some q → ps ≡ p ∷ qs
       → qs ≡ [] → spell ps ≡ Some q ∷ []
   spell_alone p q ps qs h e f =
       ap spell (e ∙ ap (λ (x : List Piece). p ∷ x) f) ∙ ap (λ (x : Option programs.Piece). x ∷ []) h
 
-  -- a piece and two parts behind it
+  -- A token and two parts after it are spelled one after the other.
   spell_three : (p : Piece) (q : programs.Piece) (ps qs os rs us vs : List Piece) → spelled text p ≡ Some q
       → ps ≡ p ∷ qs → qs ≡ os ++ rs → rs ≡ us ++ vs → vs ≡ [] → spell ps ≡ Some q ∷ (spell os ++ spell us)
   spell_three p q ps qs os rs us vs h e f g i =
@@ -115,7 +115,7 @@ module _ (text : List ℕ) where
       ∙ ap (λ (x : Option programs.Piece). x ∷ spell (os ++ us)) h
       ∙ ap (λ (xs : List (Option programs.Piece)). Some q ∷ xs) (map-append (spelled text) os us)
 
-  -- expressions
+  -- The alternatives of expressions and their parts spell them.
   sum_spelled : (es : List (Event Piece)) (ps : List Piece) → Along (symbol.Made 12 ∷ symbol.Made 11 ∷ []) es ps
       → SumIn ps
   sum_spelled es ps (ds, fs, os, qs, one, e, f, (cs, gs, us, vs, rest, e2, f2, (e3, f3))) =
@@ -227,11 +227,11 @@ module _ (text : List ℕ) where
         ∙ ap (λ (x : Option programs.Piece). sum_row inside.0 ++ x ∷ []) (close_spelled q.sort (bytes_of text q) l)),
   )
 
-  -- what is spelled in order spells the expression
-  in_order : (s : Sum) (ps : List Piece) → spell ps ≡ sum_row s → SpellSum text s ps
+  -- Tokens that are spelled in order spell the expression.
+  pub in_order : (s : Sum) (ps : List Piece) → spell ps ≡ sum_row s → SpellSum text s ps
   in_order s ps e = e ∙ sym (sum_pieces s)
 
-  -- atoms
+  -- The alternatives of atoms spell them.
   truth_spelled : (es : List (Event Piece)) (ps : List Piece) → Along (symbol.Piece 5 ∷ []) es ps → AtomIn ps
   truth_spelled es ps (p, fs, qs, k, e, f, (e2, f2)) =
       let truth = truth_worded p.sort (bytes_of text p) k in
@@ -291,8 +291,8 @@ module _ (text : List ℕ) where
   no_atoms_spelled es ps (e, f) before bs h =
       (before, subst (SpellAtoms text before) (sym (ap (λ (x : List Piece). bs ++ x) f ∙ append-nil bs)) h)
 
-  -- each alternative spells what its nonterminal does
-  each : (n : ℕ) (body : List Symbol) → Among body (alternatives while_grammar.rules n) → (es : List (Event Piece))
+  -- Each alternative spells what its nonterminal says.
+  pub each : (n : ℕ) (body : List Symbol) → Among body (alternatives while_grammar.rules n) → (es : List (Event Piece))
       (ps : List Piece) → Along body es ps → Spells n es ps
   each zero body a es ps w = tt
   each (suc zero) body a es ps w = tt
@@ -351,7 +351,7 @@ module _ (text : List ℕ) where
   each (suc (suc (suc (suc (suc (suc (suc (suc (suc (suc (suc (suc (suc (suc (suc (suc zero)))))))))))))))) body (inr (inr (inr a))) es ps w = absurd a
   each (suc (suc (suc (suc (suc (suc (suc (suc (suc (suc (suc (suc (suc (suc (suc (suc (suc n))))))))))))))))) body a es ps w = tt
 
-  -- all that is derived
+  -- Everything that is derived spells what its nonterminal says.
   pub derived_spells : (n : ℕ) (ps : List Piece) (es : List (Event Piece))
       → Derives while_grammar (symbol.Made n ∷ []) es ps → (os : List Piece) × (ds : List (Event Piece)) × Spells n ds os
       × (ps ≡ os)
@@ -360,7 +360,7 @@ module _ (text : List ℕ) where
       go : Along (symbol.Made n ∷ []) es ps → (os : List Piece) × (ds : List (Event Piece)) × Spells n ds os × (ps ≡ os)
       go (ds, fs, os, qs, w, e, f, (e2, f2)) = (os, ds, w, f ∙ ap (λ (x : List Piece). os ++ x) f2 ∙ append-nil os)
 
-  -- what is derived as an expression, as an atom and as atoms
+  -- The tokens derived as an expression, as an atom and as atoms spell these.
   pub sum_spells : (ps : List Piece) (es : List (Event Piece)) → Derives while_grammar (symbol.Made 10 ∷ []) es ps
       → (s : Sum) × SpellSum text s ps
   sum_spells ps es d = go (derived_spells 10 ps es d)

@@ -1,5 +1,4 @@
--- What the lexer says of the tokens of a text: numbers are what their digits write, and each token knows how the next
--- one continues an expression.
+-- Properties of the tokens of a text: a number is the one that its digits write, and each token has the right follower.
 use Rattle.std.proofs.Common.{◌≡◌, ℕ, zero, suc, ◌+◌, ◌-◌, ◌<◌, Bool, true, false, cond, ◌||◌, List, [], ◌∷◌, ◌++◌}
 use Rattle.std.proofs.Common.{length, take, drop, Option, Some, None, refl, ap, sym, subst, ◌∙◌, arith}
 use Rattle.std.specs.Prelude.{◌==◌, nat_lt, codes, IsTrue, ⊤}
@@ -23,22 +22,23 @@ use Rattle.while_text.specs.Drafts.{bytes_of}
 use Rattle.while_text.specs.Lexing.{lexeme, lexeme_at, sort_at, word_sort, pair_or, single_at, sign_at, name_at}
 use Rattle.while_text.specs.Lexing.{number_at, piece_in, follower_in, follower_of, tokens}
 use Rattle.while_text.specs.Within.{sort_fits}
+use Rattle.while_text.proofs.PieceNames.{drop_next}
 use Rattle.while_laws.specs.Values.{follower_by}
 
--- a number is what its digits write, up to the limit on coefficients
+-- The number of a token is the one that its digits write, up to the limit on coefficients.
 abbrev pub IsCounted : Sort → List ℕ → Type 0
 IsCounted (sorts.Number n) bytes =
     (n ≡ value_up_to (coefficient_limit + 1) bytes) × IsTrue (list_all is_ascii_digit bytes)
 IsCounted _ bytes = ⊤
 
--- so it is of all pieces, and each one knows how the next one continues an expression
+-- All numbers of the tokens are those that their digits write, and each token has the right follower.
 abbrev pub IsChain : List ℕ → List Piece → Type 0
 IsChain text [] = ⊤
 IsChain text (p ∷ []) = IsCounted p.sort (bytes_of text p)
 IsChain text (p ∷ q ∷ ps) =
     IsCounted p.sort (bytes_of text p) × (p.follower ≡ follower_by q.sort) × IsChain text (q ∷ ps)
 
--- a part of a chain is one
+-- The tail of a chain is a chain.
 pub chain_tail : (text : List ℕ) (p : Piece) (ps : List Piece) → IsChain text (p ∷ ps) → IsChain text ps
 chain_tail text p [] h = tt
 chain_tail text p (q ∷ ps) h = h.2
@@ -47,12 +47,12 @@ pub chain_behind : (text : List ℕ) (before ps : List Piece) → IsChain text (
 chain_behind text [] ps h = h
 chain_behind text (p ∷ before) ps h = chain_behind text before ps (chain_tail text p (before ++ ps) h)
 
--- what holds of both of two holds of a choice between them
+-- A predicate that holds of two values holds of a choice between them.
 choose : {X : Type 0} (P : X → Type 0) (v : Bool) (a b : X) → P a → P b → P (cond v a b)
 choose P true a b h k = h
 choose P false a b h k = k
 
--- what holds of the sort of a lexeme, if it is a piece
+-- The predicate holds of the sort of a lexeme, if it is a token.
 abbrev SortedIn : (Sort → Type 0) → Option Sort → Type 0
 SortedIn P None = ⊤
 SortedIn P (Some sort) = P sort
@@ -60,14 +60,14 @@ SortedIn P (Some sort) = P sort
 abbrev Sorted : (Sort → Type 0) → Lexeme (Option Sort) → Type 0
 Sorted P l = SortedIn P l.piece
 
--- a byte that is no operator
+-- The byte is no operator.
 record IsNoOperator (b : ℕ) : Type 0 where
   pub plus : (b == 43) ≡ false
   pub minus : (b == 45) ≡ false
   pub times : (b == 42) ≡ false
   pub caret : (b == 94) ≡ false
 
--- what holds of keywords and names holds of each word
+-- A predicate that holds of keywords and of names holds of each word.
 word_has : (P : Sort → Type 0) (name : List ℕ) → P sorts.Input → P sorts.Skip → P sorts.While → P sorts.If
     → P sorts.Else → P sorts.Truth → P sorts.Name → P (word_sort name)
 word_has P name input skip loop branch other truth word =
@@ -76,7 +76,7 @@ word_has P name input skip loop branch other truth word =
     (choose P (is_same name (codes "else")) _ _ other
     (choose P (is_same name (codes "TRUE") || is_same name (codes "true")) _ _ truth word)))))
 
--- how a word, and any piece but an operator, continues an expression
+-- A word, and any token but an operator, continues no expression.
 abbrev IsPlain : Sort → Type 0
 IsPlain sort = follower_by sort ≡ followers.Other
 
@@ -90,7 +90,7 @@ single_plain b h =
     (choose IsPlain (b == 125) _ _ refl (rw (h.plus, h.minus, h.times, h.caret)
     (choose IsPlain (nat_lt 127 b) _ _ refl refl))))))))
 
--- what holds of the signs of two bytes and of what begins with another byte holds of each sign
+-- A predicate that holds of the signs of two bytes and of the lexeme of each other byte holds of each sign.
 sign_has : (P : Sort → Type 0) (b : ℕ) (bytes : List ℕ) → P sorts.Becomes → P sorts.Wrong → P sorts.Joint
     → P sorts.AtLeast → P sorts.MoreThan → P sorts.AtMost → P sorts.LessThan → P sorts.Equal → P (single_at b)
     → Sorted P (sign_at b bytes)
@@ -115,7 +115,7 @@ sort_plain b bytes h =
     (choose (Sorted IsPlain) (is_ascii_digit b) (number_at b bytes) (sign_at b bytes) refl
     (sign_has IsPlain b bytes refl refl refl refl refl refl refl refl (single_plain b h))))
 
--- how a piece that begins with a byte continues an expression
+-- How a token that begins with this byte continues an expression.
 abbrev Continues : ℕ → Sort → Type 0
 Continues b sort = follower_in b ≡ follower_by sort
 
@@ -139,7 +139,7 @@ continues b bytes = go (b == 43) (b == 45) (b == 42) (b == 94) refl refl refl re
         other (sort_at b bytes).piece (rw (p, q, r, s) refl)
         (sort_plain b bytes (record { plus = p; minus = q; times = r; caret = s }))
 
--- what is no white space begins a piece
+-- A lexeme that is no white space is a token.
 abbrev IsThere : Lexeme (Option Sort) → Type 0
 IsThere l = (sort : Sort) × (l.piece ≡ Some sort)
 
@@ -163,7 +163,7 @@ sort_there b bytes h =
     (choose IsThere (is_ascii_digit b) (number_at b bytes) (sign_at b bytes)
     (sorts.Number (value_up_to (coefficient_limit + 1) (b ∷ prefix is_ascii_digit bytes)), refl) (sign_there b bytes)))
 
--- a number at the beginning of bytes is counted, and so is everything else
+-- The number at the beginning of bytes is the one that its digits write.
 number_counted : (b : ℕ) (bytes : List ℕ) → is_ascii_digit b ≡ true
     → IsCounted (sorts.Number (value_up_to (coefficient_limit + 1) (b ∷ prefix is_ascii_digit bytes)))
     (take (number_at b bytes).len (b ∷ bytes))
@@ -172,7 +172,7 @@ number_counted b bytes d =
     (sym (ap (λ (xs : List ℕ). b ∷ xs) (take-prefix is_ascii_digit bytes)))
     (refl, rw d (all_prefix is_ascii_digit bytes))
 
--- a sort that is no number
+-- The sort is no number.
 abbrev IsFree : Sort → Type 0
 IsFree sort = (bytes : List ℕ) → IsCounted sort bytes
 
@@ -220,29 +220,18 @@ sort_counted b bytes sort = go (is_white_space b) (begins_name b) (is_ascii_digi
         (sign_has IsFree b bytes (λ xs. tt) (λ xs. tt) (λ xs. tt) (λ xs. tt) (λ xs. tt) (λ xs. tt) (λ xs. tt) (λ xs. tt)
         (single_free b)) e
 
--- what is dropped behind the first byte
+-- Dropping the first byte and then n - 1 more drops n bytes.
 drop_behind : (n b : ℕ) (bytes : List ℕ) → 0 < n → drop n (b ∷ bytes) ≡ drop (n - 1) bytes
 drop_behind zero b bytes h = absurd (omega (arith, h))
 drop_behind (suc n) b bytes h = ap (λ (k : ℕ). drop k bytes) (let e : n ≡ suc n - 1 = omega arith in e)
 
--- what is left behind one byte more
-drop_next : (k : ℕ) (text rest : List ℕ) (b : ℕ) → b ∷ rest ≡ drop k text → rest ≡ drop (k + 1) text
-drop_next zero [] rest b e = cc
-drop_next zero (x ∷ text) rest b e = tails e
-  where
-    tails : b ∷ rest ≡ x ∷ text → rest ≡ text
-    tails d = cc
-drop_next (suc k) [] rest b e = cc
-drop_next (suc k) (x ∷ text) rest b e =
-    drop_next k text rest b e ∙ ap (λ (j : ℕ). drop j (x ∷ text)) (let q : suc (k + 1) ≡ suc k + 1 = omega arith in q)
-
--- the first token of what is left continues an expression as the bytes say
+-- The first token of the rest has this follower.
 abbrev FirstIs : Follower → List (Token Piece) → Type 0
 FirstIs f [] = ⊤
 FirstIs f (t ∷ ts) = f ≡ follower_by t.piece.sort
 
 module _ (text : List ℕ) where
-  -- the tokens of what is left
+  -- The tokens of the rest of the text.
   abbrev left : ℕ → ℕ → List ℕ → List (Token Piece)
   left k skip rest = tokens_in (lexer_of (lexeme_at (length text))) Plain k skip rest
 
@@ -272,7 +261,7 @@ module _ (text : List ℕ) where
           (sym (blank true w refl)) later
       go false w later = there (sort_there b rest w)
 
-  -- each token is counted, and knows the next one
+  -- The number of each token is the one that its digits write.
   piece_counted : (k b : ℕ) (rest : List ℕ) (sort : Sort) → b ∷ rest ≡ drop k text
       → k + length (b ∷ rest) ≡ length text → (sort_at b rest).piece ≡ Some sort
       → IsCounted sort (take (sort_at b rest).len (drop (length text - length (b ∷ rest)) text))
@@ -285,7 +274,7 @@ module _ (text : List ℕ) where
       place = ap (λ (j : ℕ). take (sort_at b rest).len (drop j text)) at
           ∙ ap (λ (xs : List ℕ). take (sort_at b rest).len xs) (sym e)
 
-  -- a piece before a chain, whose first token it knows
+  -- A token with the right follower, before a chain, forms a chain.
   chain_then : (p : Piece) (ts : List (Token Piece)) → IsCounted p.sort (bytes_of text p) → FirstIs p.follower ts
       → IsChain text (pieces ts) → IsChain text (p ∷ pieces ts)
   chain_then p [] c f h = c
@@ -314,6 +303,6 @@ module _ (text : List ℕ) where
       go None h later = later
       go (Some sort) h later = chain_then _ more (piece_counted k b rest sort e n h) knows later
 
-  -- the tokens of a text are such a chain
+  -- The tokens of a text form a chain.
   pub tokens_chained : IsChain text (pieces (tokens text))
   tokens_chained = all_chained 0 0 text refl (omega arith)

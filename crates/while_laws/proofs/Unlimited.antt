@@ -1,4 +1,4 @@
--- A comparison that can be expanded with its exponents limited has none over the limit.
+-- A comparison that can be expanded with limited exponents has no exponent over the limit.
 use Rattle.std.proofs.Common.{◌≡◌, Option, Some, None, refl, sym, ◌∙◌}
 use Rattle.std.specs.Prelude.{pos}
 use Rattle.expr_text.specs.TermFronts.{limited}
@@ -10,11 +10,11 @@ use Rattle.while_text.specs.model.Terms.{Term, Literal, Subtraction}
 use Rattle.while_text.specs.Faults.{kind_in, lesser, fault_of_atom, fault_of_forms}
 use Rattle.while_text.proofs.ReadableDrafts.{kind_none}
 
--- an expression that can be expanded with its exponents limited has none over the limit
+-- An expression that can be expanded with limited exponents has no exponent over the limit.
 pub unlimited : (t : Term) → first_fault (limited t) ≡ None → limited t ≡ t
 unlimited t h = limited_itself t (sym (limited_fault t) ∙ h)
 
--- where the first of two faults is none
+-- If neither of two faults is chosen, the first is absent.
 first_none : (a b : Option Fault) → or_else a b ≡ None → a ≡ None
 first_none None b h = refl
 first_none (Some fault) b h = cc
@@ -28,7 +28,7 @@ lesser_first (Some ManyTerms) (Some ManyTerms) h = cc
 lesser_first (Some ManyTerms) (Some HighDegree) h = cc
 lesser_first (Some HighDegree) (Some other) h = cc
 
--- a comparison that can be expanded with its exponents limited has none over the limit
+-- Both sides of a difference whose exponents needn't be limited have exponents within the limit.
 sides : (l r : Term) → Subtraction (limited l) (limited r) ≡ Subtraction l r → (limited l ≡ l) × (limited r ≡ r)
 sides l r e = (cc, cc)
 

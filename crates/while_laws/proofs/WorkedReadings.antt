@@ -1,4 +1,4 @@
--- What was worked out by hand of reading while programs.
+-- The worked values of reading while programs.
 use Rattle.std.proofs.Common.{refl}
 use Rattle.while_laws.specs.Worked.{WorkedReadings}
 

@@ -15,7 +15,7 @@ use Rattle.while_text.specs.Reading.{State}
 use Rattle.while_laws.specs.Spelled.{SpellSum, SpellAtom, SpellAtoms}
 use Rattle.while_laws.specs.Values.{read_all, AreIn, BeginsExpression}
 
--- the nonterminals of the grammar for atoms, for one atom and for an expression
+-- The nonterminals of the grammar for atoms, for one atom and for an expression.
 abbrev pub atoms_symbol : ℕ
 atoms_symbol = 7
 
@@ -25,18 +25,19 @@ atom_symbol = 9
 abbrev pub sum_symbol : ℕ
 sum_symbol = 10
 
--- pieces are derived by a nonterminal
+-- The nonterminal derives the tokens.
 abbrev pub IsDerived : ℕ → List Piece → Type 0
 IsDerived n ps = (es : List (Event Piece)) × Derives while_grammar (Made n ∷ []) es ps
 
--- the pieces that are derived as an expression are exactly those that spell an expression of programs, and they spell
--- one alone
+-- The token lists that are derived as an expression are exactly those that spell an expression of programs, and each
+-- spells only one.
 pub record SumsAreOfPrograms : Type 0 where
   pub spelled : (text : List ℕ) (ps : List Piece) → IsDerived sum_symbol ps → (s : Sum) × SpellSum text s ps
   pub derived : (text : List ℕ) (s : Sum) (ps : List Piece) → SpellSum text s ps → IsDerived sum_symbol ps
   pub one : (text : List ℕ) (s t : Sum) (ps : List Piece) → SpellSum text s ps → SpellSum text t ps → s ≡ t
 
--- so are those of an atom, and those of the atoms of a test
+-- The token lists that are derived as an atom, or as the atoms of a test, are exactly those that spell an atom, or
+-- atoms.
 pub record AtomsAreOfPrograms : Type 0 where
   pub spelled_atom : (text : List ℕ) (ps : List Piece) → IsDerived atom_symbol ps → (a : Atom) × SpellAtom text a ps
   pub derived_atom : (text : List ℕ) (a : Atom) (ps : List Piece) → SpellAtom text a ps → IsDerived atom_symbol ps
@@ -45,14 +46,14 @@ pub record AtomsAreOfPrograms : Type 0 where
   pub derived : (text : List ℕ) (atoms : Atoms) (ps : List Piece) → SpellAtoms text atoms ps
       → IsDerived atoms_symbol ps
 
--- where reading the value of an assignment meets no fault, the value is the term of the expression over the inputs, and
--- nothing else is made
+-- If reading the value of an assignment meets no fault, the value is the term of the expression over the inputs, and
+-- nothing else is built.
 pub record ValuesAreOfPrograms : Type 0 where
   pub each : (text : List ℕ) (s : Sum) (ps : List Piece) (next : Piece) (b : State) → SpellSum text s ps
       → AreIn text ps next → BeginsExpression phases.Value b → (read_all text b ps).standing ≡ Sound
-      → (read_all text b ps).draft ≡ record b.draft { value = sum_term b.draft.names s; front = no_front }
+      → (read_all text b ps).draft ≡ record b.draft { value = sum_term b.draft.names s; grammar_state = no_front }
 
--- where reading an atom meets no fault, the test has that atom more
+-- If reading an atom meets no fault, that atom is appended to the test.
 pub record TestsAreOfPrograms : Type 0 where
   pub each : (text : List ℕ) (a : Atom) (ps : List Piece) (next : Piece) (b : State) → SpellAtom text a ps
       → AreIn text ps next → BeginsExpression phases.Left b → b.draft.left ≡ Literal (pos 0)

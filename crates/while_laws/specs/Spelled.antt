@@ -1,4 +1,4 @@
--- How pieces of while programs spell the expressions and atoms of programs.
+-- How tokens of while programs spell the expressions and atoms of programs.
 use Rattle.std.specs.Prelude.{◌≡◌, ℕ, if◌then◌else◌, List, [], ◌∷◌, ◌++◌, codes, map, Option, Some, None}
 use Rattle.text_core.specs.Names.{is_same}
 use Rattle.text_core.specs.Readers.{onto}
@@ -13,8 +13,8 @@ use Rattle.while_text.specs.declared.piece.Sort.TheVariants as sorts
 use Rattle.while_text.specs.declared.piece.Piece.{Piece}
 use Rattle.while_text.specs.Drafts.{bytes_of}
 
--- what a piece with these bytes is in an expression of programs; keywords and `TRUE` are nothing there, since they are
--- no names in while programs
+-- The token of a program's expression that a token with these bytes is; keywords and `TRUE` are none, since they aren't
+-- names in while programs.
 abbrev pub spelled_by : Sort → List ℕ → Option programs.Piece
 spelled_by sorts.Name bytes = Some (Word bytes)
 spelled_by (sorts.Number n) bytes = Some (Digits bytes)
@@ -26,15 +26,15 @@ spelled_by sorts.Times bytes = Some Times
 spelled_by sorts.Caret bytes = Some Caret
 spelled_by _ bytes = None
 
--- what a piece of a text is there
+-- The token of a program's expression that a token of a text is.
 abbrev pub spelled : List ℕ → Piece → Option programs.Piece
 spelled text p = spelled_by p.sort (bytes_of text p)
 
--- pieces of a text spell an expression: one by one they are the pieces that programs write it in
+-- The tokens of a text spell an expression: one by one, they are the tokens of its written form in programs.
 abbrev pub SpellSum : List ℕ → Sum → List Piece → Type 0
 SpellSum text s ps = map (spelled text) ps ≡ onto (sum_behind Some s []) []
 
--- the sign of a relation; equality has two
+-- The sign of a relation; equality has two signs.
 abbrev pub sign_by : Sort → List ℕ → Option Sign
 sign_by sorts.AtLeast bytes = Some AtLeastSign
 sign_by sorts.MoreThan bytes = Some MoreThanSign
@@ -43,12 +43,12 @@ sign_by sorts.LessThan bytes = Some LessThanSign
 sign_by sorts.Equal bytes = Some (if is_same bytes (codes "==") then DoubleEqualSign else EqualSign)
 sign_by _ bytes = None
 
--- the sign between atoms, `&&` or `/\`
+-- The sign between atoms, `&&` or `/\`.
 abbrev pub joint_by : Sort → List ℕ → Option Joint
 joint_by sorts.Joint bytes = Some (if is_same bytes (codes "&&") then Ampersands else Wedge)
 joint_by _ bytes = None
 
--- the word of the atom that always holds, `TRUE` or `true`
+-- The word of the atom that always holds, `TRUE` or `true`.
 abbrev pub truth_by : Sort → List ℕ → Option Truth
 truth_by sorts.Truth bytes = Some (if is_same bytes (codes "TRUE") then Capitals else Smalls)
 truth_by _ bytes = None
@@ -62,14 +62,14 @@ joint_of text p = joint_by p.sort (bytes_of text p)
 abbrev pub truth_of : List ℕ → Piece → Option Truth
 truth_of text p = truth_by p.sort (bytes_of text p)
 
--- pieces of a text spell an atom: its word, or its left side, its relation and its right side
+-- The tokens of a text spell an atom: its word, or its left side, its relation and its right side.
 abbrev pub SpellAtom : List ℕ → Atom → List Piece → Type 0
 SpellAtom text (Always truth) ps = (p : Piece) × (ps ≡ p ∷ []) × (truth_of text p ≡ Some truth)
 SpellAtom text (Compared l sign r) ps =
     (ls : List Piece) × (p : Piece) × (rs : List Piece) × (ps ≡ ls ++ p ∷ rs) × SpellSum text l ls
     × (sign_of text p ≡ Some sign) × SpellSum text r rs
 
--- pieces of a text spell atoms: the first ones, the sign behind them, and the last one
+-- The tokens of a text spell atoms: the first ones, the sign after them, and the last one.
 abbrev pub SpellAtoms : List ℕ → Atoms → List Piece → Type 0
 SpellAtoms text (First a) ps = SpellAtom text a ps
 SpellAtoms text (Joined atoms joint a) ps =

@@ -1,4 +1,4 @@
--- Small while programs and what reading them comes to, as it was worked out by hand, on both sides.
+-- Small while programs and the worked results of reading them, on both sides.
 use Rattle.std.specs.Prelude.{◌≡◌, ℕ, true, false, List, [], ◌∷◌, ◌++◌, length, codes, map, pos, Some, None}
 use Rattle.text_grammar.specs.text_core.Reading.{Answer, Stands, Refused, answer}
 use Rattle.text_grammar.specs.Texts.{reader}
@@ -16,18 +16,18 @@ use Rattle.while_text.specs.Faults.{lesser, number_of}
 use Rattle.while_text.specs.Lexing.{word_sort, sort_at, follower_of, tokens}
 use Rattle.while_text.specs.Reading.{Source, while_text}
 
--- the answer to a text
+-- The answer to a text.
 abbrev pub answer_to : List ℕ → Answer Source Kind
 answer_to text = answer (reader (while_text text)) (length text) (tokens text)
 
--- a program with the input A alone, and a refusal
+-- The answers that are a program with the input A alone, or a refusal.
 abbrev pub over_a : Statements → List ℕ → Answer Source Kind
 over_a program at = Stands (record { names = (65 ∷ []) ∷ []; program = program; at = at })
 
 abbrev pub refused : Kind → ℕ → Answer Source Kind
 refused kind at = Refused (record { kind = kind; at = at })
 
--- a text, and the answer to it
+-- A text, and its answer.
 pub record Case : Type 0 where
   pub text : List ℕ
   pub comes : Answer Source Kind
@@ -35,9 +35,9 @@ pub record Case : Type 0 where
 abbrev pub case_of : List ℕ → Answer Source Kind → Case
 case_of text comes = record { text = text; comes = comes }
 
--- texts that are programs: a statement, any value, a loop, a branch with a second block, and a loop without end; two
--- statements in a block inside a block, and one behind it; branches without a second block, inside one with it, and behind
--- it; a test of two atoms; and a second input
+-- Texts that are programs: a statement, any value, a loop, a branch with a second block, and an endless loop; two
+-- statements in a block inside a block, and one after it; branches without a second block, inside one with it, and
+-- after it; a test of two atoms; and a second input.
 abbrev pub programs : List Case
 programs =
     case_of (codes "input A; skip;") (over_a (Simple Skip Nothing) (9 ∷ []))
@@ -65,9 +65,9 @@ programs =
     }))
     ∷ []
 
--- texts that are none: an unknown name, an input that occurs before, no statement, an empty test, a second block without a
--- branch before it, or behind a loop, a block that isn't closed, and one that isn't opened, a byte over 127, and an exponent
--- over the limit, with whose last token the value ends
+-- Texts that are refused: an unknown name, a repeated input, no statement, an empty test, a second block without a
+-- branch before it, or after a loop, a block that isn't closed, one that isn't opened, a byte over 127, and an exponent
+-- over the limit, with whose last token the value ends.
 abbrev pub refusals : List Case
 refusals =
     case_of (codes "input A; B := 1;") (refused UnknownName 9)
@@ -82,7 +82,7 @@ refusals =
     ∷ case_of (codes "input A; A := A^9 + 1;") (refused (Limit limits.Degree) 20)
     ∷ []
 
--- names, pieces and what continues an expression
+-- Worked values of names, tokens and followers.
 pub record PiecesAreRead : Type 0 where
   pub keyword : word_sort (codes "while") ≡ sorts.While
   pub longer : word_sort (codes "whileA") ≡ sorts.Name
@@ -92,12 +92,12 @@ pub record PiecesAreRead : Type 0 where
   pub blank : (sort_at 32 (codes "A")).piece ≡ None
   pub operator : follower_of (codes "  + A") ≡ followers.Operator
   pub end : follower_of (codes "  ") ≡ followers.Other
-  -- an operator goes on after an exponent, and `^` doesn't
+  -- An operator continues an expression after an exponent, and `^` doesn't.
   pub power : goes_on false followers.Caret ≡ true
   pub no_power : goes_on true followers.Caret ≡ false
   pub sum : goes_on true followers.Operator ≡ true
 
--- the least of faults, and the order of kinds
+-- Worked values of the least fault, and of the order of kinds.
 pub record FaultsAreOrdered : Type 0 where
   pub least : lesser (Some HighDegree) (Some LargeCoefficient) ≡ Some LargeCoefficient
   pub first : lesser (Some ManyTerms) (Some HighDegree) ≡ Some ManyTerms
@@ -105,7 +105,7 @@ pub record FaultsAreOrdered : Type 0 where
   pub unknown : number_of UnknownName ≡ 4
   pub rules : number_of (Limit limits.Rules) ≡ 13
 
--- all of it
+-- All worked values of reading.
 pub record WorkedReadings : Type 0 where
   pub pieces : PiecesAreRead
   pub faults : FaultsAreOrdered

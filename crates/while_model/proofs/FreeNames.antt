@@ -11,7 +11,7 @@ use Rattle.model.specs.Programs.{Name}
 use Rattle.while_model.specs.Translation.{longest, apart_from}
 use Rattle.while_model.specs.Laws.{FreeNamesAreApart}
 
--- no name is longer than the longest
+-- No name is longer than the longest.
 length-le_longest : (names : List Name) (name : Name) → Contains names name → length name ≤ longest names
 length-le_longest [] name (k, low, at) = absurd (omega (arith, low))
 length-le_longest (x ∷ names) name (zero, low, at) =
@@ -19,7 +19,7 @@ length-le_longest (x ∷ names) name (zero, low, at) =
 length-le_longest (x ∷ names) name (suc k, low, at) =
     let later : length name ≤ longest names = length-le_longest names name (k, omega (arith, low), at) in omega (arith, later)
 
--- with as many `_` as make a name longer than all of the names it is none of them
+-- With enough `_` to be longer than all of the names, a name is none of them.
 apart : (names : List Name) (most : ℕ) (name : Name) → longest names < length name + most
     → ¬ (Contains names (apart_from names most name))
 apart names zero name longer h = omega (arith, longer, length-le_longest names name h)

@@ -9,5 +9,5 @@ pub mod Runs
 pub mod Translating
 pub mod FreeNames
 mod WorkedPrograms
--- the lemmas of the crate below, which callers name through this one
+-- The lemmas of the crate below, which callers name through this one.
 pub use Rattle.model.proofs as model

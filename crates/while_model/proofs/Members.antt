@@ -1,14 +1,14 @@
--- What is in a list, by recursion: in an appended list, in an image, and at a position.
+-- Membership in lists, by recursion: in an appended list, in an image, and at a position.
 use Rattle.std.proofs.Common.{◌≡◌, ◌⊎◌, inl, inr, ℕ, zero, suc, List, [], ◌∷◌, ◌++◌, map, Some}
 use Rattle.std.proofs.Common.{refl, sym, ap, slice_get}
 use Rattle.model.proofs.Cases.{none_some, some_same}
 
--- an element of a list
+-- x is an element of the list.
 abbrev pub IsIn : {X : Type 0} → X → List X → Type 0
 IsIn x [] = ⊥
 IsIn x (y ∷ ys) = (x ≡ y) ⊎ IsIn x ys
 
--- an element of the first part, and one of the second, is one of the whole, and there are no others
+-- The elements of two lists one after the other are the elements of the first and those of the second.
 pub is_in-left : {X : Type 0} (x : X) (xs ys : List X) → IsIn x xs → IsIn x (xs ++ ys)
 is_in-left x [] ys h = absurd h
 is_in-left x (y ∷ xs) ys (inl e) = inl e
@@ -27,7 +27,7 @@ is_in-append x (y ∷ xs) ys (inr h) = further (is_in-append x xs ys h)
     further (inl here) = inl (inr here)
     further (inr there) = inr there
 
--- the image of an element is one of the image, and there are no others
+-- The elements of an image are the images of the elements.
 pub is_in-map : {X Y : Type 0} (f : X → Y) (x : X) (xs : List X) → IsIn x xs → IsIn (f x) (map f xs)
 is_in-map f x [] h = absurd h
 is_in-map f x (y ∷ xs) (inl e) = inl (ap f e)
@@ -41,7 +41,7 @@ map-is_in f y (x ∷ xs) (inr h) = further (map-is_in f y xs h)
     further : (z : _) × IsIn z xs × (y ≡ f z) → (z : _) × IsIn z (x ∷ xs) × (y ≡ f z)
     further (z, there, e) = (z, inr there, e)
 
--- an element is at some position, and what is at a position is an element
+-- Each element is at some position, and what is at a position is an element.
 pub position_of : {X : Type 0} (x : X) (xs : List X) → IsIn x xs → (i : ℕ) × (slice_get xs i ≡ Some x)
 position_of x [] h = absurd h
 position_of x (y ∷ xs) (inl e) = (0, ap (λ z. Some z) (sym e))

@@ -8,7 +8,7 @@ use Rattle.while_model.specs.Moves.{Move}
 use Rattle.while_model.specs.Translation.{with_point, with_points, number_in}
 use Rattle.while_model.proofs.Members.{IsIn, is_in-left, is_in-right}
 
--- a point that a test finds is in the list
+-- A point that the test by `list_any` finds is in the list.
 any_is_in : (k : ℕ) (points : List ℕ) → list_any (λ x. x == k) points ≡ true → IsIn k points
 any_is_in k [] h = absurd (no_is_not_yes false refl h)
 any_is_in k (x ∷ points) h = go (eqb_tells x k) (any_is_in k points)
@@ -18,7 +18,7 @@ any_is_in k (x ∷ points) h = go (eqb_tells x k) (any_is_in k points)
     go (inl (test, e)) later = inl (sym e)
     go (inr (test, other)) later = inr (later (rw test at h))
 
--- a point that is added is in the list, and so are those that were in it
+-- An added point is in the list, and so is each point that was in it.
 pub with_point-has : (points : List ℕ) (k : ℕ) → IsIn k (with_point points k)
 with_point-has points k = go (list_any (λ x. x == k) points) refl
   where
@@ -39,7 +39,7 @@ with_points-keeps points (m ∷ ms) j h =
     with_points-keeps (with_point (with_point points m.from) m.to) ms j
     (with_point-keeps (with_point points m.from) m.to j (with_point-keeps points m.from j h))
 
--- the point that a move leaves is among the points
+-- The point that a move leaves is among the points.
 pub from_among : (points : List ℕ) (ms : List Move) (m : Move) → IsIn m ms → IsIn m.from (with_points points ms)
 from_among points [] m h = absurd h
 from_among points (n ∷ ms) m (inl e) =
@@ -48,7 +48,7 @@ from_among points (n ∷ ms) m (inl e) =
     (with_point-keeps (with_point points n.from) n.to n.from (with_point-has points n.from)))
 from_among points (n ∷ ms) m (inr h) = from_among (with_point (with_point points n.from) n.to) ms m h
 
--- a point with the number of one of the points is that point
+-- Two points with the same number are the same, if one of them is among the points.
 pub number_in-unique : (points : List ℕ) (k j : ℕ) → IsIn j points → number_in points k ≡ number_in points j → k ≡ j
 number_in-unique [] k j h same = absurd h
 number_in-unique (x ∷ points) k j h same = go (number_in-unique points k j) (eqb_tells x k) (eqb_tells x j)
@@ -74,7 +74,7 @@ number_in-unique (x ∷ points) k j h same = go (number_in-unique points k j) (e
         later (inl e) = absurd (nj (sym e))
         later (inr there) = further there (omega (arith, numbers))
 
--- at the number of one of the points is that point
+-- The point at a point's number is that point.
 pub point_at : (points : List ℕ) (k : ℕ) → IsIn k points → slice_get points (number_in points k) ≡ Some k
 point_at [] k h = absurd h
 point_at (x ∷ points) k h = go (point_at points k) (eqb_tells x k)

@@ -1,4 +1,4 @@
--- Routes, chains of moves between points of a program, are its executions.
+-- Routes, which are chains of moves between points of a program, are its executions.
 use Rattle.std.proofs.Common.{◌≡◌, ◌⊎◌, inl, inr, ℕ, zero, suc, ◌+◌, ◌<◌, ◌≤◌, List, [], ◌∷◌, ℤ, refl, sym, ap, subst, arith}
 use Rattle.std.proofs.lemmas.List.Elements.{All-nil, All-cons, All-head}
 use Rattle.model.specs.Programs.{Atom, AtomHolds, GuardHolds}
@@ -11,17 +11,17 @@ use Rattle.while_model.proofs.Segments.{IsLeftAt, left_at_first}
 use Rattle.while_model.proofs.Sources.{IsBranchMove, IsMoveOf, branch_from, in_range}
 use Rattle.while_model.proofs.Tests.{test_or_negation, negation_fails}
 
--- a move leads from the values env to the values end
+-- The move leads from the values `env` to the values `end`.
 abbrev pub Passes : Move → List ℤ → List ℤ → Type 0
 Passes m env end = GuardHolds env m.guard × Acts m.action env end
 
--- n moves of the program lead from point 0 with the values start to a point with values
+-- Along n moves of the program, point 0 with the values `start` leads to the point k with the values `end`.
 abbrev pub IsRoute : Statements → List ℤ → ℕ → ℕ → List ℤ → Type 0
 IsRoute program start zero k end = (k ≡ 0) × (end ≡ start)
 IsRoute program start (suc n) k end = (m : Move) × (env : List ℤ) × IsRoute program start n m.from env
     × IsMoveOf m 0 (size program) program × Passes m env end × (k ≡ m.to)
 
--- a segment's moves are the program's
+-- The moves of a segment are moves of the program.
 pub moves_within : {program : Statements} {at after : ℕ} {here left : Statements} (m : Move)
     → Segment program at after here left → IsMoveOf m at after here → IsMoveOf m 0 (size program) program
 moves_within m Whole h = h
@@ -32,7 +32,7 @@ moves_within m (InFirst s) h = moves_within m s (inr (inl h))
 moves_within m (InSecond s) h = moves_within m s (inr (inr (inl h)))
 moves_within m (AfterBranch s) h = moves_within m s (inr (inr (inr h)))
 
--- a move of the program from a point of a segment is one of the segment's
+-- A move of the program from a point of a segment is one of the segment's moves.
 pub moves_only : {program : Statements} {at after : ℕ} {here left : Statements} (m : Move)
     → Segment program at after here left → IsMoveOf m 0 (size program) program → at ≤ m.from → m.from < at + size here
     → IsMoveOf m at after here
@@ -84,7 +84,8 @@ moves_only m (AfterBranch {at} {after} {test} {block} {other} {rest} {left} s) h
     go (inr (inr (inl r))) = absurd (omega (arith, low, (in_range m other (suc at + size block) _ r).1))
     go (inr (inr (inr r))) = r
 
--- from what is left at a point, a step of an execution is a move of the program from there, and it leads where the next is left
+-- A step of an execution from the statements left at a point is a move of the program from that point, and the next
+-- statements are those left at the point that it reaches.
 pub step_is_move : (program : Statements) (k : ℕ) (before next : Statements) (env end : List ℤ) → IsLeftAt program k before
     → Executes before env next end
     → (m : Move) × IsMoveOf m 0 (size program) program × (m.from ≡ k) × Passes m env end × IsLeftAt program m.to next
@@ -96,13 +97,13 @@ step_is_move program k before next env end (inr (after, here, behind, s, some, i
     Result : Type 0
     Result = (m : Move) × IsMoveOf m 0 (size program) program × (m.from ≡ k) × Passes m env end × IsLeftAt program m.to next
 
-    -- a move without an action, where nothing changes
+    -- A move without an action changes no value.
     passed : (guard : List Atom) (to : ℕ) (left : Statements) → IsMoveOf (passing k guard to) 0 (size program) program
         → GuardHolds env guard → end ≡ env → next ≡ left → IsLeftAt program to left → Result
     passed guard to left is_move holds same e at =
         (passing k guard to, is_move, refl, (holds, same), subst (IsLeftAt program to) (sym e) at)
 
-    -- a test leads to one point or to the other
+    -- A test leads to one point or to the other.
     tested : (test : List Atom) (one other : ℕ) (first_left second_left : Statements)
         → ((m : Move) → IsBranchMove m k test one other → IsMoveOf m 0 (size program) program)
         → IsLeftAt program one first_left → IsLeftAt program other second_left → end ≡ env
@@ -138,7 +139,8 @@ step_is_move program k before next env end (inr (after, here, behind, s, some, i
         (followed_by block (followed_by rest behind)) (followed_by other (followed_by rest behind))
         (λ m h. moves_within m s (inl h)) (left_at_first (InFirst s)) (left_at_first (InSecond s)) same branches
 
--- a move of the program from a point is a step of an execution from what is left there, to what is left where it leads
+-- A move of the program from a point is a step of an execution from the statements left there to those left at the
+-- point that it reaches.
 pub move_is_step : (program : Statements) (m : Move) (before : Statements) (env end : List ℤ)
     → IsLeftAt program m.from before → IsMoveOf m 0 (size program) program → Passes m env end
     → (next : Statements) × Executes before env next end × IsLeftAt program m.to next
@@ -157,7 +159,7 @@ move_is_step program m before env end (inr (after, here, behind, s, some, is)) h
     Result : Statements → Type 0
     Result here = (next : Statements) × Executes (followed_by here behind) env next end × IsLeftAt program m.to next
 
-    -- a move from a test leads to one point where the test holds, and to the other where it doesn't
+    -- A move from a test leads to one point if the test holds, and to the other if it doesn't.
     tested : (test : List Atom) (one other : ℕ) (first_left second_left : Statements)
         → IsLeftAt program one first_left → IsLeftAt program other second_left → IsBranchMove m m.from test one other
         → (next : Statements) × (end ≡ env) × Branches (GuardHolds env test) first_left second_left next
@@ -211,18 +213,18 @@ move_is_step program m before env end (inr (after, here, behind, s, some, is)) h
     by_statement (If test block other rest) s some (inr (inr (inr r))) =
         absurd (omega (arith, (in_range m rest (suc m.from + size block + size other) after r).0))
 
--- nothing after a program changes nothing
+-- A program followed by nothing is the program.
 pub followed_by_nothing : (program : Statements) → followed_by program Nothing ≡ program
 followed_by_nothing Nothing = refl
 followed_by_nothing (Simple action rest) = ap (λ r. Simple action r) (followed_by_nothing rest)
 followed_by_nothing (While test block rest) = ap (λ r. While test block r) (followed_by_nothing rest)
 followed_by_nothing (If test block other rest) = ap (λ r. If test block other r) (followed_by_nothing rest)
 
--- the program is left at its first point
+-- The statements left at the first point are the whole program.
 left_at_start : (program : Statements) → IsNonempty program → IsLeftAt program 0 program
 left_at_start program some = inr (size program, program, Nothing, Whole, some, sym (followed_by_nothing program))
 
--- each execution is a route to a point where what it leaves is left
+-- Each execution is a route to a point at which the statements that it leaves are left.
 pub execution_is_route : (program : Statements) → IsNonempty program → (start : List ℤ) (n : ℕ) (left : Statements)
     (end : List ℤ) → IsExecution program start n left end
     → (k : ℕ) × IsRoute program start n k end × IsLeftAt program k left
@@ -240,7 +242,7 @@ execution_is_route program some start (suc n) left end (before, env, earlier, st
           found.4,
         )
 
--- each route is an execution, which leaves what is left at its last point
+-- Each route is an execution, which leaves the statements that are left at its last point.
 pub route_is_execution : (program : Statements) → IsNonempty program → (start : List ℤ) (n k : ℕ) (end : List ℤ)
     → IsRoute program start n k end → (left : Statements) × IsExecution program start n left end × IsLeftAt program k left
 route_is_execution program some start zero k end (at, same) =

@@ -1,4 +1,4 @@
--- A move leads where its rule leads.
+-- A move leads to the same values as its rule.
 use Rattle.std.proofs.Common.{◌≡◌, ◌⊎◌, inl, inr, ℕ, suc, ◌<◌, List, [], ◌∷◌, ◌++◌, length, map, get_or, ℤ, pos}
 use Rattle.std.proofs.Common.{refl, sym, ◌∙◌, ap, subst, arith}
 use Rattle.std.specs.Prelude.{set, slice_index_or}
@@ -15,11 +15,11 @@ use Rattle.while_model.specs.Moves.{Move}
 use Rattle.while_model.specs.Translation.{free_count, variables, updates_of}
 use Rattle.while_model.proofs.Sources.{IsBranchMove, IsMoveOf}
 
--- the values of expressions, where the free variables have these values
+-- The values of expressions for these values of the variables and of the free variables.
 abbrev pub values_of : List Term → List ℤ → List ℤ → List ℤ
 values_of terms env free = map (λ u. value u (env ++ free)) terms
 
--- each variable's value is the variable's
+-- The value of each variable, as an expression, is that of the variable.
 pub values_of-variables : (n : ℕ) (env free : List ℤ) → length env ≡ n → values_of (variables n) env free ≡ env
 values_of-variables n env free is = same_lists (values_of (variables n) env free) env lengths each
   where
@@ -42,12 +42,12 @@ values_of-variables n env free is = same_lists (values_of (variables n) env free
         get_or-map (λ u. value u (env ++ free)) (variables n) k (Variable 0) d in_variables
         ∙ ap (λ u. value u (env ++ free)) at ∙ get_or_append_left env free (pos 0) k in_env ∙ get_or_default env k (pos 0) d in_env
 
--- behind the values is the free variable's
+-- The value of the free variable comes after those of the inputs.
 pub free_value : (n : ℕ) (env : List ℤ) (z : ℤ) → length env ≡ n → value (Variable n) (env ++ z ∷ []) ≡ z
 free_value n env z is =
     ap (λ i. slice_index_or (env ++ z ∷ []) i (pos 0)) (omega (arith, is)) ∙ get_or-append-add env (z ∷ []) 0 (pos 0)
 
--- an action leads where its updates lead, for some values of its free variables
+-- Where an action leads, its updates lead for some values of its free variables.
 pub acts_free : (action : Action) (env end : List ℤ) (n : ℕ) → length env ≡ n → Acts action env end
     → (free : List ℤ) × (length free ≡ free_count action) × (end ≡ values_of (updates_of n action) env free)
 acts_free (Assign x e) env end n is acts = (
@@ -68,7 +68,7 @@ acts_free (Choose x) env end n is (z, acts) = (
 )
 acts_free Skip env end n is acts = ([], refl, acts ∙ sym (values_of-variables n env [] is))
 
--- and where its updates lead the action leads
+-- Where the updates of an action lead, the action leads.
 pub free_acts : (action : Action) (env end free : List ℤ) (n : ℕ) → length env ≡ n → length free ≡ free_count action
     → end ≡ values_of (updates_of n action) env free → Acts action env end
 free_acts (Assign x e) env end [] n is count to = to
@@ -88,19 +88,19 @@ free_acts (Choose x) env end (y ∷ z ∷ free) n is count to = absurd (omega (a
 free_acts Skip env end [] n is count to = to ∙ values_of-variables n env [] is
 free_acts Skip env end (z ∷ free) n is count to = absurd (omega (arith, count))
 
--- an action keeps the number of values
+-- An action keeps the number of values.
 pub acts_length : (action : Action) (env end : List ℤ) → Acts action env end → length end ≡ length env
 acts_length (Assign x e) env end acts = ap (λ (l : List ℤ). length l) acts ∙ length-set env x (value e env)
 acts_length (Choose x) env end (z, acts) = ap (λ (l : List ℤ). length l) acts ∙ length-set env x z
 acts_length Skip env end acts = ap (λ (l : List ℤ). length l) acts
 
--- a move from a test has no free variable
+-- A move from a test has no free variable.
 branch_free : (m : Move) (at : ℕ) (test : List Atom) (one other : ℕ) → IsBranchMove m at test one other
     → free_count m.action ≡ 0
 branch_free m at test one other (inl e) = ap (λ (n : Move). free_count n.action) e
 branch_free m at test one other (inr (atom, there, e)) = ap (λ (n : Move). free_count n.action) e
 
--- a move that gives any value has no guard
+-- A move with a free variable has no guard.
 pub guard_or_free : (m : Move) (here : Statements) (at after : ℕ) → IsMoveOf m at after here
     → (m.guard ≡ []) ⊎ (free_count m.action ≡ 0)
 guard_or_free m Nothing at after h = absurd h
@@ -114,7 +114,7 @@ guard_or_free m (If test block other rest) at after (inr (inl h)) = guard_or_fre
 guard_or_free m (If test block other rest) at after (inr (inr (inl h))) = guard_or_free m other _ _ h
 guard_or_free m (If test block other rest) at after (inr (inr (inr h))) = guard_or_free m rest _ after h
 
--- so its guard holds with the free variables' values as it does without
+-- The guard of a move holds with the values of the free variables exactly if it holds without them.
 pub guard_with_free : (guard : List Atom) (env free : List ℤ) → (guard ≡ []) ⊎ (length free ≡ 0)
     → GuardHolds env guard → GuardHolds (env ++ free) guard
 guard_with_free guard env free (inl e) h =

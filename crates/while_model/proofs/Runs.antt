@@ -1,4 +1,4 @@
--- Routes are runs of the translated program, of as many steps, with the same values.
+-- Routes are runs of the translated program with the same number of steps and the same values.
 use Rattle.std.proofs.Common.{◌≡◌, ◌⊎◌, inl, inr, ℕ, zero, suc, List, [], ◌∷◌, length, ℤ, Option, Some, None}
 use Rattle.std.proofs.Common.{refl, sym, ◌∙◌, ap, subst, arith, slice_get}
 use Rattle.std.specs.Option.{option_map}
@@ -17,18 +17,18 @@ use Rattle.while_model.proofs.Numbers.{from_among, number_in-unique, point_at}
 use Rattle.while_model.proofs.Rules.{acts_free, free_acts, acts_length, guard_or_free, guard_with_free}
 use Rattle.while_model.proofs.Rules.{guard_without_free}
 
--- the points of a program's moves
+-- The points of a program's moves.
 abbrev pub points : Statements → List ℕ
 points program = points_of (program_moves program)
 
--- a program with a statement has a move from point 0
+-- A program with a statement has a move from point 0.
 pub starts : (program : Statements) → IsNonempty program → (m : Move) × IsMoveOf m 0 (size program) program × (m.from ≡ 0)
 starts Nothing some = absurd some
 starts (Simple action rest) some = (_, inl refl, refl)
 starts (While test block rest) some = (_, inl (inl refl), refl)
 starts (If test block other rest) some = (_, inl (inl refl), refl)
 
--- point 0 is among the points, and so is each point that a move leaves
+-- Point 0 is among the points, and so is each point that a move leaves.
 pub leaves_among : (program : Statements) (m : Move) → IsMoveOf m 0 (size program) program → IsIn m.from (points program)
 leaves_among program m h = from_among [] (program_moves program) m (listed m program 0 (size program) h)
 
@@ -36,18 +36,18 @@ start_among : (program : Statements) → IsNonempty program → IsIn 0 (points p
 start_among program some =
     let s = starts program some in subst (λ (k : ℕ). IsIn k (points program)) s.2 (leaves_among program s.0 s.1)
 
--- the start symbol has a place for each input
+-- The start symbol has a place for each input.
 start_places : (inputs : List Name) (program : Statements) → IsNonempty program
     → arity_of (program_of inputs program) (number_in (points program) 0) ≡ length inputs
 start_places inputs program some = ap (λ (o : Option Symbol). arity_in o) (
     slice_get-map (symbol_of inputs) (points program) (number_in (points program) 0)
     ∙ ap (λ (o : Option ℕ). option_map (symbol_of inputs) o) (point_at (points program) 0 (start_among program some)))
 
--- a configuration at a point
+-- A configuration at a point.
 abbrev at_point : Statements → ℕ → List ℤ → Config
 at_point program k values = record { at = number_in (points program) k; values = values }
 
--- a move is a step of its rule
+-- A move is a step of its rule.
 move_steps : (inputs : List Name) (program : Statements) (m : Move) (env end : List ℤ) → length env ≡ length inputs
     → IsMoveOf m 0 (size program) program → Passes m env end
     → (s : Step) × IsStep (program_of inputs program) (at_point program m.from env) s (at_point program m.to end)
@@ -75,7 +75,7 @@ move_steps inputs program m env end is h (guard, acts) =
     without free count (inl e) = inl e
     without free count (inr e) = inr (count ∙ e)
 
--- each route is a run of as many steps, to the number of its last point
+-- Each route is a run with the same number of steps, to the symbol of its last point.
 pub route_is_run : (inputs : List Name) (program : Statements) → IsNonempty program → (start : List ℤ)
     → length start ≡ length inputs → (n k : ℕ) (end : List ℤ) → IsRoute program start n k end
     → (steps : List Step) × IsRun (program_of inputs program) start steps (at_point program k end) × (length steps ≡ n)
@@ -110,14 +110,14 @@ route_is_run inputs program some start is (suc n) k end (m, env, route, h, passe
           acts_length m.action env end passes.1 ∙ places,
         )
 
--- what a run shows: the route to the point where it stands
+-- What is shown of a run: it has a route to the point of its last configuration.
 pub record Shown (inputs : List Name) (program : Statements) (start : List ℤ) (n : ℕ) (c : Config) : Type 0 where
   pub point : ℕ
   pub route : IsRoute program start n point c.values
   pub at : c.at ≡ number_in (points program) point
   pub places : length c.values ≡ length inputs
 
--- the rule with a number is that of a move
+-- Each rule of the translation is the rule of a move.
 pub rule_is_of : (inputs : List Name) (program : Statements) (t : ℕ) (rule : Rule) → rule_at (program_of inputs program) t ≡ Some rule
     → (m : Move) × IsMoveOf m 0 (size program) program × (rule_of inputs (points program) m ≡ rule)
 rule_is_of inputs program zero rule e = absurd (none_some rule e)
@@ -135,7 +135,7 @@ rule_is_of inputs program (suc i) rule e =
       some_same (rule_of inputs (points program) m) rule (rw is at h),
     )
 
--- a step from a point is a move from it
+-- A step from a point is a move from it.
 step_shows : (inputs : List Name) (program : Statements) (start : List ℤ) (n : ℕ) (b c : Config) (s : Step)
     → Shown inputs program start n b → IsStep (program_of inputs program) b s c → Shown inputs program start (suc n) c
 step_shows inputs program start n b c s shown step =
@@ -173,7 +173,7 @@ step_shows inputs program start n b c s shown step =
             without (inl e) = inl e
             without (inr e) = inr (leads.free_ones ∙ e)
 
--- each run is a route of as many moves
+-- Each run is a route with the same number of moves.
 pub run_is_route : (inputs : List Name) (program : Statements) → IsNonempty program → (start : List ℤ) (steps : List Step)
     (c : Config) → IsRun (program_of inputs program) start steps c
     → Shown inputs program start (length steps) c × (length start ≡ length inputs)

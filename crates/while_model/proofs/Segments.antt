@@ -1,10 +1,11 @@
--- Segments: where in a program some statements stand, by their first point, the point after them, and what is left there.
+-- Segments: the places of statements in a program, by their first point, the point after them, and the statements left
+-- there.
 use Rattle.std.proofs.Common.{◌≡◌, ◌⊎◌, inl, inr, ℕ, suc, ◌+◌, List, refl}
 use Rattle.model.specs.Programs.{Atom}
 use Rattle.while_model.specs.Statements.{Action, Statements, Nothing, Simple, While, If, followed_by, size, IsNonempty}
 use Rattle.while_model.specs.Moves.{first}
 
--- statements of the program, with the number of the first, the point after them, and what is left there
+-- Statements of the program, with the number of the first, the point after them, and the statements left there.
 pub data Segment (program : Statements) : ℕ → ℕ → Statements → Statements → Type 0 where
   Whole : Segment program 0 (size program) program Nothing
   AfterSimple : {at after : ℕ} {action : Action} {rest left : Statements} → Segment program at after (Simple action rest) left
@@ -25,13 +26,14 @@ pub data Segment (program : Statements) : ℕ → ℕ → Statements → Stateme
       → Segment program at after (If test block other rest) left
       → Segment program (suc at + size block + size other) after rest left
 
--- what is left at a point of the program: nothing at the end, else the statements of a segment and what is left after them
+-- The statements left at a point of the program: none at the end, else those of a segment and those left after them.
 abbrev pub IsLeftAt : Statements → ℕ → Statements → Type 0
 IsLeftAt program k left = (k ≡ size program) × (left ≡ Nothing)
     ⊎ (after : ℕ) × (here : Statements) × (behind : Statements) × Segment program k after here behind × IsNonempty here
     × (left ≡ followed_by here behind)
 
--- at the point where statements begin are these, and what is left after them, if that is left at the point after them
+-- At the first point of the statements `here`, they are left together with those left after them, if these are left at
+-- the point after them.
 pub left_from : (program : Statements) (k after : ℕ) (here left : Statements)
     → (IsNonempty here → Segment program k after here left) → IsLeftAt program after left
     → IsLeftAt program (first k after here) (followed_by here left)
@@ -40,7 +42,7 @@ left_from program k after (Simple action rest) left s h = inr (after, Simple act
 left_from program k after (While test block rest) left s h = inr (after, While test block rest, left, s tt, tt, refl)
 left_from program k after (If test block other rest) left s h = inr (after, If test block other rest, left, s tt, tt, refl)
 
--- at the point after a segment is what is left there
+-- At the point after a segment, the statements left after it are left.
 pub left_after : {program : Statements} {at after : ℕ} {here left : Statements} → Segment program at after here left
     → IsLeftAt program after left
 left_after Whole = inl (refl, refl)
@@ -54,7 +56,7 @@ left_after {program} (InSecond {at} {after} {test} {block} {other} {rest} {left}
     left_from program (suc at + size block + size other) after rest left (λ some. AfterBranch s) (left_after s)
 left_after (AfterBranch s) = left_after s
 
--- at the first point of a segment are its statements, and what is left after them
+-- At the first point of a segment, its statements and those left after them are left.
 pub left_at_first : {program : Statements} {at after : ℕ} {here left : Statements} → Segment program at after here left
     → IsLeftAt program (first at after here) (followed_by here left)
 left_at_first {program} {at} {after} {here} {left} s = left_from program at after here left (λ some. s) (left_after s)

@@ -1,4 +1,4 @@
--- The moves of statements by the statement that they come from, and where they begin.
+-- The moves of statements by the statement that they come from, and the points that they leave.
 use Rattle.std.proofs.Common.{◌≡◌, ◌⊎◌, inl, inr, ℕ, suc, ◌+◌, ◌<◌, ◌≤◌, List, [], ◌∷◌, ◌++◌, map}
 use Rattle.std.proofs.Common.{sym, ap, subst, arith}
 use Rattle.model.specs.Programs.{Atom}
@@ -6,12 +6,12 @@ use Rattle.while_model.specs.Statements.{Statements, Nothing, Simple, While, If,
 use Rattle.while_model.specs.Moves.{Move, first, negations, passing, moves_by, moves}
 use Rattle.while_model.proofs.Members.{IsIn, is_in-left, is_in-right, is_in-append, is_in-map, map-is_in}
 
--- a move from a test: to one point where it holds, or to the other where a negation of its atoms holds
+-- A move from a test: to one point if it holds, or to the other one if a negation of its atoms holds.
 abbrev pub IsBranchMove : Move → ℕ → List Atom → ℕ → ℕ → Type 0
 IsBranchMove m at test one other =
     (m ≡ passing at test one) ⊎ (atom : Atom) × IsIn atom (negations test) × (m ≡ passing at (atom ∷ []) other)
 
--- a move of statements, by the statement that it comes from
+-- A move of statements, by the statement that it comes from.
 abbrev pub IsMoveOf : Move → ℕ → ℕ → Statements → Type 0
 IsMoveOf m at after Nothing = ⊥
 IsMoveOf m at after (Simple action rest) =
@@ -27,7 +27,7 @@ IsMoveOf m at after (If test block other rest) =
     ⊎ (IsMoveOf m (suc at + size block) (first (suc at + size block + size other) after rest) other
     ⊎ IsMoveOf m (suc at + size block + size other) after rest))
 
--- the moves from a test are listed, and no others are
+-- The list of a test's moves has exactly the moves from the test.
 branch_listed : (m : Move) (at : ℕ) (test : List Atom) (one other : ℕ) → IsBranchMove m at test one other
     → IsIn m (moves_by at test one other)
 branch_listed m at test one other (inl e) = inl e
@@ -41,16 +41,16 @@ listed_branch m at test one other (inl e) = inl e
 listed_branch m at test one other (inr h) =
     inr (map-is_in (λ (atom : Atom). passing at (atom ∷ []) other) m (negations test) h)
 
--- what is one of two, where each leads to another
+-- One of two alternatives, each of which implies another, implies one of the others.
 pub either : {A B C D : Type 0} → (A → C) → (B → D) → A ⊎ B → C ⊎ D
 either f g (inl a) = inl (f a)
 either f g (inr b) = inr (g b)
 
--- the same, and so is what is one of three
+-- The function that returns its argument, for an alternative that stays as it is.
 unchanged : {A : Type 0} → A → A
 unchanged a = a
 
--- a list of moves from a test, and then of others
+-- A move of a test, or one of those after it, is in the list of both.
 branch_then : (m : Move) (at : ℕ) (test : List Atom) (one other : ℕ) (more : List Move)
     → IsBranchMove m at test one other ⊎ IsIn m more → IsIn m (moves_by at test one other ++ more)
 branch_then m at test one other more (inl h) =
@@ -62,12 +62,12 @@ then_branch : (m : Move) (at : ℕ) (test : List Atom) (one other : ℕ) (more :
 then_branch m at test one other more h =
     either (listed_branch m at test one other) unchanged (is_in-append m (moves_by at test one other) more h)
 
--- a list of two parts
+-- A member of one of two lists is in the list of both.
 parts_listed : (m : Move) (xs ys : List Move) → IsIn m xs ⊎ IsIn m ys → IsIn m (xs ++ ys)
 parts_listed m xs ys (inl h) = is_in-left m xs ys h
 parts_listed m xs ys (inr h) = is_in-right m xs ys h
 
--- the moves of statements are listed
+-- Each move of the statements is in their list.
 pub listed : (m : Move) (here : Statements) (at after : ℕ) → IsMoveOf m at after here → IsIn m (moves at after here)
 listed m Nothing at after h = h
 listed m (Simple action rest) at after h = either unchanged (listed m rest (suc at) after) h
@@ -89,7 +89,7 @@ listed m (If test block other rest) at after h =
     (either unchanged (λ r. parts_listed m in_first (in_second ++ behind) (either (listed m block (suc at) next)
     (λ q. parts_listed m in_second behind (either (listed m other second next) (listed m rest later after) q)) r)) h)
 
--- and no others are
+-- Each move in the list of the statements is one of theirs.
 pub listed-only : (m : Move) (here : Statements) (at after : ℕ) → IsIn m (moves at after here) → IsMoveOf m at after here
 listed-only m Nothing at after h = h
 listed-only m (Simple action rest) at after h = either unchanged (listed-only m rest (suc at) after) h
@@ -113,12 +113,12 @@ listed-only m (If test block other rest) at after h =
     (is_in-append m in_first (in_second ++ behind) r))
     (then_branch m at test (first (suc at) next block) (first second next other) (in_first ++ (in_second ++ behind)) h)
 
--- a move from a test begins at its point
+-- A move from a test leaves the test's point.
 pub branch_from : (m : Move) (at : ℕ) (test : List Atom) (one other : ℕ) → IsBranchMove m at test one other → m.from ≡ at
 branch_from m at test one other (inl e) = ap (λ (n : Move). n.from) e
 branch_from m at test one other (inr (atom, there, e)) = ap (λ (n : Move). n.from) e
 
--- the number of a move's point is one of its statements'
+-- The point that a move leaves is the number of one of the statements.
 pub in_range : (m : Move) (here : Statements) (at after : ℕ) → IsMoveOf m at after here
     → (at ≤ m.from) × (m.from < at + size here)
 in_range m Nothing at after h = absurd h

@@ -1,4 +1,4 @@
--- A test holds, or a negation of one of its atoms does, and not both.
+-- A test holds, or a negation of one of its atoms does, and never both.
 use Rattle.std.proofs.Common.{◌≡◌, ◌⊎◌, inl, inr, List, [], ◌∷◌, ℤ, pos, negsuc, ◌<◌, ◌≤ℤ◌, ◌<ℤ◌, refl, ap, subst, arith}
 use Rattle.std.proofs.lemmas.Int.{ints}
 use Rattle.std.proofs.lemmas.Bool.{cases_order}
@@ -9,7 +9,7 @@ use Rattle.model.specs.Programs.{AtomHolds, GuardHolds}
 use Rattle.while_model.specs.Moves.{negations_of, negations}
 use Rattle.while_model.proofs.Members.{IsIn, is_in-left, is_in-right, is_in-append}
 
--- one of two integers is less, or they are the same
+-- Of two integers one is less, or they are equal.
 ordered : (x y : ℤ) → (x <ℤ y) ⊎ ((x ≡ y) ⊎ (y <ℤ x))
 ordered (pos a) (pos b) = go (cases_order a b)
   where
@@ -26,7 +26,7 @@ ordered (negsuc a) (negsuc b) = go (cases_order a b)
     go (inr (inl l)) = inr (inr (omega (arith, ints, l)))
     go (inr (inr g)) = inl (omega (arith, ints, g))
 
--- an atom holds, or one of its negations does
+-- An atom holds, or one of its negations does.
 pub holds_or_negated : (env : List ℤ) (atom : Atom)
     → AtomHolds env atom ⊎ (x : Atom) × IsIn x (negations_of atom) × AtomHolds env x
 holds_or_negated env Always = inl tt
@@ -51,7 +51,7 @@ holds_or_negated env (Compare d r e) = by_relation r (ordered (value d env) (val
     by_relation EqualTo (inr (inl s)) = inl s
     by_relation EqualTo (inr (inr g)) = inr (Compare d MoreThan e, inr (inl refl), g)
 
--- where a negation of an atom holds, the atom fails
+-- If a negation of an atom holds, the atom fails.
 pub negation_excludes : (env : List ℤ) (atom x : Atom) → IsIn x (negations_of atom) → AtomHolds env x → AtomHolds env atom → ⊥
 negation_excludes env Always x h holds k = h
 negation_excludes env (Compare d AtLeast e) x (inl s) holds k =
@@ -72,7 +72,7 @@ negation_excludes env (Compare d AtMost e) x (inr h) holds k = h
 negation_excludes env (Compare d LessThan e) x (inr h) holds k = h
 negation_excludes env (Compare d EqualTo e) x (inr (inr h)) holds k = h
 
--- a test holds, or a negation of one of its atoms does
+-- A test holds, or a negation of one of its atoms does.
 pub test_or_negation : (env : List ℤ) (test : List Atom)
     → GuardHolds env test ⊎ (x : Atom) × IsIn x (negations test) × AtomHolds env x
 test_or_negation env [] = inl (All-nil (AtomHolds env))
@@ -85,7 +85,7 @@ test_or_negation env (atom ∷ atoms) = go (holds_or_negated env atom) (test_or_
     go (inl h) (inr (x, there, holds)) = inr (x, is_in-right x (negations_of atom) (negations atoms) there, holds)
     go (inr (x, there, holds)) more = inr (x, is_in-left x (negations_of atom) (negations atoms) there, holds)
 
--- where a negation of an atom of a test holds, the test fails
+-- If a negation of an atom of a test holds, the test fails.
 pub negation_fails : (env : List ℤ) (test : List Atom) (x : Atom) → IsIn x (negations test) → AtomHolds env x
     → ¬ (GuardHolds env test)
 negation_fails env [] x h holds k = h

@@ -1,4 +1,4 @@
--- Executions and runs of the translation are the same, and what follows of bounds; the free variable is no input.
+-- Executions and runs of the translation correspond; what follows for bounds; and the free variable is no input.
 use Rattle.std.proofs.Common.{ℕ, ◌≤◌, List, length, ℤ, refl, sym, ◌∙◌, ap, subst}
 use Rattle.model.specs.Programs.{Name, Rule}
 use Rattle.model.specs.Runs.{sizes_of_start}
@@ -12,7 +12,7 @@ use Rattle.while_model.specs.Laws.{ExecutionsAreRuns, TotalsBoundExecutions}
 use Rattle.while_model.proofs.Routes.{execution_is_route, route_is_execution}
 use Rattle.while_model.proofs.Runs.{rule_is_of, route_is_run, run_is_route}
 
--- executions and runs are the same
+-- Executions and runs correspond.
 pub executions_are_runs : ExecutionsAreRuns
 executions_are_runs = record {
   run = λ inputs program some start is n end (left, execution).
@@ -28,13 +28,13 @@ executions_are_runs = record {
       );
 }
 
--- no rule of a translation has a cost
+-- No rule of a translation has a cost annotation.
 no_cost : (inputs : List Name) (program : Statements) (t : ℕ) → ¬ (HasCost (program_of inputs program) t)
 no_cost inputs program t h =
     let found = rule_is_of inputs program t h.rule h.numbered in
     some_none h.cost (sym h.written ∙ sym (ap (λ (r : Rule). r.cost) found.2))
 
--- a bound on the cost of all steps bounds the steps of each execution
+-- A bound on the total cost bounds the steps of each execution.
 pub totals_bound_executions : PlainTotalsAreLengths → TotalsBoundExecutions
 totals_bound_executions plain = record {
   each = λ inputs program some bound total start is n end ends.

@@ -1,4 +1,4 @@
--- The worked programs are translated and executed as was said.
+-- The worked programs have the stated translations and executions.
 use Rattle.std.proofs.Common.{◌≡◌, inl, inr, ℕ, List, [], ◌∷◌, ℤ, pos, negsuc, refl, ◌∙◌, ap, subst, arith}
 use Rattle.std.proofs.lemmas.Int.{ints}
 use Rattle.std.proofs.lemmas.List.Elements.{All-nil, All-cons, All-head}
@@ -11,7 +11,7 @@ use Rattle.while_model.specs.Translation.{program_of}
 use Rattle.while_model.specs.Worked.{ProgramsAreTranslated, FreeNamesAreFound, StepsAreExecuted, at_least, counting, in_block}
 use Rattle.while_model.specs.Worked.{empty_first, one_input, counting_program}
 
--- the counting loop's translation, with these numerals
+-- The counting loop's translation with these numerals.
 abbrev numbered : List ℕ → List ℕ → List ℕ → Program
 numbered zero_text one_text two_text = record {
   symbols = record { name = 112 ∷ zero_text; arity = 1 } ∷ record { name = 112 ∷ one_text; arity = 1 }
@@ -42,14 +42,14 @@ programs_are_translated = record {
 pub free_names_are_found : FreeNamesAreFound
 free_names_are_found = record { without = refl; between = refl; behind = refl; first = refl }
 
--- an atom of one test
+-- A test with one atom holds if the atom does.
 holds : (env : List ℤ) (x : Atom) → AtomHolds env x → GuardHolds env (x ∷ [])
 holds env x h = All-cons (AtomHolds env) x [] h (All-nil (AtomHolds env))
 
 fails : (env : List ℤ) (x : Atom) → ¬ (AtomHolds env x) → ¬ (GuardHolds env (x ∷ []))
 fails env x h k = h (All-head (AtomHolds env) x [] k)
 
--- statements told apart
+-- A number that distinguishes kinds of statements.
 abbrev kind : Statements → ℕ
 kind Nothing = 0
 kind (Simple a r) = 1
@@ -60,7 +60,7 @@ abbrev first_value : List ℤ → ℤ
 first_value [] = pos 9
 first_value (z ∷ zs) = z
 
--- the loop isn't entered from 0, nor left from 1
+-- The loop isn't entered from 0, nor left from 1.
 not_entered : ¬ (Executes counting (pos 0 ∷ []) in_block (pos 0 ∷ []))
 not_entered (same, inl (test, e)) = omega (arith, ints, All-head (AtomHolds (pos 0 ∷ [])) (at_least 0 (pos 1)) [] test)
 not_entered (same, inr (test, e)) = omega (arith, ap kind e)
@@ -73,7 +73,7 @@ not_second_block : ¬ (Executes empty_first (pos 0 ∷ []) (Simple Skip (Simple 
 not_second_block (same, inl (test, e)) = omega (arith, ap (λ (s : Statements). size s) e)
 not_second_block (same, inr (test, e)) = absurd (test (holds (pos 0 ∷ []) (at_least 0 (pos 0)) (omega (arith, ints))))
 
--- from 0 a step of the loop leaves nothing
+-- After a step of the loop from 0, nothing is left to execute.
 left_from_0 : (left : Statements) (env : List ℤ) → Executes counting (pos 0 ∷ []) left env → left ≡ Nothing
 left_from_0 left env (same, inl (test, e)) =
     absurd (omega (arith, ints, All-head (AtomHolds (pos 0 ∷ [])) (at_least 0 (pos 1)) [] test))

@@ -1,3 +1,4 @@
+-- The specs of this crate, and those of `model`, which callers name through this crate.
 pub mod Statements
 pub mod Executions
 pub mod Moves

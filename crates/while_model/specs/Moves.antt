@@ -4,14 +4,14 @@ use Rattle.std.specs.Prelude.{ℕ, suc, ◌+◌, List, [], ◌∷◌, ◌++◌, 
 use Rattle.model.specs.Programs.{AtLeast, MoreThan, AtMost, LessThan, EqualTo, Atom, Always, Compare}
 use Rattle.while_model.specs.Statements.{Action, Skip, Statements, Nothing, Simple, While, If, size}
 
--- a move from a point to a point, which is possible where its guard holds, with its action
+-- A move from one point to another, which is possible if its guard holds, and its action.
 pub record Move : Type 0 where
   pub from : ℕ
   pub to : ℕ
   pub guard : List Atom
   pub action : Action
 
--- the negations of an atom: it fails exactly where one of these holds
+-- The negations of an atom: the atom fails exactly if one of these holds.
 abbrev pub negations_of : Atom → List Atom
 negations_of Always = []
 negations_of (Compare d AtLeast e) = Compare d LessThan e ∷ []
@@ -20,28 +20,30 @@ negations_of (Compare d AtMost e) = Compare d MoreThan e ∷ []
 negations_of (Compare d LessThan e) = Compare d AtLeast e ∷ []
 negations_of (Compare d EqualTo e) = Compare d LessThan e ∷ Compare d MoreThan e ∷ []
 
--- those of the atoms of a test, atom by atom
+-- The negations of the atoms of a test, atom by atom.
 abbrev pub negations : List Atom → List Atom
 negations [] = []
 negations (atom ∷ atoms) = negations_of atom ++ negations atoms
 
--- the point at which statements begin that are numbered from `at` on, where the point after them is `after`
+-- The first point of statements that are numbered from `at` on; if there are none, it is the point `after`, which
+-- follows them.
 abbrev pub first : ℕ → ℕ → Statements → ℕ
 first at after Nothing = after
 first at after (Simple action rest) = at
 first at after (While test block rest) = at
 first at after (If test block other rest) = at
 
--- a move without an action
+-- A move without an action.
 abbrev pub passing : ℕ → List Atom → ℕ → Move
 passing at guard to = record { from = at; to = to; guard = guard; action = Skip }
 
--- from a test the move to one point where it holds, and then to the other point a move for each negation of its atoms
+-- The moves from a test: one to the point for a test that holds, and then, for each negation of its atoms, one to the
+-- other point.
 abbrev pub moves_by : ℕ → List Atom → ℕ → ℕ → List Move
 moves_by at test one other = passing at test one ∷ map (λ atom. passing at (atom ∷ []) other) (negations test)
 
--- the moves of statements that are numbered from `at` on, where the point after them is `after`; the point after a loop's
--- block is the loop
+-- The moves of statements that are numbered from `at` on and followed by the point `after`; the point after a loop's
+-- block is the loop.
 abbrev pub moves : ℕ → ℕ → Statements → List Move
 moves at after Nothing = []
 moves at after (Simple action rest) =
@@ -56,6 +58,6 @@ moves at after (If test block other rest) =
     ++ (moves (suc at + size block) (first (suc at + size block + size other) after rest) other
     ++ moves (suc at + size block + size other) after rest))
 
--- the moves of a program
+-- The moves of a program.
 abbrev pub program_moves : Statements → List Move
 program_moves program = moves 0 (size program) program

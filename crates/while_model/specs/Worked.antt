@@ -1,4 +1,4 @@
--- Small while programs, their translations and their executions, as they were worked out by hand.
+-- Small while programs, with their worked translations and executions.
 use Rattle.std.specs.Prelude.{◌≡◌, ℕ, List, [], ◌∷◌, ℤ, pos, negsuc, None}
 use Rattle.model.specs.Terms.{Term, Literal, Variable, Subtraction}
 use Rattle.model.specs.Programs.{Name, AtLeast, MoreThan, LessThan, EqualTo, Atom, Always, Compare, Symbol, Rule, Program}
@@ -7,41 +7,41 @@ use Rattle.while_model.specs.Executions.{Executes, EndsWith}
 use Rattle.while_model.specs.Moves.{negations, passing, program_moves}
 use Rattle.while_model.specs.Translation.{points_of, free_name, rule_of, program_of}
 
--- the input `A`, and the inputs `A` and `B`
+-- The lists of inputs `A`, and `A` and `B`.
 abbrev pub one_input : List Name
 one_input = (65 ∷ []) ∷ []
 
 abbrev pub two_inputs : List Name
 two_inputs = (65 ∷ []) ∷ (66 ∷ []) ∷ []
 
--- a variable compared with a number
+-- The atom that a variable is at least a number.
 abbrev pub at_least : ℕ → ℤ → Atom
 at_least x z = Compare (Variable x) AtLeast (Literal z)
 
 abbrev pub below : ℕ → ℤ → Atom
 below x z = Compare (Variable x) LessThan (Literal z)
 
--- A - 1
+-- The expression A - 1.
 abbrev pub one_less : Term
 one_less = Subtraction (Variable 0) (Literal (pos 1))
 
--- while (A >= 1) { A := A - 1; }
+-- The program `while (A >= 1) { A := A - 1; }`.
 abbrev pub counting : Statements
 counting = While (at_least 0 (pos 1) ∷ []) (Simple (Assign 0 one_less) Nothing) Nothing
 
--- if (A >= 0) {} else { skip; } skip;
+-- The program `if (A >= 0) {} else { skip; } skip;`.
 abbrev pub empty_first : Statements
 empty_first = If (at_least 0 (pos 0) ∷ []) Nothing (Simple Skip Nothing) (Simple Skip Nothing)
 
--- while (A >= 1) { while (B >= 1) {} }
+-- The program `while (A >= 1) { while (B >= 1) {} }`.
 abbrev pub loop_in_loop : Statements
 loop_in_loop = While (at_least 0 (pos 1) ∷ []) (While (at_least 1 (pos 1) ∷ []) Nothing Nothing) Nothing
 
--- if (A >= 0) { A := A - 1; } else { while (TRUE) {} }
+-- The program `if (A >= 0) { A := A - 1; } else { while (TRUE) {} }`.
 abbrev pub both_blocks : Statements
 both_blocks = If (at_least 0 (pos 0) ∷ []) (Simple (Assign 0 one_less) Nothing) (While (Always ∷ []) Nothing Nothing) Nothing
 
--- a rule of the counting loop, over A alone
+-- A rule of the counting loop, over A alone.
 abbrev pub counting_rule : ℕ → ℕ → List Term → List Atom → Rule
 counting_rule source target updates guard = record {
   source = source;
@@ -54,7 +54,7 @@ counting_rule source target updates guard = record {
   cost = None;
 }
 
--- A := ?; with the input A is p0(A) -> p1(h)
+-- The translation of `A := ?;` with the input A: p0(A) -> p1(h).
 abbrev pub choosing_rule : Rule
 choosing_rule = record {
   source = 0;
@@ -67,11 +67,11 @@ choosing_rule = record {
   cost = None;
 }
 
--- the symbol `p` with a digit, over A alone
+-- The symbol `p` with a digit, over A alone.
 abbrev pub point_symbol : ℕ → Symbol
 point_symbol digit = record { name = 112 ∷ digit ∷ []; arity = 1 }
 
--- the counting loop is p0(A) -> p1(A) :|: A >= 1, p0(A) -> p2(A) :|: A < 1 and p1(A) -> p0(A - 1)
+-- The translation of the counting loop: p0(A) -> p1(A) :|: A >= 1, p0(A) -> p2(A) :|: A < 1 and p1(A) -> p0(A - 1).
 abbrev pub counting_program : Program
 counting_program = record {
   symbols = point_symbol 48 ∷ point_symbol 49 ∷ point_symbol 50 ∷ [];
@@ -81,57 +81,58 @@ counting_program = record {
       ∷ counting_rule 0 2 (Variable 0 ∷ []) (below 0 (pos 1) ∷ []) ∷ counting_rule 1 0 (one_less ∷ []) [] ∷ [];
 }
 
--- programs are translated as it was worked out
+-- The translations of small programs are the worked ones.
 pub record ProgramsAreTranslated : Type 0 where
   pub counts : program_of one_input counting ≡ counting_program
-  -- symbols come in the order of their first occurrence: p0, p2, p1, p3
+  -- The symbols come in the order of their first occurrence: p0, p2, p1, p3.
   pub skips_first : program_moves empty_first ≡ passing 0 (at_least 0 (pos 0) ∷ []) 2 ∷ passing 0 (below 0 (pos 0) ∷ []) 1
       ∷ passing 1 [] 2 ∷ passing 2 [] 3 ∷ []
   pub in_order : points_of (program_moves empty_first) ≡ 0 ∷ 2 ∷ 1 ∷ 3 ∷ []
-  -- a loop without a block leads to itself, and on to the loop around it
+  -- A loop with an empty block has a move to itself, and one to the loop around it.
   pub inside : program_moves loop_in_loop ≡ passing 0 (at_least 0 (pos 1) ∷ []) 1 ∷ passing 0 (below 0 (pos 1) ∷ []) 2
       ∷ passing 1 (at_least 1 (pos 1) ∷ []) 1 ∷ passing 1 (below 1 (pos 1) ∷ []) 0 ∷ []
-  -- a first block goes on behind the second; a loop on `TRUE` is never left
+  -- After the first block of a branch comes what follows the second one; a loop on `TRUE` is never left.
   pub blocks : program_moves both_blocks ≡ passing 0 (at_least 0 (pos 0) ∷ []) 1 ∷ passing 0 (below 0 (pos 0) ∷ []) 2
       ∷ record { from = 1; to = 3; guard = []; action = Assign 0 one_less } ∷ passing 2 (Always ∷ []) 2 ∷ []
   pub chooses : rule_of one_input (0 ∷ 1 ∷ []) (record { from = 0; to = 1; guard = []; action = Choose 0 }) ≡ choosing_rule
-  -- the negations of TRUE && A = B && A >= 0
+  -- The negations of TRUE && A = B && A >= 0.
   pub negated : negations (Always ∷ Compare (Variable 0) EqualTo (Variable 1) ∷ at_least 0 (pos 0) ∷ [])
       ≡ Compare (Variable 0) LessThan (Variable 1) ∷ Compare (Variable 0) MoreThan (Variable 1) ∷ below 0 (pos 0) ∷ []
 
--- the free variable is `h` for no input, `h_` for the inputs `h` and `h__`, `h__` for `h_` and `h`, and `h` for `h_` alone
+-- The free variable is `h` if there are no inputs, `h_` for the inputs `h` and `h__`, `h__` for `h_` and `h`, and `h`
+-- for `h_` alone.
 pub record FreeNamesAreFound : Type 0 where
   pub without : free_name [] ≡ 104 ∷ []
   pub between : free_name ((104 ∷ []) ∷ (104 ∷ 95 ∷ 95 ∷ []) ∷ []) ≡ 104 ∷ 95 ∷ []
   pub behind : free_name ((104 ∷ 95 ∷ []) ∷ (104 ∷ []) ∷ []) ≡ 104 ∷ 95 ∷ 95 ∷ []
   pub first : free_name ((104 ∷ 95 ∷ []) ∷ []) ≡ 104 ∷ []
 
--- the loop's block, with the loop behind it
+-- The loop's block, followed by the loop.
 abbrev pub in_block : Statements
 in_block = Simple (Assign 0 one_less) counting
 
--- steps and executions are as it was worked out, on both sides
+-- The worked steps and executions are those of the language, on both sides.
 pub record StepsAreExecuted : Type 0 where
-  -- the loop is entered from 1 and left from 0, and not the other way round
+  -- The loop is entered from 1 and left from 0, and not the other way round.
   pub enters : Executes counting (pos 1 ∷ []) in_block (pos 1 ∷ [])
   pub not_from_0 : ¬ (Executes counting (pos 0 ∷ []) in_block (pos 0 ∷ []))
   pub leaves : Executes counting (pos 0 ∷ []) Nothing (pos 0 ∷ [])
   pub not_from_1 : ¬ (Executes counting (pos 1 ∷ []) Nothing (pos 1 ∷ []))
-  -- a test changes no value
+  -- A test changes no value.
   pub unchanged : ¬ (Executes counting (pos 1 ∷ []) in_block (pos 2 ∷ []))
-  -- an assignment changes its variable, by the values before it
+  -- An assignment changes its variable, by the values before it.
   pub assigns : Executes in_block (pos 1 ∷ []) counting (pos 0 ∷ [])
   pub assigns_it : ¬ (Executes in_block (pos 1 ∷ []) counting (pos 1 ∷ []))
-  -- any value goes to its variable, and to no other
+  -- A choice gives its variable any value, and changes no other one.
   pub chooses : Executes (Simple (Choose 1) Nothing) (pos 1 ∷ pos 2 ∷ []) Nothing (pos 1 ∷ negsuc 4 ∷ [])
   pub not_another : ¬ (Executes (Simple (Choose 1) Nothing) (pos 1 ∷ pos 2 ∷ []) Nothing (pos 0 ∷ pos 2 ∷ []))
   pub skips : ¬ (Executes (Simple Skip Nothing) (pos 1 ∷ []) Nothing (pos 2 ∷ []))
-  -- nothing makes no step
+  -- If nothing is left to execute, there is no step.
   pub ends : (left : Statements) (env end : List ℤ) → ¬ (Executes Nothing env left end)
-  -- a branch goes to its first block where the test holds, else to its second
+  -- A branch leads to its first block if the test holds, else to its second.
   pub first_block : Executes empty_first (pos 0 ∷ []) (Simple Skip Nothing) (pos 0 ∷ [])
   pub second_block : Executes empty_first (negsuc 0 ∷ []) (Simple Skip (Simple Skip Nothing)) (negsuc 0 ∷ [])
   pub not_second : ¬ (Executes empty_first (pos 0 ∷ []) (Simple Skip (Simple Skip Nothing)) (pos 0 ∷ []))
-  -- from 1 the counting loop ends after three steps, with 0; from 0 it makes no second step
+  -- From 1, the counting loop ends after three steps with 0; from 0, it makes no second step.
   pub counted : EndsWith counting (pos 1 ∷ []) 3 (pos 0 ∷ [])
   pub no_second : (end : List ℤ) → ¬ (EndsWith counting (pos 0 ∷ []) 2 end)

@@ -1,4 +1,4 @@
-//! The answer to a line: a call, and behind a blank the text of a while program, in a short notation.
+//! The answer to a line: a call, and after a blank the text of a while program, in a short notation.
 
 use crate::writing::text_of;
 use its_writer::print;
@@ -30,7 +30,7 @@ fn positions(alloc: Global, text: &[u8]) -> Result<String, Memory> {
     }
 }
 
-// Positions, one behind the other.
+// Positions, one after the other.
 fn listed(alloc: Global, whole: &Whole) -> Result<String, Memory> {
     let mut line = String::from_str(alloc, "at")?;
     for at in &whole.at {

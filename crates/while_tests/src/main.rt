@@ -1,5 +1,5 @@
-//! Answers each line of the standard input by one line: what reading the while program in it comes to, or its
-//! translation. A line that begins with `#`, a remark, is written as it is.
+//! Answers each line of the standard input by one line: the result of reading the while program in it, or its
+//! translation. A line that begins with `#`, a remark, is written unchanged.
 #![tactic(auto)]
 
 mod answers;

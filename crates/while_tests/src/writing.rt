@@ -1,4 +1,4 @@
-//! Texts in a short notation: `%3:A#,%` represents `A0,A1,A2,`, and behind a backquote a byte is written as two
+//! Texts in a short notation: `%3:A#,%` represents `A0,A1,A2,`, and after a backquote a byte is written as two
 //! hexadecimal digits.
 
 use itoa::Buffer;
@@ -15,7 +15,7 @@ fn digit(byte: u8) -> u8 {
     }
 }
 
-// Bytes as they are, but for those that are written as digits.
+// Bytes unchanged, except for those that are written as digits.
 fn push_plain(text: &mut Vec<u8>, written: &[u8]) -> Result<(), Memory> {
     let mut rest = written;
     for _ in 0..written.len() {
@@ -47,7 +47,7 @@ fn push_part(text: &mut Vec<u8>, part: &[u8], number: usize) -> Result<(), Memor
     Ok(())
 }
 
-// The number that digits are.
+// The number that the digits write.
 fn number_of(digits: &[u8]) -> usize {
     let mut count = 0usize;
     for digit in digits {

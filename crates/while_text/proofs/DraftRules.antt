@@ -1,4 +1,4 @@
--- Statements that fit, and their rules, where one is added behind others or the last one is taken away.
+-- Statements that fit, and their rules, when one is appended or the last one is taken away.
 use Rattle.std.proofs.Common.{◌≡◌, ℕ, suc, ◌+◌, ◌≤◌, List, [], ◌∷◌, ◌++◌, length, Option, Some, None, refl, ap, sym, subst, arith}
 use Rattle.std.proofs.Common.{length-append}
 use Rattle.std.specs.List.{AllByRecursion}
@@ -9,11 +9,11 @@ use Rattle.while_text.specs.while_tree.Views.{Statement, Plain, Loop, Branch, be
 use Rattle.while_text.specs.while_tree.Readable.{FitsTest, Fits, rules_of}
 use Rattle.while_text.specs.Drafts.{Block, InLoop, InFirst, InSecond, last_of, before_last}
 
--- a statement by itself fits
+-- A statement by itself fits.
 abbrev pub FitsOne : ℕ → Statement → Type 0
 FitsOne n s = Fits n (before s Nothing)
 
--- the rules of a statement
+-- The number of rules of a statement.
 abbrev pub rules_of_one : Statement → ℕ
 rules_of_one s = rules_of (before s Nothing)
 
@@ -32,7 +32,7 @@ rules_before (Plain action) rest = omega arith
 rules_before (Loop test block) rest = omega arith
 rules_before (Branch test block other) rest = omega arith
 
--- one statement behind others
+-- Statements that fit, with one more that fits, fit.
 pub fits_append : (n : ℕ) (ss : List Statement) (s : Statement) → Fits n (joined ss) → FitsOne n s
     → Fits n (joined (ss ++ s ∷ []))
 fits_append n [] s h k = k
@@ -47,7 +47,7 @@ rules_append (t ∷ ss) s =
     let e = rules_before t (joined (ss ++ s ∷ [])) in
     let f = rules_before t (joined ss) in let h = rules_append ss s in omega (arith, e, f, h)
 
--- the last one, and those before it
+-- The last statement and those before it fit.
 pub fits_last : (n : ℕ) (ss : List Statement) (s : Statement) → Fits n (joined ss) → last_of ss ≡ Some s
     → FitsOne n s × Fits n (joined (before_last ss))
 fits_last n [] s h e = cc
@@ -72,7 +72,8 @@ rules_last (t ∷ u ∷ ss) s e =
     let g = rules_before t (joined (before_last (u ∷ ss))) in
     let h = rules_last (u ∷ ss) s e in omega (arith, f, g, h)
 
--- an open block fits, and the rules of the statements that it is of and that are before it
+-- An open block fits, with its test and the statements before it; and the number of rules of its test and these
+-- statements.
 abbrev pub FitsBlock : ℕ → Block → Type 0
 FitsBlock n (InLoop test before) = FitsTest n test × Fits n (joined before)
 FitsBlock n (InFirst test before) = FitsTest n test × Fits n (joined before)
@@ -117,7 +118,7 @@ fits_blocks_last n (b ∷ []) block (a, h) e = (subst (FitsBlock n) (same e) a, 
 fits_blocks_last n (b ∷ d ∷ blocks) block (a, h) e =
     let l = fits_blocks_last n (d ∷ blocks) block h e in (l.0, (a, l.1))
 
--- one atom more
+-- The negations of a test with one more atom are those of the test and those of the atom.
 pub negations_append : (test : List Atom) (atom : Atom)
     → length (negations (test ++ atom ∷ [])) ≡ length (negations test) + length (negations_of atom)
 negations_append [] atom = let e = length-append (negations_of atom) [] in omega (arith, e)

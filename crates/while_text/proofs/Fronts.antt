@@ -1,10 +1,10 @@
--- The last of some, and the front after a bracket that closes.
+-- The last element of a list, and the front after a closing bracket.
 use Rattle.std.proofs.Common.{◌≡◌, true, false, List, [], ◌∷◌, ◌++◌, Option, Some, refl, ap, ◌∙◌, sym}
 use Rattle.expr_text.specs.TermFronts.{Level, Front, BaseRead, is_empty}
 use Rattle.expr_reader.specs.FrontSteps.{Closes}
 use Rattle.while_text.specs.Drafts.{last_of, before_last, closed_by, term_of}
 
--- the last of some with one more is that one, and those before it are the others
+-- The last element of a list with one appended is that one, and those before it are the list.
 pub last_append : {X : Type 0} (xs : List X) (x : X) → last_of (xs ++ x ∷ []) ≡ Some x
 last_append [] x = refl
 last_append (y ∷ []) x = refl
@@ -23,7 +23,7 @@ last_back (y ∷ []) x e = ap (λ z. z ∷ []) (same e)
     same d = cc
 last_back (y ∷ z ∷ xs) x e = ap (λ ys. y ∷ ys) (last_back (z ∷ xs) x e)
 
--- the front after a bracket that closes
+-- The front after a closing bracket is the one of the specification.
 pub closes_is : (f g : Front) → Closes f g → g ≡ closed_by (last_of f.outer) f
 closes_is f g h =
     sym (ap (λ (o : Option Level). closed_by o f) (ap last_of h.outer_is ∙ last_append g.outer g.level)
@@ -34,7 +34,7 @@ closes_is f g h =
     same outer e = ap (λ (o : List Level). record { outer = o; level = g.level; operand = BaseRead (term_of f) }) e
         ∙ sym (ap (λ o. record { outer = g.outer; level = g.level; operand = o }) h.operand_is)
 
--- where none is open, it stays as it is
+-- If no bracket is open, a closing bracket leaves the front as it is.
 pub stays_is : (f : Front) → is_empty f.outer ≡ true → closed_by (last_of f.outer) f ≡ f
 stays_is f h = go f.outer h
   where

@@ -1,4 +1,4 @@
--- Reading a while program token by token gives the answer to all of it.
+-- Reading a while program token by token gives the answer to the whole text.
 use Rattle.std.proofs.Common.{◌≡◌, ℕ, List, [], ◌∷◌, ◌++◌, length, Option, Some, None, refl, sym, ap, subst, ◌∙◌}
 use Rattle.std.specs.Prelude.{Result}
 use Rattle.text_grammar.specs.text_core.Tokens.{Token}
@@ -17,7 +17,7 @@ use Rattle.while_text.specs.Lexing.{tokens}
 use Rattle.while_text.specs.Reading.{while_text}
 use Rattle.while_text.specs.Views.{source_of}
 
--- the first of three faults, where there are such
+-- The code's first of three faults is the first of the list of those that exist.
 pub first_of_faults : (text : List ℕ) (a b c : Option Kind) (p q r : ℕ)
     → first_of_two (while_text text) (first_of_two (while_text text) (fault_at a p) (fault_at b q)) (fault_at c r)
     ≡ first_shown (while_text text) None (refusals a p ++ (refusals b q ++ refusals c r))
@@ -30,13 +30,13 @@ first_of_faults text (Some a) None (Some c) p q r = refl
 first_of_faults text (Some a) (Some b) None p q r = refl
 first_of_faults text (Some a) (Some b) (Some c) p q r = refl
 
--- a single fault is the first one
+-- A single fault is the first one.
 pub first_of_one : (text : List ℕ) (a : Option Kind) (p : ℕ)
     → fault_at a p ≡ first_shown (while_text text) None (refusals a p)
 first_of_one text None p = refl
 first_of_one text (Some a) p = refl
 
--- reading the tokens of a text gives the answer
+-- Reading the tokens of a text gives the answer.
 pub judged : (bytes text : List ℕ) (ts : List (Token Piece)) (result : Result Whole (Refusal Kind)) → text ≡ bytes
     → ts ≡ tokens bytes → Says (λ made t. source_of made ≡ t) (answer (reader (while_text text)) (length bytes) ts) result
     → Tells source_of refused_in (answer (reader (while_text bytes)) (length bytes) (tokens bytes)) result

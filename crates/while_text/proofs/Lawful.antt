@@ -1,4 +1,4 @@
--- While programs are lawful texts, whose answer is the tree or the first fault.
+-- While programs are lawful texts, so the answer is the tree or the first fault.
 use Rattle.std.proofs.Common.{◌≡◌, ℕ, ◌+◌, ◌<◌, ◌≤◌, Bool, true, false, List, ◌∷◌, length, Option, Some, None, refl, sym}
 use Rattle.std.proofs.Common.{ap, subst, lit<, arith}
 use Rattle.std.specs.Prelude.{Result, Ok, Err, IfSome}
@@ -36,7 +36,7 @@ use Rattle.while_text.specs.Views.{source_of, refusal_in}
 use Rattle.while_text.specs.Within.{lexes_within}
 use Rattle.while_text.proofs.ReadableGrammar.{readable}
 
--- each sort has one of the classes
+-- Each sort has a class below 23.
 sort_classed : (sort : Sort) → class_of_sort sort < 23
 sort_classed sorts.Input = lit< tt
 sort_classed sorts.Skip = lit< tt
@@ -67,7 +67,7 @@ sort_classed sorts.Caret = lit< tt
 sort_classed sorts.Strange = lit< tt
 sort_classed sorts.Wrong = lit< tt
 
--- kinds with one number are one
+-- Limits with the same number are the same.
 limits_differ : (a b : WhileKind) → number_of_limit a ≡ number_of_limit b → a ≡ b
 limits_differ limits.Name limits.Name h = refl
 limits_differ limits.Tokens limits.Tokens h = refl
@@ -100,20 +100,20 @@ differ (Limit a) b h = absurd (let k = limits_late a in omega (arith, h, k))
 differ a (Limit b) h = absurd (let k = limits_late b in omega (arith, h, k))
 differ a b h = absurd (omega (arith, h))
 
--- the floor is no further than the next token
+-- The floor is at most the position of the next token.
 floor_near : (s : Standing) (at : ℕ) → floor_of s at ≤ at
 floor_near Sound at = omega arith
 floor_near Faulty at = omega arith
 floor_near Settled at = omega arith
 
--- no fault is shown before it
+-- No fault is reported before the floor.
 shown_behind : (s : Standing) (text : List ℕ) (r : State) (t : Token Piece) (y : Fault Kind)
     → Among y (faults_of s text r t) → floor_of s t.at ≤ y.at
 shown_behind Sound text r t y a = omega arith
 shown_behind Faulty text r t y a = omega arith
 shown_behind Settled text r t y a = absurd a
 
--- it stays where it is, and rises with a token
+-- The floor stays or rises with a token.
 floor_stays : (s : Standing) (at : ℕ) → floor_of s at ≤ floor_of s at
 floor_stays s at = omega arith
 
@@ -123,7 +123,7 @@ floor_rises Sound fault in_test at behind h = omega arith
 floor_rises Faulty fault in_test at behind h = omega arith
 floor_rises Settled fault in_test at behind h = h
 
--- while programs are lawful texts
+-- While programs are lawful texts.
 pub lawful : (text : List ℕ) → IsLawful (while_text text)
 lawful text = record {
   readable = readable;
@@ -136,7 +136,7 @@ lawful text = record {
       (is_in_test (course_after t.piece (state text es).course).phase) t.at at (omega (arith, some, behind));
 }
 
--- the tokens of a while program are in order
+-- The tokens of a while program are in order.
 pub tokens_in_order : (bytes : List ℕ) → AreInOrder 0 (tokens bytes) (length bytes)
 tokens_in_order bytes =
     let o = in_order_in (lexer_of (lexeme_at (length bytes))) (λ mode. lexes_within (length bytes)) bytes Plain 0 0
@@ -144,11 +144,11 @@ tokens_in_order bytes =
     subst (AreInOrder 0 (tokens bytes)) (let e : 0 + length bytes ≡ length bytes = omega arith in e)
     (subst (λ (n : ℕ). AreInOrder n (tokens bytes) (0 + length bytes)) (let e : 0 + 0 ≡ 0 = omega arith in e) o)
 
--- a result that agrees with the answer is right
-pub tells_answers : (bytes : List ℕ) (result : Result Whole WhileError)
+-- A result that agrees with the answer is right.
+pub agreeing_answers : (bytes : List ℕ) (result : Result Whole WhileError)
     → Tells source_of refusal_in (answer (reader (while_text bytes)) (length bytes) (tokens bytes)) result
     → Answers bytes result
-tells_answers bytes result h =
+agreeing_answers bytes result h =
     go (answer (reader (while_text bytes)) (length bytes) (tokens bytes))
     (answer_is (reader (while_text bytes)) (reader_laws (while_text bytes) (lawful bytes)) (length bytes) (tokens bytes))
     result h

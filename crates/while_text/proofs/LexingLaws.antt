@@ -6,22 +6,22 @@ use Rattle.std.proofs.lemmas.List.{take_min, drop_min}
 use Rattle.text_core.proofs.PrefixLaws.{take-prefix, all_prefix}
 use Rattle.text_grammar.specs.text_core.Prefixes.{prefix}
 
--- the first byte and the prefix of the others
-pub take_front : (test : ℕ → Bool) (bytes others : List ℕ) (b n : ℕ) → bytes ≡ b ∷ others
+-- The first bytes are the first byte and the prefix of the others.
+pub take_prefix : (test : ℕ → Bool) (bytes others : List ℕ) (b n : ℕ) → bytes ≡ b ∷ others
     → n ≡ length (prefix test others) → take (1 + n) bytes ≡ b ∷ prefix test others
-take_front test bytes others b n e h =
+take_prefix test bytes others b n e h =
     ap (λ (xs : List ℕ). take (1 + n) xs) e
     ∙ ap (λ (k : ℕ). take k (b ∷ others)) (let k : 1 + n ≡ suc n = omega arith in k)
     ∙ ap (λ (k : ℕ). b ∷ take k others) h ∙ ap (λ (xs : List ℕ). b ∷ xs) (take-prefix test others)
 
--- a first digit and those after it are digits
+-- A first digit and those after it are digits.
 pub all_digits : (bytes others : List ℕ) (b n : ℕ) → bytes ≡ b ∷ others
     → n ≡ length (prefix is_ascii_digit others) → is_ascii_digit b ≡ true
     → list_all is_ascii_digit (take (1 + n) bytes) ≡ true
 all_digits bytes others b n e h d =
-    rw (take_front is_ascii_digit bytes others b n e h, d) (all_prefix is_ascii_digit others)
+    rw (take_prefix is_ascii_digit bytes others b n e h, d) (all_prefix is_ascii_digit others)
 
--- the bytes at a position, as many as there are
+-- A position and a length that are cut at the end of the text select the same bytes.
 pub taken : (text : List ℕ) (at len : ℕ)
     → take (min len (length (drop (min at (length text)) text))) (drop (min at (length text)) text)
     ≡ take len (drop at text)

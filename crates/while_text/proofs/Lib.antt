@@ -5,10 +5,14 @@ pub mod ReadableGrammar
 pub mod Lawful
 pub mod Judging
 pub mod SilentReading
+pub mod InnerTokens
+pub mod StatementsRead
 pub mod Structure
-pub mod BelowFronts
+pub mod BelowStates
 pub mod DraftRules
 pub mod ReadableDrafts
 pub mod KeptDrafts
+pub mod KeptTests
 pub mod PieceNames
+pub mod KeptPrograms
 pub mod ReadablePrograms

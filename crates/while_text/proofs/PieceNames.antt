@@ -19,16 +19,16 @@ use Rattle.while_text.specs.Faults.{is_name}
 use Rattle.while_text.specs.Lexing.{lexeme, lexeme_at, sort_at, pair_or, single_at, sign_at, name_at, number_at, piece_in, tokens}
 use Rattle.while_text.proofs.SilentReading.{AllPieces}
 
--- the bytes of a piece of a text that is a name are a name
+-- The bytes of a token of a text that is a name are a name.
 abbrev pub IsPieceOf : List ℕ → Piece → Type 0
 IsPieceOf text p = p.sort ≡ sorts.Name → IsName (bytes_of text p)
 
--- whether what bytes begin with is a name
+-- Whether the sort at the beginning of bytes is that of a name.
 abbrev names_one : Option Sort → Bool
 names_one None = false
 names_one (Some sort) = is_name sort
 
--- a choice between two that are no name is none
+-- A choice between two sorts that are no names is no name.
 no_name : (v : Bool) (a b : Sort) → is_name a ≡ false → is_name b ≡ false → is_name (cond v a b) ≡ false
 no_name true a b h k = h
 no_name false a b h k = k
@@ -38,7 +38,7 @@ no_lexeme : (v : Bool) (a b : Lexeme (Option Sort)) → names_one a.piece ≡ fa
 no_lexeme true a b h k = h
 no_lexeme false a b h k = k
 
--- what begins with a sign is no name
+-- A sign is no name.
 single_none : (b : ℕ) → is_name (single_at b) ≡ false
 single_none b =
     no_name (b == 63) _ _ refl (no_name (b == 59) _ _ refl (no_name (b == 44) _ _ refl (no_name (b == 40) _ _ refl (no_name (b == 41) _ _ refl (no_name (b == 123) _ _ refl (no_name (b == 125) _ _ refl (no_name (b == 43) _ _ refl (no_name (b == 45) _ _ refl (no_name (b == 42) _ _ refl (no_name (b == 94) _ _ refl (no_name (nat_lt 127 b) _ _ refl refl)))))))))))
@@ -56,12 +56,12 @@ sign_none b bytes =
     (no_lexeme (b == 60) _ _ (pair_none 61 sorts.AtMost sorts.LessThan bytes refl refl)
     (no_lexeme (b == 61) _ _ (pair_none 61 sorts.Equal sorts.Equal bytes refl refl) (single_none b))))))
 
--- a name at the beginning of bytes
+-- A token at the beginning of bytes that begins with a letter of names has the bytes of a name.
 name_named : (b : ℕ) (bytes : List ℕ) → begins_name b ≡ true → IsName (take (name_at b bytes).len (b ∷ bytes))
 name_named b bytes h = subst IsName (sym (ap (λ (xs : List ℕ). b ∷ xs) (take-prefix continues_name bytes)))
     (h, all_prefix continues_name bytes)
 
--- so are the bytes of what is a name by its sort
+-- A name by its sort, at the beginning of bytes, has the bytes of a name; white space has no sort.
 abbrev white : Lexeme (Option Sort)
 white = record { piece = None; len = 1 }
 
@@ -79,8 +79,8 @@ sort_named b bytes = go (is_white_space b) (begins_name b) (is_ascii_digit b) re
     go false false true k e = absurd (true≢false (sym (ap names_one e)))
     go false false false k e = absurd (true≢false (sym (ap names_one e) ∙ sign_none b bytes))
 
--- what is dropped one by one
-drop_next : (k : ℕ) (text rest : List ℕ) (b : ℕ) → b ∷ rest ≡ drop k text → rest ≡ drop (k + 1) text
+-- After one more byte is dropped, the rest is the rest without its first byte.
+pub drop_next : (k : ℕ) (text rest : List ℕ) (b : ℕ) → b ∷ rest ≡ drop k text → rest ≡ drop (k + 1) text
 drop_next zero [] rest b e = cc
 drop_next zero (x ∷ text) rest b e = tails e
   where
@@ -91,7 +91,7 @@ drop_next (suc k) (x ∷ text) rest b e =
     drop_next k text rest b e ∙ ap (λ (j : ℕ). drop j (x ∷ text)) (let q : suc (k + 1) ≡ suc k + 1 = omega arith in q)
 
 module _ (text : List ℕ) where
-  -- a piece at its position
+  -- The token at a position of the text, if it is a name, has the bytes of a name.
   piece_named : (k b : ℕ) (rest : List ℕ) (sort : Sort) → b ∷ rest ≡ drop k text
       → k + length (b ∷ rest) ≡ length text → (sort_at b rest).piece ≡ Some sort → (p : Piece)
       → piece_in (length text) (b ∷ rest) (sort_at b rest) (Some sort) ≡ Some p → IsPieceOf text p
@@ -128,6 +128,6 @@ module _ (text : List ℕ) where
       go None h later = later
       go (Some sort) h later = (piece_named k b rest sort e n h _ refl, later)
 
-  -- the names among the tokens of a text are names
+  -- The names among the tokens of a text are names.
   pub tokens_named : AllPieces (IsPieceOf text) (pieces (tokens text))
   tokens_named = all_named 0 0 text refl (omega arith)

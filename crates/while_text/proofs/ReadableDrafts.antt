@@ -1,4 +1,4 @@
--- What a while program without a fault keeps within the limits, token by token.
+-- The limits that a while program without a fault keeps, token by token.
 use Rattle.std.proofs.Common.{◌≡◌, ◌⊎◌, inl, inr, ℕ, zero, suc, ◌+◌, ◌-◌, ◌<◌, ◌≤◌, ◌^◌, min, Bool, true, false, cond, ◌&&◌}
 use Rattle.std.proofs.Common.{List, [], ◌∷◌, ◌++◌, length, Option, Some, None, refl, ap, sym, subst, ◌∙◌, arith, length-append, append_assoc, ◌||◌}
 use Rattle.std.specs.Prelude.{⊤, not, nat_lt, nat_le, pos}
@@ -16,8 +16,8 @@ use Rattle.while_text.specs.while_model.Moves.{negations, negations_of}
 use Rattle.while_text.specs.while_tree.Views.{joined}
 use Rattle.while_text.specs.while_tree.Readable.{FitsTest, Fits, rules_of}
 use Rattle.expr_text.specs.Differences.{differences, first_of_all}
-use Rattle.while_text.specs.declared.draft.Opener.{Opener}
-use Rattle.while_text.specs.declared.draft.Opener.TheVariants as openers
+use Rattle.while_text.specs.declared.block.Opener.{Opener}
+use Rattle.while_text.specs.declared.block.Opener.TheVariants as openers
 use Rattle.while_text.specs.declared.kind.Kind.{Kind}
 use Rattle.while_text.specs.declared.phase.Phase.{Phase}
 use Rattle.while_text.specs.declared.phase.Phase.TheVariants as phases
@@ -26,13 +26,13 @@ use Rattle.while_text.specs.declared.piece.Sort.{Sort}
 use Rattle.while_text.specs.declared.piece.Sort.TheVariants as sorts
 use Rattle.while_text.specs.Courses.{Course, plus, is_last, opens_block, is_relation, negation_count, is_in_expression}
 use Rattle.while_text.specs.Drafts.{Block, Draft, bytes_of, number_of, with_token, term_of, atom_of, no_front}
-use Rattle.while_text.specs.Faults.{or_kind, is_name, is_inputs, begins_atom, begins_statement, against_first, against_name}
-use Rattle.while_text.specs.Faults.{against_token, against_count, kind_in, lesser, fault_of_atom, least_of, fault_of_forms}
-use Rattle.while_text.proofs.BelowFronts.{FrontBelow, term_below, no_front_below, front_below}
+use Rattle.while_text.specs.Faults.{or_kind, is_name, is_inputs, begins_atom, begins_statement, fault_of_first, fault_of_name}
+use Rattle.while_text.specs.Faults.{fault_of_token, fault_of_count, kind_in, lesser, fault_of_atom, least_of, fault_of_forms}
+use Rattle.while_text.proofs.BelowStates.{StateBelow, term_below, no_state_below, state_below}
 use Rattle.while_text.proofs.DraftRules.{FitsBlock, rules_of_blocks, negations_append}
 
--- what is none of two is neither
-or_none : (a b : Option Kind) → or_kind a b ≡ None → (a ≡ None) × (b ≡ None)
+-- If neither of two kinds is chosen, both are absent.
+pub or_none : (a b : Option Kind) → or_kind a b ≡ None → (a ≡ None) × (b ≡ None)
 or_none None b h = (refl, h)
 or_none (Some k) b h = cc
 
@@ -40,7 +40,7 @@ pub when_none : (v : Bool) (k : Kind) → when v k ≡ None → v ≡ false
 when_none true k h = cc
 when_none false k h = refl
 
--- a token has none of the faults that limits are about
+-- A token has no fault of a limit or of names.
 pub record IsClear (text : List ℕ) (p : Piece) (c : Course) (d : Draft) : Type 0 where
   pub unknown : (is_name p.sort && not (is_inputs c.phase) && not (is_among (bytes_of text p) d.names)) ≡ false
   pub repeated : (is_name p.sort && is_inputs c.phase && is_among (bytes_of text p) d.names) ≡ false
@@ -48,11 +48,11 @@ pub record IsClear (text : List ℕ) (p : Piece) (c : Course) (d : Draft) : Type
   pub inputs : (is_inputs c.phase && is_name p.sort && nat_le place_limit (length d.names)) ≡ false
   pub rules : (begins_statement c.phase p.sort && nat_le rule_limit c.rules) ≡ false
 
-pub clear : (text : List ℕ) (p : Piece) (c : Course) (d : Draft) → against_first text p c d ≡ None → IsClear text p c d
+pub clear : (text : List ℕ) (p : Piece) (c : Course) (d : Draft) → fault_of_first text p c d ≡ None → IsClear text p c d
 clear text p c d h =
     let a = or_none _ _ h in
-    let b = or_none (against_name text p c d) _ a.1 in
-    let e = or_none (against_token p c d) (against_count p c d) b.1 in
+    let b = or_none (fault_of_name text p c d) _ a.1 in
+    let e = or_none (fault_of_token p c d) (fault_of_count p c d) b.1 in
     let f = or_none _ _ b.0 in
     let g = or_none _ _ f.1 in
     let i = or_none _ _ e.0 in
@@ -66,8 +66,8 @@ clear text p c d h =
       rules = when_none _ _ k.1;
     }
 
--- a name that is among others has a position there
-among_below : (name : Name) (names : List Name) → is_among name names ≡ true → position_of name names < length names
+-- A name that is among others has a position there.
+pub among_below : (name : Name) (names : List Name) → is_among name names ≡ true → position_of name names < length names
 among_below name [] h = cc
 among_below name (n ∷ names) h = go (is_same name n) refl h (among_below name names)
   where
@@ -77,11 +77,11 @@ among_below name (n ∷ names) h = go (is_same name n) refl h (among_below name 
     go true e k later = rw e (omega arith)
     go false e k later = let low = later k in rw e (omega (arith, low))
 
--- the number of such a name is one of those of the inputs
+-- The number of a name among the inputs is below the number of inputs.
 pub number_below : (name : Name) (names : List Name) → is_among name names ≡ true → number_of names name < length names
 number_below name names h = let low = among_below name names h in omega (arith, low)
 
--- names with one more that isn't among them
+-- A name that is neither among names nor the same as x is not among the names with x appended.
 pub absent_append : (n : Name) (names : List Name) (x : Name) → is_among n names ≡ false → is_same n x ≡ false
     → is_among n (names ++ x ∷ []) ≡ false
 absent_append n [] x a s = rw s refl
@@ -93,7 +93,7 @@ absent_append n (y ∷ names) x a s = go (is_same n y) a (λ h. absent_append n 
     go true h f = cc
     go false h f = f h
 
--- a fault of an expanded form
+-- If an expanded form has no kind of refusal, it has no fault.
 pub kind_none : (o : Option Fault) → kind_in o ≡ None → o ≡ None
 kind_none None h = refl
 kind_none (Some f) h = cc
@@ -111,7 +111,7 @@ either_none : (a b : Option Fault) → or_else a b ≡ None → a ≡ None
 either_none None b h = refl
 either_none (Some f) b h = cc
 
--- the difference of a comparison that has no fault can be expanded
+-- The differences of a comparison without a fault can be expanded.
 atom_expands : (l r : Term) (relation : Relation) → fault_of_atom (Compare l relation r) ≡ None
     → first_fault (difference_of l relation r) ≡ None
 atom_expands l r AtLeast h = either_none _ _ h
@@ -120,7 +120,7 @@ atom_expands l r AtMost h = either_none _ _ h
 atom_expands l r LessThan h = either_none _ _ h
 atom_expands l r EqualTo h = either_none _ _ h
 
--- a comparison of expressions over n variables without a fault is valid, and so are its negations
+-- A comparison of expressions over n variables without a fault is valid, and so are its negations.
 valid_atom : (n : ℕ) (l r : Term) (relation : Relation) → ReadsBelow n l → ReadsBelow n r
     → fault_of_atom (Compare l relation r) ≡ None → IsValidAtom n (Compare l relation r)
 valid_atom n l r relation a b h = record { left = a; right = b; expands = atom_expands l r relation h }
@@ -143,7 +143,7 @@ valid_forms n l r relation a b h =
         let e = lesser_none (fault_of_atom (Compare l LessThan r)) _ k in
         (valid_atom n l r LessThan a b e.0, (valid_atom n l r MoreThan a b (lesser_none _ _ e.1).0, tt))
 
--- the negations of a comparison are as many as it was counted
+-- The negations of a comparison are as many as counted.
 pub negations_counted : (l r : Term) (relation : Relation)
     → length (negations_of (Compare l relation r)) ≡ negation_count relation
 negations_counted l r AtLeast = refl
@@ -152,7 +152,7 @@ negations_counted l r AtMost = refl
 negations_counted l r LessThan = refl
 negations_counted l r EqualTo = refl
 
--- a test with one atom more fits
+-- A predicate that holds of two lists holds of both together.
 all_append : {X : Type 0} (P : X → Type 0) (xs ys : List X) → AllByRecursion P xs → AllByRecursion P ys
     → AllByRecursion P (xs ++ ys)
 all_append P [] ys h k = k
@@ -175,7 +175,7 @@ test_append n test atom h low valid negated = record {
       (all_append (IsValidAtom n) (negations_of atom) [] negated tt));
 }
 
--- the rules of the statement that is being read
+-- The number of rules of the statement that is being read.
 abbrev pub pending : Phase → List Atom → ℕ
 pending phases.Inputs test = 0
 pending phases.Statements test = 0
@@ -185,29 +185,29 @@ pending phases.Test test = suc (length (negations test))
 pending phases.Left test = suc (length (negations test))
 pending phases.Right test = suc (length (negations test))
 
--- the variable that is assigned is an input
+-- The variable of the assignment that is being read is an input.
 abbrev pub VariableBelow : Phase → ℕ → ℕ → Type 0
 VariableBelow phases.Assignment n x = x < n
 VariableBelow phases.Value n x = x < n
 VariableBelow phase n x = ⊤
 
--- there is room for the atom that is being read
+-- There is room for the atom that is being read.
 abbrev pub HasRoom : Phase → ℕ → List Atom → Type 0
 HasRoom phases.Left tokens test = (tokens ≡ 0) ⊎ (length test < atom_limit)
 HasRoom phases.Right tokens test = length test < atom_limit
 HasRoom phase tokens test = ⊤
 
--- outside of tests a block that opens is a second one
+-- Outside of tests the next block is a second one.
 abbrev pub IsSecond : Phase → Opener → Type 0
 IsSecond phases.Test opener = ⊤
 IsSecond phases.Left opener = ⊤
 IsSecond phases.Right opener = ⊤
 IsSecond phase opener = opener ≡ openers.Second
 
--- everything that has been made is within the limits, over n inputs with these names
+-- The whole parser state is within the limits, over n inputs with these names.
 pub record Fitting (names : List Name) (n : ℕ) (c : Course) (d : Draft) : Type 0 where
   pub names_are : d.names ≡ names
-  pub front : FrontBelow n d.front
+  pub grammar_state : StateBelow n d.grammar_state
   pub value : IsValidTerm n d.value
   pub left : ReadsBelow n d.left
   pub test : FitsTest n d.test
@@ -219,7 +219,7 @@ pub record Fitting (names : List Name) (n : ℕ) (c : Course) (d : Draft) : Type
   pub count : pending c.phase d.test + (rules_of_blocks d.blocks + rules_of (joined d.body)) ≤ c.rules
   pub few : c.rules ≤ rule_limit
 
--- the inputs are names, all different, and not too many
+-- The inputs are names, all different, and not too many.
 pub record Named (names : List Name) : Type 0 where
   pub valid : AllByRecursion IsName names
   pub distinct : AreDistinct names

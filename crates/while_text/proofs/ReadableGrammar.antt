@@ -1,15 +1,16 @@
--- The grammar of while programs can be read: the test holds at each class of pieces, and so it holds as a whole.
+-- The grammar of while programs can be read: the test holds for each class of tokens.
 use Rattle.std.proofs.Common.{◌≡◌, ℕ, true, refl}
 use Rattle.std.specs.Prelude.{◌==◌}
 use Rattle.text_grammar.specs.Sounding.{each_below, is_flagged, follows, completed, agrees, is_readable}
 use Rattle.text_grammar.proofs.ReadableParts.{Below, readable_by}
 use Rattle.while_text.specs.Grammar.{while_grammar}
 
--- the test holds at a class
+-- The test holds for a class.
 abbrev At : ℕ → Type 0
 At c = agrees while_grammar c ≡ true
 
--- it holds at each class and at the end of the text, one by one, since the test of all at once is too long to compute
+-- The test holds for each class and for the end of the text, proved one by one, since the test of all at once takes too
+-- long to compute.
 up_to_0 : Below 0 At
 up_to_0 = tt
 
@@ -85,7 +86,7 @@ up_to_23 = (refl, up_to_22)
 up_to_24 : Below 24 At
 up_to_24 = (refl, up_to_23)
 
--- the end can follow the text, the text can be completed, and the sample piece of each class belongs to it
+-- The end can follow the text, the text can be completed, and the sample token of each class belongs to it.
 ends : is_flagged (follows while_grammar 23) 0 ≡ true
 ends = refl
 
@@ -95,6 +96,6 @@ completes = refl
 sampled : each_below 23 (λ c. while_grammar.class_of (while_grammar.sample c) == c) ≡ true
 sampled = refl
 
--- the grammar of while programs can be read
+-- The grammar of while programs can be read.
 pub readable : is_readable while_grammar ≡ true
 readable = readable_by while_grammar up_to_24 ends completes sampled

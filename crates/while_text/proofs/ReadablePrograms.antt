@@ -1,11 +1,7 @@
 -- A while program that is read is within the limits.
-use Rattle.std.proofs.Common.{◌≡◌, ◌⊎◌, inl, inr, ℕ, zero, suc, ◌+◌, ◌<◌, ◌≤◌, Bool, true, false, cond, ◌&&◌, ◌||◌, List, [], ◌∷◌}
-use Rattle.std.proofs.Common.{◌++◌, length, Option, Some, None, refl, ap, sym, subst, ◌∙◌, arith, length-append}
-use Rattle.std.specs.Prelude.{⊤, not, nat_lt, nat_le, pos, map, Result, Ok, Err, IfOk}
-use Rattle.std.specs.List.{AllByRecursion}
-use Rattle.std.proofs.lemmas.Bool.Decides.{nat_tests}
-use Rattle.text_core.proofs.NameLaws.{same_equal, is_same_self}
-use Rattle.text_grammar.specs.text_core.Names.{IsName, AreDistinct, is_among, is_same}
+use Rattle.std.proofs.Common.{◌≡◌, ◌⊎◌, inl, inr, ℕ, false, List, [], ◌∷◌}
+use Rattle.std.proofs.Common.{length, refl, ap, sym, subst, arith}
+use Rattle.std.specs.Prelude.{map, Result, Ok, Err, IfOk}
 use Rattle.text_grammar.specs.text_core.Readers.{onto}
 use Rattle.text_grammar.specs.text_core.Reading.{Answer, Stands, Refused, answer}
 use Rattle.text_grammar.specs.text_core.Tokens.{pieces}
@@ -16,376 +12,37 @@ use Rattle.text_grammar.specs.Results.{Tells}
 use Rattle.text_grammar.proofs.WorkedGrammars.{texts_read}
 use Rattle.text_grammar.specs.Silence.{read_in}
 use Rattle.text_grammar.specs.Texts.{IsSilent, reader}
-use Rattle.while_text.specs.model.Limits.{rule_limit, place_limit, atom_limit}
 use Rattle.while_text.specs.model.Programs.{Name}
-use Rattle.while_text.specs.while_model.Statements.{Statements, IsNonempty}
+use Rattle.while_text.specs.while_model.Statements.{IsNonempty}
 use Rattle.while_text.specs.its_model.Views.{name_of}
 use Rattle.while_text.specs.while_tree.declared.stmt.Whole.{Whole}
-use Rattle.while_text.specs.while_tree.Views.{statements_of, Statement, Plain, Loop, Branch, before, joined}
-use Rattle.while_text.specs.while_tree.Readable.{IsReadable, rules_of}
+use Rattle.while_text.specs.while_tree.Views.{statements_of, Statement, Plain, Loop, Branch, joined}
+use Rattle.while_text.specs.while_tree.Readable.{IsReadable}
 use Rattle.while_text.specs.declared.error.WhileError.{WhileError}
 use Rattle.while_text.specs.declared.kind.Kind.{Kind}
-use Rattle.while_text.specs.declared.draft.Opener.TheVariants as openers
-use Rattle.while_text.specs.declared.phase.Phase.{Phase}
-use Rattle.while_text.specs.declared.phase.Phase.TheVariants as phases
-use Rattle.while_text.specs.declared.phase.Standing.TheVariants.{Sound}
 use Rattle.while_text.specs.declared.piece.Piece.{Piece}
-use Rattle.while_text.specs.declared.piece.Sort.{Sort}
-use Rattle.while_text.specs.declared.piece.Sort.TheVariants as sorts
-use Rattle.while_text.specs.Courses.{Course, begun_course, opens_block, is_last, plus, negation_count, after_phase, course_after}
-use Rattle.while_text.specs.Courses.{after_input, after_statement, after_variable, after_value, after_test, after_left}
-use Rattle.while_text.specs.Courses.{with_token as with_token_of}
-use Rattle.while_text.specs.Drafts.{Draft, begun_draft, bytes_of, number_of, with_token, draft_after, made_in, made_of_input}
-use Rattle.while_text.specs.Drafts.{block_opens}
-use Rattle.while_text.specs.Faults.{is_name, is_inputs, is_first_word, against_first, against_last, against_last_in, against_rules}
-use Rattle.while_text.specs.Faults.{begins_atom, begins_statement, passes_rules, ends_atom_in}
+use Rattle.while_text.specs.Drafts.{Draft}
+use Rattle.while_text.specs.Faults.{is_inputs}
 use Rattle.while_text.specs.Grammar.{while_grammar}
 use Rattle.while_text.specs.Lexing.{tokens}
 use Rattle.while_text.specs.Views.{source_of, refusal_in}
 use Rattle.while_text.specs.Reading.{State, Source, begun, state, source_in, while_text}
-use Rattle.while_text.proofs.BelowFronts.{FrontBelow, no_front_below, front_below}
-use Rattle.while_text.proofs.KeptDrafts.{kept_statement, kept_variable, kept_value, kept_test, kept_left, kept_right, kept_block}
 use Rattle.while_text.proofs.Lawful.{lawful}
 use Rattle.while_text.proofs.PieceNames.{IsPieceOf, tokens_named}
-use Rattle.while_text.proofs.ReadableDrafts.{IsClear, clear, number_below, absent_append, HasRoom, IsSecond, Fitting, Named}
-use Rattle.while_text.proofs.ReadableDrafts.{when_none}
-use Rattle.while_text.proofs.SilentReading.{HasNone, sound_after, after_all, silent_along}
-use Rattle.while_text.proofs.Structure.{IsSome, has_statement}
+use Rattle.while_text.proofs.ReadableDrafts.{Fitting}
+use Rattle.while_text.proofs.SilentReading.{silent_along}
+use Rattle.while_text.proofs.InnerTokens.{IsSome}
+use Rattle.while_text.proofs.Structure.{has_statement}
+use Rattle.while_text.proofs.KeptPrograms.{begun_good, kept_good, IsListed, Good}
 
--- a test that fails where another one holds
-fails : (a b : Bool) → a ≡ true → (a && b) ≡ false → b ≡ false
-fails true b e h = h
-fails false b e h = cc
-
-both_hold : (a b : Bool) → a ≡ true → b ≡ true → (a && b) ≡ true
-both_hold true b e f = f
-both_hold false b e f = cc
-
--- while the inputs are read nothing else has been made
-pub record IsListed (names : List Name) (s : State) : Type 0 where
-  pub phase : s.course.phase ≡ phases.Inputs
-  pub rules : s.course.rules ≡ 0
-  pub draft : s.draft ≡ record begun_draft { names = names }
-
--- a state within the limits
-pub record Good (s : State) : Type 0 where
-  pub names : List Name
-  pub named : Named names
-  pub made : IsListed names s ⊎ (is_inputs s.course.phase ≡ false) × Fitting names (length names) s.course s.draft
-
--- nothing has been read
-pub begun_good : Good begun
-begun_good = record {
-  names = [];
-  named = record { valid = tt; distinct = tt; few = omega arith };
-  made = inl (record { phase = refl; rules = refl; draft = refl });
-}
-
--- after the inputs nothing has been made
-begins_fitting : (names : List Name) (c : Course) → c.rules ≡ 0
-    → Fitting names (length names) (record c { phase = phases.Statements }) (record begun_draft { names = names })
-begins_fitting names c e = record {
-  names_are = refl;
-  front = no_front_below (length names);
-  value = record { variables = tt; expands = refl };
-  left = tt;
-  test = record { few = omega arith; atoms = tt; negated = tt };
-  variable = tt;
-  room = tt;
-  opener = refl;
-  blocks = tt;
-  body = tt;
-  count = omega arith;
-  few = omega (arith, e);
-}
-
--- names with one more
-names_append : (names : List Name) (x : Name) → Named names → IsName x → is_among x names ≡ false
-    → length names < place_limit → Named (names ++ x ∷ [])
-names_append names x h valid absent low = record {
-  valid = all_append names h.valid;
-  distinct = go names h.distinct absent;
-  few = (let e = length-append names (x ∷ []) in omega (arith, e, low));
-}
-  where
-    all_append : (ns : List Name) → AllByRecursion IsName ns → AllByRecursion IsName (ns ++ x ∷ [])
-    all_append [] a = (valid, tt)
-    all_append (n ∷ ns) (a, b) = (a, all_append ns b)
-
-    both_absent : (n : Name) (ns : List Name) → (is_same x n || is_among x ns) ≡ false
-        → (is_same x n ≡ false) × (is_among x ns ≡ false)
-    both_absent n ns a = ors (is_same x n) (is_among x ns) a
-      where
-        ors : (a b : Bool) → (a || b) ≡ false → (a ≡ false) × (b ≡ false)
-        ors true b k = cc
-        ors false b k = (refl, k)
-
-    go : (ns : List Name) → AreDistinct ns → is_among x ns ≡ false → AreDistinct (ns ++ x ∷ [])
-    go [] d a = (refl, tt)
-    go (n ∷ ns) (first, d) a =
-        let w = both_absent n ns a in
-        (absent_append n ns x first (other n w.0), go ns d w.1)
-      where
-        other : (n : Name) → is_same x n ≡ false → is_same n x ≡ false
-        other n e = turned (is_same n x) refl
-          where
-            turned : (v : Bool) → is_same n x ≡ v → v ≡ false
-            turned false k = refl
-            turned true k = let q = same_equal n x k in let r = is_same_self x in cc
-
--- a token among inputs
-kept_input : (text : List ℕ) (p : Piece) (names : List Name) (sort : Sort) (c : Course) → Named names
-    → c.phase ≡ phases.Inputs → c.rules ≡ 0 → (sort ≡ sorts.Name → IsName (bytes_of text p))
-    → (is_name sort ≡ true → is_among (bytes_of text p) names ≡ false)
-    → (is_name sort ≡ true → length names < place_limit)
-    → Good (record {
-      course = after_input sort c;
-      draft = made_of_input text p sort (record begun_draft { names = names });
-      standing = Sound;
-    })
-kept_input text p names sorts.Semicolon c named e r valid absent low =
-    record { names = names; named = named; made = inr (refl, begins_fitting names c r) }
-kept_input text p names sorts.Name c named e r valid absent low = record {
-  names = names ++ bytes_of text p ∷ [];
-  named = names_append names (bytes_of text p) named (valid refl) (absent refl) (low refl);
-  made = inl (record { phase = e; rules = r; draft = refl });
-}
-kept_input text p names sort c named e r valid absent low =
-    record { names = names; named = named; made = inl (record { phase = e; rules = r; draft = refl }) }
-
--- the state after a token, by whether it opens a block
-placed : (text : List ℕ) (p : Piece) (s : State) (v : Bool) → opens_block p.sort ≡ v
-    → Good (record {
-      course = cond v (record s.course { phase = phases.Statements }) (after_phase s.course.phase p s.course);
-      draft = cond v (block_opens s.draft.opener s.draft) (made_in s.course.phase text p s.course s.draft);
-      standing = Sound;
-    }) → Good (sound_after text p s)
-placed text p s v o g =
-    subst (λ (w : Bool). Good (record {
-      course = cond w (record s.course { phase = phases.Statements }) (after_phase s.course.phase p s.course);
-      draft = cond w (block_opens s.draft.opener s.draft) (made_in s.course.phase text p s.course s.draft);
-      standing = Sound;
-    })) (sym o) g
-
--- where nothing has been made a block opens none
-first_block : (text : List ℕ) (p : Piece) (names : List Name) (s : State) → Named names → IsListed names s
-    → opens_block p.sort ≡ true → Good (sound_after text p s)
-first_block text p names s named l o =
-    placed text p s true o (record {
-      names = names;
-      named = named;
-      made = inr (
-        refl,
-        subst (λ (d : Draft). Fitting names (length names) (record s.course { phase = phases.Statements })
-            (block_opens d.opener d)) (sym l.draft) (begins_fitting names s.course l.rules),
-      );
-    })
-
--- a name of an expression is that of an input
-known : (text : List ℕ) (p : Piece) (s : State) → is_inputs s.course.phase ≡ false
-    → IsClear text p s.course s.draft → is_name p.sort ≡ true
-    → number_of s.draft.names (bytes_of text p) < length s.draft.names
-known text p s i h e =
-    number_below (bytes_of text p) s.draft.names
-    (go (is_among (bytes_of text p) s.draft.names)
-    (fails (is_name p.sort && not (is_inputs s.course.phase)) _ (both_hold _ _ e (ap not i)) h.unknown))
-  where
-    go : (v : Bool) → not v ≡ false → v ≡ true
-    go true k = refl
-    go false k = cc
-
--- by the part that is read
-module _ (text : List ℕ) (p : Piece) (names : List Name) (s : State) (i : is_inputs s.course.phase ≡ false)
-    (f : Fitting names (length names) s.course s.draft) (h : IsClear text p s.course s.draft)
-    (last : against_last_in s.course.phase text p s.course s.draft ≡ None) (rules : against_rules p s.course ≡ None) where
-  number_known : is_name p.sort ≡ true → number_of s.draft.names (bytes_of text p) < length names
-  number_known e =
-      let k = known text p s i h e in
-      subst (λ (ns : List Name). number_of s.draft.names (bytes_of text p) < length ns) f.names_are k
-
-  front_kept : FrontBelow (length names) (with_token text p s.draft)
-  front_kept = front_below (length names) (number_of s.draft.names (bytes_of text p)) p.sort s.draft.front number_known f.front
-
-  statement_room : s.course.phase ≡ phases.Statements → is_first_word p.sort ≡ true → s.course.rules < rule_limit
-  statement_room e w = go (fails (is_first_word p.sort) _ w (subst (λ (x : Phase).
-      (begins_statement x p.sort && nat_le rule_limit s.course.rules) ≡ false) e h.rules))
-    where
-      go : nat_le rule_limit s.course.rules ≡ false → s.course.rules < rule_limit
-      go k = grind (arith, nat_tests, k)
-
-  atom_room : s.course.phase ≡ phases.Left → length s.draft.test < atom_limit
-  atom_room e = go (subst (λ (x : Phase). HasRoom x s.course.tokens s.draft.test) e f.room)
-    where
-      test : (begins_atom phases.Left s.course.tokens && nat_le atom_limit (length s.draft.test)) ≡ false
-      test = subst (λ (x : Phase). (begins_atom x s.course.tokens && nat_le atom_limit (length s.draft.test)) ≡ false) e
-          h.atoms
-
-      go : (s.course.tokens ≡ 0) ⊎ (length s.draft.test < atom_limit) → length s.draft.test < atom_limit
-      go (inl z) = let k = test in grind (arith, nat_tests, z, k)
-      go (inr low) = low
-
-  rules_room : s.course.phase ≡ phases.Right → is_last p s.course ≡ true
-      → plus s.course.rules (negation_count s.course.relation) ≤ rule_limit
-  rules_room e l = go (fails (is_last p s.course) _ l (subst (λ (x : Phase).
-      (ends_atom_in x p s.course && nat_lt rule_limit (plus s.course.rules (negation_count s.course.relation))) ≡ false)
-      e (when_none (passes_rules p s.course) _ rules)))
-    where
-      go : nat_lt rule_limit (plus s.course.rules (negation_count s.course.relation)) ≡ false
-          → plus s.course.rules (negation_count s.course.relation) ≤ rule_limit
-      go k = grind (arith, nat_tests, k)
-
-  kept_in : (phase : Phase) → s.course.phase ≡ phase
-      → (is_inputs (after_phase phase p s.course).phase ≡ false)
-      × Fitting names (length names) (after_phase phase p s.course) (made_in phase text p s.course s.draft)
-  kept_in phases.Inputs e = absurd (not_inputs (sym (ap is_inputs e) ∙ i))
-    where
-      not_inputs : ¬ (true ≡ false)
-      not_inputs k = cc
-  kept_in phases.Statements e =
-      (outside_statement p.sort, kept_statement names (length names) text p s.course s.draft f p.sort e (statement_room e) number_known)
-    where
-      outside_statement : (sort : Sort) → is_inputs (after_statement sort p.at s.course).phase ≡ false
-      outside_statement sorts.Name = refl
-      outside_statement sorts.Skip = refl
-      outside_statement sorts.While = refl
-      outside_statement sorts.If = refl
-      outside_statement sort = i
-  kept_in phases.Assignment e =
-      (outside_variable p.sort, kept_variable names (length names) text p s.course s.draft f p.sort e)
-    where
-      outside_variable : (sort : Sort) → is_inputs (after_variable sort s.course).phase ≡ false
-      outside_variable sorts.Becomes = refl
-      outside_variable sort = i
-  kept_in phases.Value e = (
-    outside_value p.sort,
-    kept_value names (length names) text p s.course s.draft f p.sort e front_kept
-        (subst (λ (x : Phase). against_last_in x text p s.course s.draft ≡ None) e last),
-  )
-    where
-      outside_value : (sort : Sort) → is_inputs (after_value sort s.course).phase ≡ false
-      outside_value sorts.Semicolon = refl
-      outside_value sort = i
-  kept_in phases.Test e = (outside_test p.sort, kept_test names (length names) text p s.course s.draft f p.sort e)
-    where
-      outside_test : (sort : Sort) → is_inputs (after_test sort s.course).phase ≡ false
-      outside_test sorts.Open = refl
-      outside_test sorts.Joint = refl
-      outside_test sort = i
-  kept_in phases.Left e =
-      (outside_left p.sort, kept_left names (length names) text p s.course s.draft f p.sort refl e (atom_room e) front_kept)
-    where
-      outside_left : (sort : Sort) → is_inputs (after_left sort s.course).phase ≡ false
-      outside_left sorts.Input = i
-      outside_left sorts.Skip = i
-      outside_left sorts.While = i
-      outside_left sorts.If = i
-      outside_left sorts.Else = i
-      outside_left sorts.Truth = refl
-      outside_left sorts.Name = i
-      outside_left (sorts.Number n) = i
-      outside_left sorts.Becomes = i
-      outside_left sorts.Question = i
-      outside_left sorts.Semicolon = i
-      outside_left sorts.Comma = i
-      outside_left sorts.Open = i
-      outside_left sorts.Close = i
-      outside_left sorts.BlockOpen = i
-      outside_left sorts.BlockClose = i
-      outside_left sorts.Joint = i
-      outside_left sorts.AtLeast = refl
-      outside_left sorts.MoreThan = refl
-      outside_left sorts.AtMost = refl
-      outside_left sorts.LessThan = refl
-      outside_left sorts.Equal = refl
-      outside_left sorts.Plus = i
-      outside_left sorts.Minus = i
-      outside_left sorts.Times = i
-      outside_left sorts.Caret = i
-      outside_left sorts.Strange = i
-      outside_left sorts.Wrong = i
-  kept_in phases.Right e = (
-    outside_right (is_last p s.course),
-    kept_right names (length names) text p s.course s.draft f e front_kept
-        (subst (λ (x : Phase). against_last_in x text p s.course s.draft ≡ None) e last) (rules_room e),
-  )
-    where
-      outside_right : (v : Bool) → is_inputs (cond v (record (with_token_of p.sort s.course) {
-        phase = phases.Test;
-        rules = plus s.course.rules (negation_count s.course.relation);
-      }) (with_token_of p.sort s.course)).phase ≡ false
-      outside_right true = refl
-      outside_right false = i
-
--- each token without a fault keeps all within the limits
-pub kept_good : (text : List ℕ) (p : Piece) (s : State) → IsPieceOf text p → Good s → HasNone text p s
-    → Good (sound_after text p s)
-kept_good text p s valid g h = go g.made (opens_block p.sort) refl
-  where
-    cleared : IsClear text p s.course s.draft
-    cleared = clear text p s.course s.draft h.first
-
-    listed : IsListed g.names s → opens_block p.sort ≡ false → Good (sound_after text p s)
-    listed l o =
-        placed text p s false o
-        (subst (λ (x : Phase). Good (record {
-          course = after_phase x p s.course;
-          draft = made_in x text p s.course s.draft;
-          standing = Sound;
-        })) (sym l.phase)
-        (subst (λ (d : Draft). Good (record {
-          course = after_input p.sort s.course;
-          draft = made_of_input text p p.sort d;
-          standing = Sound;
-        })) (sym l.draft) (kept_input text p g.names p.sort s.course g.named l.phase l.rules valid absent low)))
-      where
-        absent : is_name p.sort ≡ true → is_among (bytes_of text p) g.names ≡ false
-        absent e =
-            subst (λ (ns : List Name). is_among (bytes_of text p) ns ≡ false) (ap (λ (d : Draft). d.names) l.draft)
-            (fails (is_name p.sort && is_inputs s.course.phase) _ (both_hold _ _ e (ap is_inputs l.phase)) cleared.repeated)
-
-        low : is_name p.sort ≡ true → length g.names < place_limit
-        low e = from (subst (λ (ns : List Name). nat_le place_limit (length ns) ≡ false)
-            (ap (λ (d : Draft). d.names) l.draft)
-            (fails (is_inputs s.course.phase && is_name p.sort) _ (both_hold _ _ (ap is_inputs l.phase) e) cleared.inputs))
-          where
-            from : nat_le place_limit (length g.names) ≡ false → length g.names < place_limit
-            from k = grind (arith, nat_tests, k)
-
-    opened : (i : is_inputs s.course.phase ≡ false) → Fitting g.names (length g.names) s.course s.draft
-        → opens_block p.sort ≡ true → Good (sound_after text p s)
-    opened i f o =
-        placed text p s true o (record {
-          names = g.names;
-          named = g.named;
-          made = inr (refl, kept_block g.names (length g.names) text p s.course s.draft f s.draft.opener refl);
-        })
-
-    inside : (i : is_inputs s.course.phase ≡ false) → Fitting g.names (length g.names) s.course s.draft
-        → opens_block p.sort ≡ false → Good (sound_after text p s)
-    inside i f o =
-        let last : against_last_in s.course.phase text p s.course s.draft ≡ None =
-        subst (λ (v : Bool). (cond v None (against_last_in s.course.phase text p s.course s.draft)) ≡ None) o h.last in
-        placed text p s false o (record {
-          names = g.names;
-          named = g.named;
-          made = inr (kept_in text p g.names s i f cleared last h.rules s.course.phase refl);
-        })
-
-    go : IsListed g.names s ⊎ (is_inputs s.course.phase ≡ false) × Fitting g.names (length g.names) s.course s.draft
-        → (v : Bool) → opens_block p.sort ≡ v → Good (sound_after text p s)
-    go (inl l) true o = first_block text p g.names s g.named l o
-    go (inl l) false o = listed l o
-    go (inr (i, f)) true o = opened i f o
-    go (inr (i, f)) false o = inside i f o
-
--- statements that are some are a program
+-- Statements from a list that isn't empty aren't empty.
 nonempty : (ss : List Statement) → IsSome ss → IsNonempty (joined ss)
 nonempty [] h = h
 nonempty (Plain action ∷ ss) h = tt
 nonempty (Loop test block ∷ ss) h = tt
 nonempty (Branch test block other ∷ ss) h = tt
 
--- what is within the limits, with a statement, is a program within the limits
+-- A state within the limits with a statement gives a program within the limits.
 pub good_readable : (s : State) → Good s → IsSome s.draft.body → IsReadable s.draft.names (joined s.draft.body)
 good_readable s g some = go g.made
   where
@@ -404,15 +61,15 @@ good_readable s g some = go g.made
           fits = f.body;
         })
 
--- the pieces that derived events read are those that are derived
-derived_reads : {ss : List Symbol} {es : List (Event Piece)} {ps : List Piece} → Derives while_grammar ss es ps
+-- The tokens that derived events read are those that are derived.
+pub derived_reads : {ss : List Symbol} {es : List (Event Piece)} {ps : List Piece} → Derives while_grammar ss es ps
     → read_in es ≡ ps
 derived_reads nothing = refl
 derived_reads (piece p d) = ap (λ (ps : List Piece). p ∷ ps) (derived_reads d)
 derived_reads (mark m d) = derived_reads d
 derived_reads (made n body a d) = derived_reads d
 
--- a program that is answered is within the limits
+-- A program that is an answer is within the limits.
 answered_readable : (bytes : List ℕ) (source : Source)
     → answer (reader (while_text bytes)) (length bytes) (tokens bytes) ≡ Stands source
     → IsReadable source.names source.program
@@ -429,11 +86,11 @@ answered_readable bytes source e = go ((texts_read (while_text bytes) (lawful by
         subst (λ (t : Source). IsReadable t.names t.program) value
         (good_readable (state bytes (onto es [])) along.1 some)
 
--- a result that agrees with the answer is a program within the limits
-pub tells_readable : (bytes : List ℕ) (result : Result Whole WhileError)
+-- A result that agrees with the answer is a program within the limits, or no program.
+pub agreeing_is_readable : (bytes : List ℕ) (result : Result Whole WhileError)
     → Tells source_of refusal_in (answer (reader (while_text bytes)) (length bytes) (tokens bytes)) result
     → IfOk result (λ w. IsReadable (map name_of w.names.items) (statements_of w.body.items))
-tells_readable bytes result h = go (answer (reader (while_text bytes)) (length bytes) (tokens bytes)) refl result h
+agreeing_is_readable bytes result h = go (answer (reader (while_text bytes)) (length bytes) (tokens bytes)) refl result h
   where
     go : (a : Answer Source Kind) → answer (reader (while_text bytes)) (length bytes) (tokens bytes) ≡ a
         → (result : Result Whole WhileError) → Tells source_of refusal_in a result

@@ -1,4 +1,4 @@
--- A text whose tokens have no fault is read token by token, and everything is made of it.
+-- A text whose tokens have no fault is read token by token, and everything in it is built.
 use Rattle.std.proofs.Common.{◌≡◌, ℕ, ◌-◌, List, [], ◌∷◌, ◌++◌, Bool, false, Option, Some, None, refl, sym, ap, subst, ◌∙◌}
 use Rattle.std.specs.Prelude.{is_some, ⊤}
 use Rattle.text_grammar.specs.text_core.Tokens.{Token, pieces}
@@ -13,21 +13,21 @@ use Rattle.while_text.specs.declared.phase.Standing.TheVariants.{Sound, Faulty, 
 use Rattle.while_text.specs.declared.piece.Piece.{Piece}
 use Rattle.while_text.specs.Courses.{Course, course_after, is_in_test}
 use Rattle.while_text.specs.Drafts.{Draft, draft_after}
-use Rattle.while_text.specs.Faults.{against_first, against_last, against_rules}
+use Rattle.while_text.specs.Faults.{fault_of_first, fault_of_last, fault_of_rules}
 use Rattle.while_text.specs.Reading.{State, state, read, faults_of, has_fault, standing_after, draft_made, while_text}
 
--- a token has no fault at all
+-- The token has no fault at all.
 pub record HasNone (text : List ℕ) (p : Piece) (s : State) : Type 0 where
-  pub first : against_first text p s.course s.draft ≡ None
-  pub last : against_last text p s.course s.draft ≡ None
-  pub rules : against_rules p s.course ≡ None
+  pub first : fault_of_first text p s.course s.draft ≡ None
+  pub last : fault_of_last text p s.course s.draft ≡ None
+  pub rules : fault_of_rules p s.course ≡ None
 
--- where nothing is shown there is nothing
+-- If a token of a text without a fault reports none, it has none.
 pub none_shown : (text : List ℕ) (s : State) (t : Token Piece) → faults_of Sound text s t ≡ []
     → HasNone text t.piece s
 none_shown text s t h =
-    let w = go (against_first text t.piece s.course s.draft) (against_last text t.piece s.course s.draft)
-    (against_rules t.piece s.course) t.at (t.upto - 1) s.course.at h in
+    let w = go (fault_of_first text t.piece s.course s.draft) (fault_of_last text t.piece s.course s.draft)
+    (fault_of_rules t.piece s.course) t.at (t.upto - 1) s.course.at h in
     record { first = w.0; last = w.1; rules = w.2 }
   where
     go : (a b c : Option Kind) (i j k : ℕ) → refusals a i ++ (refusals b j ++ refusals c k) ≡ []
@@ -37,7 +37,7 @@ none_shown text s t h =
     go None (Some b) c i j k e = cc
     go (Some a) b c i j k e = cc
 
--- a token without a fault leaves the reading sound, and everything is made of it
+-- A token without a fault leaves the text without one, and its effect is built.
 abbrev pub sound_after : List ℕ → Piece → State → State
 sound_after text p s = record {
   course = course_after p s.course;
@@ -65,18 +65,18 @@ read_sound text p s e h = go s.standing e
     go Faulty f = cc
     go Settled f = cc
 
--- the state after events without a fault, in order
+-- The state after events without a fault, in order.
 abbrev pub after_all : List ℕ → State → List (Event Piece) → State
 after_all text s [] = s
 after_all text s (Read p ∷ es) = after_all text (sound_after text p s) es
 after_all text s (Did m ∷ es) = after_all text s es
 
--- what holds of the pieces that are read
+-- The predicate holds of all tokens that are read.
 abbrev pub AllPieces : (Piece → Type 0) → List Piece → Type 0
 AllPieces Fine [] = ⊤
 AllPieces Fine (p ∷ ps) = Fine p × AllPieces Fine ps
 
--- along events without a fault the state is that one, and what each token keeps is kept
+-- Along events without a fault, the state is `after_all`, and a property that each token keeps is kept.
 pub silent_along : (text : List ℕ) (Fine : Piece → Type 0) (Good : State → Type 0)
     → ((p : Piece) (s : State) → Fine p → Good s → HasNone text p s → Good (sound_after text p s))
     → (es before : List (Event Piece)) (ts : List (Token Piece)) → read_in es ≡ pieces ts

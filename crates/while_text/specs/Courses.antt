@@ -1,4 +1,4 @@
--- What comes next in a while program: the part that is being read, by the tokens before it.
+-- The parser state of a while program without what has been built, by the tokens before it.
 use Rattle.std.specs.Prelude.{ℕ, ◌+◌, ◌-◌, ◌^◌, min, Bool, true, false, ◌==◌, ◌&&◌, not, if◌then◌else◌}
 use Rattle.while_text.specs.declared.piece.Sort.{Sort}
 use Rattle.while_text.specs.declared.piece.Sort.TheVariants as sorts
@@ -9,9 +9,9 @@ use Rattle.while_text.specs.declared.phase.Phase.{Phase}
 use Rattle.while_text.specs.declared.phase.Phase.TheVariants as phases
 use Rattle.while_text.specs.model.Programs.{Relation, AtLeast, MoreThan, AtMost, LessThan, EqualTo}
 
--- the part that is being read; of the expression that is being read, the number of tokens and of open brackets, and
--- whether the last token was `^`; the relation of the atom; and the number of rules up to here, with the position of the
--- last statement
+-- The part of the text that is being read; for the expression that is being read, the number of tokens, the number of
+-- open brackets, and whether the last token was `^`; the relation of the atom; the number of rules so far; and the
+-- position of the last statement.
 pub record Course : Type 0 where
   pub phase : Phase
   pub tokens : ℕ
@@ -21,7 +21,7 @@ pub record Course : Type 0 where
   pub rules : ℕ
   pub at : ℕ
 
--- nothing has been read
+-- The state before the first token.
 abbrev pub begun_course : Course
 begun_course = record {
   phase = phases.Inputs;
@@ -33,41 +33,41 @@ begun_course = record {
   at = 0;
 }
 
--- a sum as 64 bits hold it, or the greatest number that they hold
+-- The sum in 64 bits, or the greatest number of 64 bits if it is greater.
 abbrev pub plus : ℕ → ℕ → ℕ
 plus m n = min (m + n) (2 ^ 64 - 1)
 
--- whether a token of an expression is `^`
+-- Whether a token of this sort is `^`.
 abbrev pub is_caret : Sort → Bool
 is_caret sorts.Caret = true
 is_caret _ = false
 
--- whether an expression can end with such a token
+-- Whether an expression can end with a token of this sort.
 abbrev pub ends_operand : Sort → Bool
 ends_operand sorts.Name = true
 ends_operand (sorts.Number n) = true
 ends_operand sorts.Close = true
 ends_operand _ = false
 
--- whether what follows an operand continues its expression; after an exponent no `^` does
+-- Whether the follower of an operand continues its expression; after an exponent no `^` does.
 abbrev pub goes_on : Bool → Follower → Bool
 goes_on raised followers.Operator = true
 goes_on true followers.Caret = false
 goes_on false followers.Caret = true
 goes_on raised followers.Other = false
 
--- the number of open brackets of an expression after a token
+-- The number of open brackets of an expression after a token.
 abbrev pub depth_after : Sort → ℕ → ℕ
 depth_after sorts.Open depth = plus depth 1
 depth_after sorts.Close depth = depth - 1
 depth_after _ depth = depth
 
--- whether an expression ends with a token: its brackets are closed then, and what follows doesn't continue it
+-- Whether an expression ends with the token: its brackets are closed then, and the follower doesn't continue it.
 abbrev pub is_last : Piece → Course → Bool
 is_last p c =
     ends_operand p.sort && ((depth_after p.sort c.depth == 0) && not (goes_on c.raised p.follower))
 
--- the relation that a token is, or another one
+-- The relation of a token of this sort, or another one if it is none.
 abbrev pub relation_of : Sort → Relation → Relation
 relation_of sorts.AtLeast other = AtLeast
 relation_of sorts.MoreThan other = MoreThan
@@ -76,7 +76,7 @@ relation_of sorts.LessThan other = LessThan
 relation_of sorts.Equal other = EqualTo
 relation_of _ other = other
 
--- whether a token is a relation
+-- Whether a token of this sort is a relation.
 abbrev pub is_relation : Sort → Bool
 is_relation sorts.AtLeast = true
 is_relation sorts.MoreThan = true
@@ -85,7 +85,7 @@ is_relation sorts.LessThan = true
 is_relation sorts.Equal = true
 is_relation _ = false
 
--- how many negations a comparison has: that of an equation is `<`, and then `>`
+-- The number of negations of a comparison: those of an equation are `<`, and then `>`.
 abbrev pub negation_count : Relation → ℕ
 negation_count AtLeast = 1
 negation_count MoreThan = 1
@@ -93,11 +93,11 @@ negation_count AtMost = 1
 negation_count LessThan = 1
 negation_count EqualTo = 2
 
--- an expression begins with the next token
+-- The state before the first token of an expression.
 abbrev pub expression_begins : Phase → Course → Course
 expression_begins phase c = record c { phase = phase; tokens = 0; depth = 0; raised = false }
 
--- a token of an expression
+-- The state after a token of an expression.
 abbrev pub with_token : Sort → Course → Course
 with_token sort c = record c {
   tokens = plus c.tokens 1;
@@ -105,16 +105,16 @@ with_token sort c = record c {
   raised = is_caret sort;
 }
 
--- a statement begins, and with it its first rule
+-- The state after the first token of a statement, which adds its first rule.
 abbrev pub statement_begins : Phase → ℕ → Course → Course
 statement_begins phase at c = record c { phase = phase; rules = plus c.rules 1; at = at }
 
--- what comes next after a token among inputs, ..
+-- The state after a token among the inputs.
 abbrev pub after_input : Sort → Course → Course
 after_input sorts.Semicolon c = record c { phase = phases.Statements }
 after_input _ c = c
 
--- .. outside of the parts of statements, ..
+-- The state after a token outside of the parts of statements.
 abbrev pub after_statement : Sort → ℕ → Course → Course
 after_statement sorts.Name at c = statement_begins phases.Assignment at c
 after_statement sorts.Skip at c = statement_begins phases.Statements at c
@@ -122,24 +122,24 @@ after_statement sorts.While at c = statement_begins phases.Test at c
 after_statement sorts.If at c = statement_begins phases.Test at c
 after_statement _ at c = c
 
--- .. after the variable of an assignment, ..
+-- The state after a token that follows the variable of an assignment.
 abbrev pub after_variable : Sort → Course → Course
 after_variable sorts.Becomes c = expression_begins phases.Value c
 after_variable _ c = c
 
--- .. in the value of an assignment, ..
+-- The state after a token in the value of an assignment.
 abbrev pub after_value : Sort → Course → Course
 after_value sorts.Semicolon c = record c { phase = phases.Statements }
 after_value sorts.Question c = c
 after_value sort c = with_token sort c
 
--- .. in a test outside of its atoms, ..
+-- The state after a token in a test outside of its atoms.
 abbrev pub after_test : Sort → Course → Course
 after_test sorts.Open c = expression_begins phases.Left c
 after_test sorts.Joint c = expression_begins phases.Left c
 after_test _ c = c
 
--- .. in an atom up to its relation: `TRUE` is an atom by itself, ..
+-- The state after a token in an atom up to its relation; `TRUE` is an atom by itself.
 abbrev pub after_left_side : Sort → Course → Course
 after_left_side sort c =
     if is_relation sort
@@ -150,14 +150,15 @@ abbrev pub after_left : Sort → Course → Course
 after_left sorts.Truth c = record c { phase = phases.Test }
 after_left sort c = after_left_side sort c
 
--- .. and on the right side of an atom, with whose last token the atom ends; its negations are rules
+-- The state after a token on the right side of an atom. The atom ends with the last such token, and its negations are
+-- rules.
 abbrev pub after_right : Piece → Course → Course
 after_right p c =
     if is_last p c
     then record (with_token p.sort c) { phase = phases.Test; rules = plus c.rules (negation_count c.relation) }
     else with_token p.sort c
 
--- by the part that is being read
+-- The state after a token, by the part that is being read.
 abbrev pub after_phase : Phase → Piece → Course → Course
 after_phase phases.Inputs p c = after_input p.sort c
 after_phase phases.Statements p c = after_statement p.sort p.at c
@@ -167,23 +168,23 @@ after_phase phases.Test p c = after_test p.sort c
 after_phase phases.Left p c = after_left p.sort c
 after_phase phases.Right p c = after_right p c
 
--- whether a token opens a block
+-- Whether a token of this sort opens a block.
 abbrev pub opens_block : Sort → Bool
 opens_block sorts.BlockOpen = true
 opens_block _ = false
 
--- what comes next after a token: after `{` statements
+-- The state after a token; after `{`, statements follow.
 abbrev pub course_after : Piece → Course → Course
 course_after p c = if opens_block p.sort then record c { phase = phases.Statements } else after_phase c.phase p c
 
--- whether a test is being read
+-- Whether a test is being read.
 abbrev pub is_in_test : Phase → Bool
 is_in_test phases.Test = true
 is_in_test phases.Left = true
 is_in_test phases.Right = true
 is_in_test _ = false
 
--- whether an expression is being read
+-- Whether an expression is being read.
 abbrev pub is_in_expression : Phase → Bool
 is_in_expression phases.Value = true
 is_in_expression phases.Left = true

@@ -1,4 +1,4 @@
--- The grammar of while programs, and the classes of their pieces.
+-- The grammar of while programs, and the classes of their tokens.
 use Rattle.std.specs.Prelude.{ℕ, List, [], ◌∷◌, map, slice_index_or}
 use Rattle.text_grammar.specs.Grammars.{Grammar, rules_of}
 use Rattle.while_text.specs.declared.piece.Sort.{Sort}
@@ -7,7 +7,7 @@ use Rattle.while_text.specs.declared.piece.Follower.TheVariants as followers
 use Rattle.while_text.specs.declared.piece.Piece.{Piece}
 use Rattle.while_text.specs.declared.grammar.TheConstants.{CLASSES, ROUNDS, WHILE_GRAMMAR}
 
--- the class of a sort of pieces: all relations are of one class, and so is all that begins no piece
+-- The class of a sort of tokens: all relations have one class, and so do all bytes that begin no token.
 abbrev pub class_of_sort : Sort → ℕ
 class_of_sort sorts.Input = 0
 class_of_sort sorts.Skip = 1
@@ -38,22 +38,22 @@ class_of_sort sorts.Caret = 21
 class_of_sort sorts.Strange = 22
 class_of_sort sorts.Wrong = 22
 
--- the class of a piece
+-- The class of a token.
 abbrev pub class_of : Piece → ℕ
 class_of p = class_of_sort p.sort
 
--- a sort of each class, in their order
+-- A sort of each class, in the order of the classes.
 abbrev pub sample_sorts : List Sort
 sample_sorts =
     sorts.Input ∷ sorts.Skip ∷ sorts.While ∷ sorts.If ∷ sorts.Else ∷ sorts.Truth ∷ sorts.Name ∷ sorts.Number 0
     ∷ sorts.Becomes ∷ sorts.Question ∷ sorts.Semicolon ∷ sorts.Comma ∷ sorts.Open ∷ sorts.Close ∷ sorts.BlockOpen
     ∷ sorts.BlockClose ∷ sorts.Joint ∷ sorts.AtLeast ∷ sorts.Plus ∷ sorts.Minus ∷ sorts.Times ∷ sorts.Caret ∷ []
 
--- a piece of a sort, without a position
+-- A token of a sort, without a position.
 abbrev pub piece_of : Sort → Piece
 piece_of sort = record { sort = sort; at = 0; len = 0; follower = followers.Other }
 
--- the grammar
+-- The grammar of while programs.
 abbrev pub while_grammar : Grammar Piece
 while_grammar = record {
   rules = rules_of WHILE_GRAMMAR;

@@ -1,4 +1,4 @@
--- The tokens of a while program: the longest piece is taken, and white space may stand between pieces.
+-- The tokens of a while program: each is the longest possible one, and white space may come between tokens.
 use Rattle.std.specs.Prelude.{ℕ, ◌+◌, ◌-◌, ◌||◌, ◌==◌, nat_lt, if◌then◌else◌, List, [], ◌∷◌, length, drop}
 use Rattle.std.specs.Prelude.{codes, Option, Some, None}
 use Rattle.std.specs.Char.{is_ascii_digit}
@@ -14,11 +14,11 @@ use Rattle.while_text.specs.declared.piece.Follower.{Follower}
 use Rattle.while_text.specs.declared.piece.Follower.TheVariants as followers
 use Rattle.while_text.specs.declared.piece.Piece.{Piece}
 
--- a sort of piece, of this many bytes
+-- The lexeme of a token of this sort and number of bytes.
 abbrev pub lexeme : Sort → ℕ → Lexeme (Option Sort)
 lexeme sort len = record { piece = Some sort; len = len }
 
--- the keyword that a name is, or a name
+-- The keyword that a word is, or the sort of names.
 abbrev pub word_sort : List ℕ → Sort
 word_sort name =
     if is_same name (codes "input") then sorts.Input
@@ -29,11 +29,11 @@ word_sort name =
     else if is_same name (codes "TRUE") || is_same name (codes "true") then sorts.Truth
     else sorts.Name
 
--- a piece of two bytes, where the second one follows, or else of one
+-- The lexeme of a token of two bytes if the second one follows, and else that of the token of one byte.
 abbrev pub pair_or : ℕ → Sort → Sort → List ℕ → Lexeme (Option Sort)
 pair_or second two one bytes = if begins_with second bytes then lexeme two 2 else lexeme one 1
 
--- a byte that is a piece by itself; a byte over 127 and any other byte begin none
+-- The sort of a byte that is a token by itself; a byte over 127 and any other byte begin none.
 abbrev pub single_at : ℕ → Sort
 single_at b =
     if b == 63 then sorts.Question
@@ -50,7 +50,7 @@ single_at b =
     else if nat_lt 127 b then sorts.Strange
     else sorts.Wrong
 
--- what a byte begins that is neither white space nor begins a name or a number
+-- The lexeme of a byte that is neither white space nor begins a name or number.
 abbrev pub sign_at : ℕ → List ℕ → Lexeme (Option Sort)
 sign_at b bytes =
     if b == 58 then pair_or 61 sorts.Becomes sorts.Wrong bytes
@@ -61,7 +61,7 @@ sign_at b bytes =
     else if b == 61 then pair_or 61 sorts.Equal sorts.Equal bytes
     else lexeme (single_at b) 1
 
--- the longest name, and the longest row of digits, whose number counts up to 2^63
+-- The lexemes of the longest name, and of the longest row of digits, whose number counts up to 2^63.
 abbrev pub name_at : ℕ → List ℕ → Lexeme (Option Sort)
 name_at b bytes =
     lexeme (word_sort (b ∷ prefix continues_name bytes)) (length (b ∷ prefix continues_name bytes))
@@ -71,7 +71,7 @@ number_at b bytes =
     lexeme (sorts.Number (value_up_to (coefficient_limit + 1) (b ∷ prefix is_ascii_digit bytes)))
     (length (b ∷ prefix is_ascii_digit bytes))
 
--- what bytes begin with; white space begins no piece
+-- The lexeme at the beginning of bytes; white space is no token.
 abbrev pub sort_at : ℕ → List ℕ → Lexeme (Option Sort)
 sort_at b bytes =
     if is_white_space b then record { piece = None; len = 1 }
@@ -79,19 +79,19 @@ sort_at b bytes =
     else if is_ascii_digit b then number_at b bytes
     else sign_at b bytes
 
--- how a byte continues an expression
+-- How a byte continues an expression.
 abbrev pub follower_in : ℕ → Follower
 follower_in b =
     if (b == 43) || (b == 45) || (b == 42) then followers.Operator
     else if b == 94 then followers.Caret
     else followers.Other
 
--- how the next byte that is no white space continues an expression
+-- How the next byte that is no white space continues an expression.
 abbrev pub follower_of : List ℕ → Follower
 follower_of [] = followers.Other
 follower_of (b ∷ bytes) = if is_white_space b then follower_of bytes else follower_in b
 
--- the piece of a lexeme of these bytes, with which a text of n bytes ends
+-- The token of a lexeme of these bytes, which are the last ones of a text of n bytes.
 abbrev pub piece_in : ℕ → List ℕ → Lexeme (Option Sort) → Option Sort → Option Piece
 piece_in n bytes l None = None
 piece_in n bytes l (Some sort) = Some (record {
@@ -101,14 +101,14 @@ piece_in n bytes l (Some sort) = Some (record {
   follower = follower_of (drop l.len bytes);
 })
 
--- bytes with which a text ends, as a lexeme with a piece
+-- The lexeme with its token's position and follower, for the last bytes of a text of n bytes.
 abbrev pub pieced : ℕ → List ℕ → Lexeme (Option Sort) → Lexeme (Option Piece)
 pieced n bytes l = record { piece = piece_in n bytes l l.piece; len = l.len }
 
--- what bytes begin with, with which a text of n bytes ends
+-- The lexeme at the beginning of the last bytes of a text of n bytes.
 abbrev pub lexeme_at : ℕ → ℕ → List ℕ → Lexeme (Option Piece)
 lexeme_at n b bytes = pieced n (b ∷ bytes) (sort_at b bytes)
 
--- the tokens of a text
+-- The tokens of a text.
 abbrev pub tokens : List ℕ → List (Token Piece)
 tokens bytes = tokens_of (lexeme_at (length bytes)) bytes

@@ -1,4 +1,4 @@
--- what the contracts of this crate, and of those above it, cite
+-- The specs that contracts of this crate and of other crates cite.
 pub mod Lexing
 pub mod Within
 pub mod Grammar
@@ -8,7 +8,7 @@ pub mod Faults
 pub mod Reading
 pub mod Views
 pub mod Results
--- the crates below, which callers name through this one
+-- The crates below, which callers name through this one.
 pub use Rattle.while_tree.specs as while_tree
 pub use Rattle.while_tree.specs.while_model
 pub use Rattle.while_tree.specs.its_model

@@ -1,4 +1,4 @@
--- While programs as texts of their grammar: they are read token by token.
+-- While programs as texts of their grammar, read token by token.
 use Rattle.std.specs.Prelude.{◌≡◌, ℕ, ◌-◌, Bool, true, false, ◌||◌, if◌then◌else◌, is_some, List, [], ◌∷◌}
 use Rattle.std.specs.Prelude.{◌++◌, Option, Some, None}
 use Rattle.text_grammar.specs.text_core.Tokens.{Token}
@@ -19,32 +19,32 @@ use Rattle.while_text.specs.declared.phase.Standing.TheVariants.{Sound, Faulty, 
 use Rattle.while_text.specs.Grammar.{while_grammar}
 use Rattle.while_text.specs.Courses.{Course, begun_course, course_after, is_in_test}
 use Rattle.while_text.specs.Drafts.{Draft, begun_draft, draft_after}
-use Rattle.while_text.specs.Faults.{against_first, against_last, against_rules, number_of}
+use Rattle.while_text.specs.Faults.{fault_of_first, fault_of_last, fault_of_rules, number_of}
 
--- a while program as it is written: the names of its inputs, its statements, and the position of each statement
+-- A while program as it is written: the names of its inputs, its statements, and the position of each statement.
 pub record Source : Type 0 where
   pub names : List Name
   pub program : Statements
   pub at : List ℕ
 
--- what comes next, what has been made, and whether there has been a fault
+-- The parser state: the parts being read, the draft, and whether there has been a fault.
 pub record State : Type 0 where
   pub course : Course
   pub draft : Draft
   pub standing : Standing
 
--- nothing has been read
+-- The state before the first token.
 abbrev pub begun : State
 begun = record { course = begun_course; draft = begun_draft; standing = Sound }
 
--- whether a token has a fault
+-- Whether the token has a fault.
 abbrev pub has_fault : List ℕ → Piece → State → Bool
 has_fault text p s =
-    is_some (against_first text p s.course s.draft)
-    || (is_some (against_last text p s.course s.draft) || is_some (against_rules p s.course))
+    is_some (fault_of_first text p s.course s.draft)
+    || (is_some (fault_of_last text p s.course s.draft) || is_some (fault_of_rules p s.course))
 
--- whether there has been a fault after a token, where it has one or not, and a test is being read or not: in a test a
--- later fault can be reported at the first byte of the statement
+-- Whether the text has had a fault, after a token that has one or not, within a test or not: in a test a later fault
+-- can be reported at the first byte of the statement.
 abbrev pub standing_after : Standing → Bool → Bool → Standing
 standing_after Sound false in_test = Sound
 standing_after Sound true true = Faulty
@@ -53,13 +53,13 @@ standing_after Faulty fault true = Faulty
 standing_after Faulty fault false = Settled
 standing_after Settled fault in_test = Settled
 
--- once there has been a fault nothing more is made
+-- The draft after a token; it stays as it is once there has been a fault.
 abbrev pub draft_made : Standing → List ℕ → Piece → Course → Draft → Draft
 draft_made Sound text p c d = draft_after text p c d
 draft_made Faulty text p c d = d
 draft_made Settled text p c d = d
 
--- a token of a text is read
+-- The state after a token of a text.
 abbrev pub read : List ℕ → Piece → State → State
 read text p s = record {
   course = course_after p s.course;
@@ -67,32 +67,32 @@ read text p s = record {
   standing = standing_after s.standing (has_fault text p s) (is_in_test (course_after p s.course).phase);
 }
 
--- the state after events, of which the last one is first
+-- The state after events, of which the last one is first.
 abbrev pub state : List ℕ → List (Event Piece) → State
 state text [] = begun
 state text (Read p ∷ es) = read text p (state text es)
 state text (Did m ∷ es) = state text es
 
--- the faults of a token: after one in a test only that of the rules counts
+-- The faults of a token: after a fault in a test, only that of too many rules counts.
 abbrev pub faults_of : Standing → List ℕ → State → Token Piece → List (Fault Kind)
 faults_of Sound text s t =
-    refusals (against_first text t.piece s.course s.draft) t.at
-    ++ (refusals (against_last text t.piece s.course s.draft) (t.upto - 1)
-    ++ refusals (against_rules t.piece s.course) s.course.at)
-faults_of Faulty text s t = refusals (against_rules t.piece s.course) s.course.at
+    refusals (fault_of_first text t.piece s.course s.draft) t.at
+    ++ (refusals (fault_of_last text t.piece s.course s.draft) (t.upto - 1)
+    ++ refusals (fault_of_rules t.piece s.course) s.course.at)
+faults_of Faulty text s t = refusals (fault_of_rules t.piece s.course) s.course.at
 faults_of Settled text s t = []
 
--- no later fault has a lesser position than the next token once there has been one outside of a test
+-- The least position of a later fault: that of the next token once there has been a fault outside of a test.
 abbrev pub floor_of : Standing → ℕ → ℕ
 floor_of Sound at = 0
 floor_of Faulty at = 0
 floor_of Settled at = at
 
--- the program that was read
+-- The program that was read.
 abbrev pub source_in : Draft → Source
 source_in d = record { names = d.names; program = joined d.body; at = d.positions }
 
--- the kind of the fault of a token that can't follow, or of a text that ends too early
+-- The kind of refusal for a token that can't follow, or for a text that ends too early.
 abbrev pub off_sort : Sort → Kind
 off_sort sorts.Strange = NotAscii
 off_sort _ = Syntax
@@ -101,7 +101,7 @@ abbrev pub off : Option Piece → Kind
 off None = Syntax
 off (Some p) = off_sort p.sort
 
--- a text as one of a while program
+-- The text as one of a while program.
 abbrev pub while_text : List ℕ → Text Piece Source Kind
 while_text text = record {
   grammar = while_grammar;

@@ -1,4 +1,4 @@
--- Each piece of a while program has at least one byte, and no more than there are.
+-- Each token of a while program has at least one byte, and no more than the bytes left.
 use Rattle.std.proofs.Common.{◌≡◌, ℕ, ◌<◌, ◌≤◌, Bool, true, false, cond, List, [], ◌∷◌, length, length-append, ap, arith}
 use Rattle.std.specs.Prelude.{Option, Some, None, ◌==◌}
 use Rattle.std.specs.Char.{is_ascii_digit}
@@ -11,22 +11,22 @@ use Rattle.while_text.specs.declared.piece.Sort.{Sort}
 use Rattle.while_text.specs.declared.piece.Sort.TheVariants as sorts
 use Rattle.while_text.specs.Lexing.{lexeme, pair_or, single_at, sign_at, name_at, number_at, sort_at, lexeme_at}
 
--- a lexeme has a byte at least, and no more than this many
+-- A lexeme has at least one byte, and at most this many.
 abbrev Fits : ℕ → Lexeme (Option Sort) → Type 0
 Fits most l = (0 < l.len) × (l.len ≤ most)
 
--- one of two lexemes that fit, chosen by a test, fits
+-- A choice between two lexemes that fit fits.
 either_fits : (most : ℕ) (v : Bool) (a b : Lexeme (Option Sort)) → Fits most a → Fits most b → Fits most (cond v a b)
 either_fits most true a b h k = h
 either_fits most false a b h k = k
 
--- a byte and a prefix of the others are no more than all
+-- A byte and a prefix of the others are no more than all bytes.
 prefix_fits : (test : ℕ → Bool) (bytes : List ℕ) → length (prefix test bytes) ≤ length bytes
 prefix_fits test bytes =
     let e = length-append (prefix test bytes) (rest test bytes) in
     let f = ap length (prefix-rest test bytes) in omega (arith, e, f)
 
--- a piece of two bytes, or of one
+-- A token of two bytes, or of one, fits.
 pair_fits : (second : ℕ) (two one : Sort) (b : ℕ) (bytes : List ℕ)
     → Fits (length (b ∷ bytes)) (pair_or second two one bytes)
 pair_fits second two one b [] = (omega arith, omega arith)

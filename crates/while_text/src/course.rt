@@ -1,4 +1,4 @@
-//! What comes next in a while program, by the tokens before it.
+//! The parser state of a while program without what has been built: what can come next, by the tokens before it.
 
 ghost use Rattle.std.specs.Prelude.{◌≡◌};
 ghost use Rattle.its_model.specs.Views.{relation_of as relation_view};
@@ -10,8 +10,9 @@ use crate::piece::{Follower, Piece, Sort};
 use crate::sorts::{ends_operand, is_caret, is_relation, opens_block, relation_of};
 use its_model::Rel;
 
-/// The part of the text that is being read; of the expression that is being read, the number of tokens and of open
-/// brackets, and whether the last token was `^`; the relation of the atom; and the number of rules up to here, with the
+/// The part of the text that is being read; for the expression that is being read, the number of tokens, the number of
+/// open brackets, and whether the last token was `^`; the relation of the atom; the number of rules so far; and the
+/// position of the last statement.
 /// position of the last statement.
 #[derive(Clone, Copy, Debug, PartialEq, Eq)]
 pub struct Course {
@@ -24,7 +25,7 @@ pub struct Course {
     pub at: u64,
 }
 
-// Whether what follows an operand continues its expression; after an exponent no `^` does.
+// Whether the follower of an operand continues its expression; after an exponent no `^` does.
 fn goes_on(raised: bool, follower: Follower) -> bool
     ensures { result ≡ course.goes_on raised follower }
 {
@@ -71,7 +72,7 @@ pub fn is_in_expression(phase: Phase) -> bool
 }
 
 impl Course {
-    /// Nothing has been read.
+    /// The state before the first token.
     pub fn new() -> Course
         ensures { course_of result ≡ course.begun_course }
     {
@@ -86,7 +87,7 @@ impl Course {
         }
     }
 
-    /// Whether an expression ends with a token.
+    /// Whether an expression ends with the token.
     pub fn is_last(&self, piece: Piece) -> bool
         ensures { result ≡ course.is_last piece (course_of self.now) }
     {
@@ -95,7 +96,7 @@ impl Course {
             && !goes_on(self.raised, piece.follower)
     }
 
-    /// What comes next after a token.
+    /// The state after a token.
     pub fn after(self, piece: Piece) -> Course
         ensures { course_of result ≡ course.course_after piece (course_of self) }
     {
@@ -113,7 +114,7 @@ impl Course {
         }
     }
 
-    // Another part is read.
+    // The state with another part of the text being read.
     fn with_phase(self, phase: Phase) -> Course
         ensures { course_of result ≡ record (course_of self) { phase = phase } }
     {
@@ -122,7 +123,7 @@ impl Course {
         course
     }
 
-    // An expression begins with the next token.
+    // The state before the first token of an expression.
     fn expression_begins(self, phase: Phase) -> Course
         ensures { course_of result ≡ course.expression_begins phase (course_of self) }
     {
@@ -134,7 +135,7 @@ impl Course {
         course
     }
 
-    // A token of an expression.
+    // The state after a token of an expression.
     fn with_token(self, sort: Sort) -> Course
         ensures { course_of result ≡ course.with_token sort (course_of self) }
     {
@@ -145,7 +146,7 @@ impl Course {
         course
     }
 
-    // A statement begins, and with it its first rule.
+    // The state after the first token of a statement, which adds its first rule.
     fn statement_begins(self, phase: Phase, at: u64) -> Course
         ensures { course_of result ≡ course.statement_begins phase at (course_of self) }
     {
@@ -156,7 +157,7 @@ impl Course {
         course
     }
 
-    // After a token among inputs.
+    // The state after a token among the inputs.
     fn after_input(self, sort: Sort) -> Course
         ensures { course_of result ≡ course.after_input sort (course_of self) }
     {
@@ -166,7 +167,7 @@ impl Course {
         }
     }
 
-    // After a token outside of the parts of statements.
+    // The state after a token outside of the parts of statements.
     fn after_statement(self, sort: Sort, at: u64) -> Course
         ensures { course_of result ≡ course.after_statement sort at (course_of self) }
     {
@@ -178,7 +179,7 @@ impl Course {
         }
     }
 
-    // After a token behind the variable of an assignment.
+    // The state after a token that follows the variable of an assignment.
     fn after_variable(self, sort: Sort) -> Course
         ensures { course_of result ≡ course.after_variable sort (course_of self) }
     {
@@ -188,7 +189,7 @@ impl Course {
         }
     }
 
-    // After a token in the value of an assignment.
+    // The state after a token in the value of an assignment.
     fn after_value(self, sort: Sort) -> Course
         ensures { course_of result ≡ course.after_value sort (course_of self) }
     {
@@ -199,7 +200,7 @@ impl Course {
         }
     }
 
-    // After a token in a test outside of its atoms.
+    // The state after a token in a test outside of its atoms.
     fn after_test(self, sort: Sort) -> Course
         ensures { course_of result ≡ course.after_test sort (course_of self) }
     {
@@ -209,7 +210,7 @@ impl Course {
         }
     }
 
-    // After a token in an atom up to its relation.
+    // The state after a token in an atom up to its relation.
     fn after_left(self, sort: Sort) -> Course
         ensures { course_of result ≡ course.after_left sort (course_of self) }
     {
@@ -219,7 +220,7 @@ impl Course {
         }
     }
 
-    // After a token in an atom that isn't `TRUE`.
+    // The state after a token of the left side of a comparison, or after its relation.
     fn after_left_side(self, sort: Sort) -> Course
         ensures { course_of result ≡ course.after_left_side sort (course_of self) }
     {
@@ -232,7 +233,7 @@ impl Course {
         }
     }
 
-    // After a token on the right side of an atom.
+    // The state after a token on the right side of an atom.
     fn after_right(self, piece: Piece) -> Course
         ensures { course_of result ≡ course.after_right piece (course_of self) }
     {

@@ -1,4 +1,4 @@
-//! What has been made of a while program up to a token.
+//! The part of a while program that has been built up to a token.
 
 ghost use Rattle.std.specs.Prelude.{◌≡◌, ◌∷◌, ◌++◌, [], if◌then◌else◌, None, IfOk, OnOk};
 ghost use Rattle.while_tree.specs.while_model.Statements.{Assign, Choose};
@@ -6,13 +6,14 @@ ghost use Rattle.while_tree.specs.Views.{Plain, stmt_of};
 ghost use Rattle.poly_terms.specs.Views.{term_of};
 ghost use Rattle.while_text.specs.Drafts as drafts;
 ghost use Rattle.while_text.specs.Courses.{is_last};
-ghost use Rattle.while_text.specs.Faults.{against_last, against_value, against_atom};
-ghost use Rattle.while_text.specs.declared.draft.Opener.TheVariants as opener;
+ghost use Rattle.while_text.specs.Faults.{fault_of_last, against_value, fault_in_atom};
+ghost use Rattle.while_text.specs.declared.block.Opener.TheVariants as opener;
 ghost use Rattle.while_text.specs.Views.{block_of, course_of, draft_of};
 
+use crate::block::{Block, Opener, assignment};
 use crate::course::Course;
 use crate::forms::{forms_fault, value_fault};
-use crate::front::{ended, no_expression, read_token};
+use crate::grammar_state::{ended, no_expression, read_token};
 use crate::kind::Kind;
 use crate::names::{bytes_of, number_of};
 use crate::phase::Phase;
@@ -25,27 +26,7 @@ use std::alloc::Global;
 use std::mem::replace;
 use while_tree::Stmt;
 
-/// What the next block is: outside of tests it is the second one of a branch.
-#[derive(Clone, Copy, Debug, PartialEq, Eq)]
-pub enum Opener {
-    /// The block of a loop.
-    Loop,
-    /// The first block of a branch.
-    First,
-    /// The second block of a branch.
-    Second,
-}
-
-/// An open block, with its test and the statements before its own statement.
-#[derive(Drop)]
-pub enum Block {
-    InLoop(Vec<Atom>, Vec<Stmt>),
-    InFirst(Vec<Atom>, Vec<Stmt>),
-    /// A second block, with the first one between the test and the statements before.
-    InSecond(Vec<Atom>, Vec<Stmt>, Vec<Stmt>),
-}
-
-/// What has been made up to a token.
+/// The part of a program that has been built up to a token.
 #[derive(Drop)]
 pub struct Draft {
     /// The inputs.
@@ -54,12 +35,12 @@ pub struct Draft {
     pub variable: u32,
     pub chosen: bool,
     /// The expression that is being read, and the last one that ended a value.
-    pub front: Expression,
+    pub grammar_state: Expression,
     pub value: Expr,
     /// The left side of the atom, and the atoms of the test.
     pub left: Expr,
     pub test: Vec<Atom>,
-    /// What the next block is, and the open ones, the innermost last.
+    /// The kind of the next block, and the open blocks, the innermost last.
     pub opener: Opener,
     pub blocks: Vec<Block>,
     /// The statements of the innermost block so far.
@@ -68,20 +49,8 @@ pub struct Draft {
     pub positions: Vec<u64>,
 }
 
-// An assignment of a value, or of any integer.
-fn assignment(chosen: bool, variable: u32, value: Expr) -> Stmt
-    ensures { stmt_of result
-        ≡ Plain (if chosen then Choose variable else Assign variable (term_of value)) }
-{
-    if chosen {
-        Stmt::Any(variable)
-    } else {
-        Stmt::Assign(variable, value)
-    }
-}
-
 impl Draft {
-    /// Nothing has been read.
+    /// The state before the first token.
     pub fn new(alloc: Global) -> Draft
         ensures { draft_of result ≡ drafts.begun_draft }
     {
@@ -89,7 +58,7 @@ impl Draft {
             names: Vec::new(alloc),
             variable: 0,
             chosen: false,
-            front: no_expression(alloc),
+            grammar_state: no_expression(alloc),
             value: Expr::Num(0),
             left: Expr::Num(0),
             test: Vec::new(alloc),
@@ -100,11 +69,11 @@ impl Draft {
         }
     }
 
-    /// Reads a token of a text, and returns the fault of the value or of the atom that ends with it, if it has one.
+    /// Reads a token of a text, and returns the fault of the value or atom that ends with it, if it has one.
     ///
     /// # Errors
     ///
-    /// `Memory` where an allocation fails.
+    /// `Memory` if an allocation fails.
     pub fn take(
         &mut self,
         alloc: Global,
@@ -114,7 +83,7 @@ impl Draft {
     ) -> Result<Option<Kind>, Memory>
         ensures made { OnOk result (draft_of self.new
             ≡ drafts.draft_after text.now piece (course_of course) (draft_of self.old)) }
-        ensures fault { IfOk result (λ kind. kind ≡ against_last text.now piece (course_of course) (draft_of self.old)) }
+        ensures fault { IfOk result (λ kind. kind ≡ fault_of_last text.now piece (course_of course) (draft_of self.old)) }
     {
         if opens_block(piece.sort) {
             self.open_block(alloc)?;
@@ -132,7 +101,7 @@ impl Draft {
         Ok(None)
     }
 
-    // A token among inputs.
+    // Reads a token among the inputs.
     fn take_input(&mut self, alloc: Global, text: &[u8], piece: Piece) -> Result<(), Memory>
         ensures { OnOk result (draft_of self.new
             ≡ drafts.made_of_input text.now piece piece.sort (draft_of self.old)) }
@@ -147,7 +116,7 @@ impl Draft {
         Ok(())
     }
 
-    // A token outside of the parts of statements.
+    // Reads a token outside of the parts of statements.
     fn take_statement(&mut self, alloc: Global, text: &[u8], piece: Piece) -> Result<(), Memory>
         ensures { OnOk result (draft_of self.new
             ≡ drafts.made_of_statement text.now piece piece.sort (draft_of self.old)) }
@@ -169,7 +138,7 @@ impl Draft {
         Ok(())
     }
 
-    // A statement with a test begins.
+    // Begins a statement with a test.
     fn begin_test(&mut self, alloc: Global, opener: Opener, at: u64) -> Result<(), Memory>
         ensures { OnOk result (draft_of self.new ≡ drafts.begins_test opener at (draft_of self.old)) }
     {
@@ -179,13 +148,13 @@ impl Draft {
         Ok(())
     }
 
-    // A token after the variable of an assignment.
+    // Reads a token after the variable of an assignment.
     fn take_variable_sign(&mut self, alloc: Global, sort: Sort)
         ensures { draft_of self.new ≡ drafts.made_of_variable sort (draft_of self.old) }
     {
         match sort {
             Sort::Becomes => {
-                self.front = no_expression(alloc);
+                self.grammar_state = no_expression(alloc);
                 self.chosen = false;
             }
             _ => {}
@@ -195,13 +164,13 @@ impl Draft {
     // Reads a token of an expression.
     fn read_token(&mut self, alloc: Global, text: &[u8], piece: Piece) -> Result<(), Memory>
         ensures { OnOk result (draft_of self.new
-            ≡ record (draft_of self.old) { front = drafts.with_token text.now piece (draft_of self.old) }) }
+            ≡ record (draft_of self.old) { grammar_state = drafts.with_token text.now piece (draft_of self.old) }) }
     {
         let variable = number_of(&self.names, bytes_of(text, piece));
-        read_token(alloc, &mut self.front, variable, piece.sort)
+        read_token(alloc, &mut self.grammar_state, variable, piece.sort)
     }
 
-    // A token in the value of an assignment.
+    // Reads a token in the value of an assignment, and returns the fault of a value that ends with it, if it has one.
     fn take_value(
         &mut self,
         alloc: Global,
@@ -227,7 +196,7 @@ impl Draft {
         }
     }
 
-    // A token of the value of an assignment.
+    // Reads a token of the value of an assignment.
     fn take_value_token(
         &mut self,
         alloc: Global,
@@ -244,13 +213,13 @@ impl Draft {
         if !course.is_last(piece) {
             return Ok(None);
         }
-        let value = ended(alloc, &mut self.front)?;
+        let value = ended(alloc, &mut self.grammar_state)?;
         let kind = value_fault(alloc, &value)?;
         self.value = value;
         Ok(kind)
     }
 
-    // An assignment ends.
+    // Ends an assignment.
     fn end_assignment(&mut self) -> Result<(), Memory>
         ensures { OnOk result (draft_of self.new ≡ drafts.assignment_ends (draft_of self.old)) }
     {
@@ -260,17 +229,17 @@ impl Draft {
         Ok(())
     }
 
-    // A token in a test outside of its atoms.
+    // Reads a token in a test outside of its atoms.
     fn take_test(&mut self, alloc: Global, sort: Sort)
         ensures { draft_of self.new ≡ drafts.made_of_test sort (draft_of self.old) }
     {
         match sort {
-            Sort::Open | Sort::Joint => self.front = no_expression(alloc),
+            Sort::Open | Sort::Joint => self.grammar_state = no_expression(alloc),
             _ => {}
         }
     }
 
-    // A token in an atom up to its relation.
+    // Reads a token in an atom up to its relation.
     fn take_left(&mut self, alloc: Global, text: &[u8], piece: Piece) -> Result<(), Memory>
         ensures { OnOk result (draft_of self.new
             ≡ drafts.made_of_left text.now piece piece.sort (draft_of self.old)) }
@@ -284,20 +253,20 @@ impl Draft {
         }
     }
 
-    // A token in an atom that isn't `TRUE`.
+    // Reads a token of the left side of a comparison, or its relation.
     fn take_left_side(&mut self, alloc: Global, text: &[u8], piece: Piece) -> Result<(), Memory>
         ensures { OnOk result (draft_of self.new
             ≡ drafts.made_of_left_side text.now piece (draft_of self.old)) }
     {
         if is_relation(piece.sort) {
-            self.left = ended(alloc, &mut self.front)?;
+            self.left = ended(alloc, &mut self.grammar_state)?;
             Ok(())
         } else {
             self.read_token(alloc, text, piece)
         }
     }
 
-    // A token on the right side of an atom.
+    // Reads a token on the right side of an atom, and returns the fault of an atom that ends with it, if it has one.
     fn take_right(
         &mut self,
         alloc: Global,
@@ -308,13 +277,13 @@ impl Draft {
         ensures made { OnOk result (draft_of self.new
             ≡ drafts.made_of_right text.now piece (course_of course) (draft_of self.old)) }
         ensures fault { IfOk result (λ kind. kind
-            ≡ against_atom text.now piece (course_of course) (draft_of self.old)) }
+            ≡ fault_in_atom text.now piece (course_of course) (draft_of self.old)) }
     {
         self.read_token(alloc, text, piece)?;
         if !course.is_last(piece) {
             return Ok(None);
         }
-        let right = ended(alloc, &mut self.front)?;
+        let right = ended(alloc, &mut self.grammar_state)?;
         let left = replace(&mut self.left, Expr::Num(0));
         let kind = forms_fault(alloc, &left, course.relation, &right)?;
         let rel = course.relation;
@@ -322,7 +291,7 @@ impl Draft {
         Ok(kind)
     }
 
-    // A block opens.
+    // Opens a block.
     fn open_block(&mut self, alloc: Global) -> Result<(), Memory>
         ensures { OnOk result (draft_of self.new
             ≡ drafts.block_opens (draft_of self.old).opener (draft_of self.old)) }
@@ -334,7 +303,7 @@ impl Draft {
         }
     }
 
-    // A block is innermost from now on.
+    // Makes a block the innermost one.
     fn push_block(&mut self, alloc: Global, block: Block) -> Result<(), Memory>
         ensures { OnOk result (draft_of self.new ≡ drafts.with_block (block_of block) (draft_of self.old)) }
     {
@@ -345,7 +314,7 @@ impl Draft {
         Ok(())
     }
 
-    // The block of a loop opens.
+    // Opens the block of a loop.
     fn open_loop(&mut self, alloc: Global) -> Result<(), Memory>
         ensures { OnOk result (draft_of self.new ≡ drafts.block_opens opener.Loop (draft_of self.old)) }
     {
@@ -354,7 +323,7 @@ impl Draft {
         self.push_block(alloc, Block::InLoop(test, before))
     }
 
-    // The first block of a branch opens.
+    // Opens the first block of a branch.
     fn open_first(&mut self, alloc: Global) -> Result<(), Memory>
         ensures { OnOk result (draft_of self.new ≡ drafts.block_opens opener.First (draft_of self.old)) }
     {
@@ -363,7 +332,7 @@ impl Draft {
         self.push_block(alloc, Block::InFirst(test, before))
     }
 
-    // The second block of a branch opens, which was read without it.
+    // Opens the second block of a branch that was read without it.
     fn open_second(&mut self, alloc: Global) -> Result<(), Memory>
         ensures { OnOk result (draft_of self.new ≡ drafts.block_opens opener.Second (draft_of self.old)) }
     {
@@ -373,7 +342,7 @@ impl Draft {
         Ok(())
     }
 
-    // A branch that was the last statement is open again, with its second block; another statement stays the last one.
+    // Takes the last statement: a branch is opened again for its second block; any other statement is put back.
     fn reopen(&mut self, alloc: Global, last: Stmt) -> Result<(), Memory>
         ensures { OnOk result (draft_of self.new ≡ drafts.reopened (stmt_of last) (draft_of self.old)) }
     {
@@ -390,7 +359,7 @@ impl Draft {
         Ok(())
     }
 
-    // A block closes.
+    // Closes the innermost block, if one is open.
     fn close_block(&mut self, alloc: Global) -> Result<(), Memory>
         ensures { OnOk result (draft_of self.new
             ≡ drafts.block_closes (drafts.last_of (draft_of self.old).blocks) (draft_of self.old)) }
@@ -401,7 +370,7 @@ impl Draft {
         Ok(())
     }
 
-    // The statement of a block that has closed comes behind those before it.
+    // Appends the statement of a block that has closed to those before it.
     fn close(&mut self, alloc: Global, block: Block) -> Result<(), Memory>
         ensures { OnOk result (draft_of self.new ≡ drafts.closed (block_of block) (draft_of self.old)) }
     {

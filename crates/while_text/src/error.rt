@@ -16,11 +16,11 @@ pub enum WhileError {
     /// The byte at this position is over 127.
     #[error("not ASCII at {at}")]
     NotAscii { at: u64 },
-    /// The token at this position can't follow, or the text ends here too early.
+    /// The token at this position can't follow, or the text ends there too early.
     #[error("syntax at {at}")]
     Syntax { at: u64 },
-    /// The number at this position is over 2^63-1, or the value or the atom whose last byte this is has a form with such
-    /// a coefficient.
+    /// The number at this position is over 2^63-1, or the value or atom whose last byte is at this position has a form
+    /// with such a coefficient.
     #[error("number too large at {at}")]
     NumberTooLarge { at: u64 },
     /// The name at this position is no input.
@@ -29,7 +29,7 @@ pub enum WhileError {
     /// The input at this position has the name of an earlier one.
     #[error("repeated name at {at}")]
     RepeatedName { at: u64 },
-    /// The text passes a limit at this position.
+    /// The text exceeds a limit at this position.
     #[error("limit at {at}")]
     Limit { kind: WhileKind, at: u64 },
     /// Memory ran out.
@@ -54,7 +54,7 @@ impl<T: Drop> From<AllocFailed<T>> for WhileError {
 }
 
 impl WhileError {
-    /// The error of a refusal of a kind at a position.
+    /// The error for a refusal of this kind at this position.
     pub fn of(kind: Kind, at: u64) -> WhileError
         ensures { refusal_in result ≡ Some (record { kind = kind; at = at }) }
     {

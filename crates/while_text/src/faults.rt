@@ -23,14 +23,14 @@ use text_grammar::Fault;
 /// The greatest number of open blocks.
 pub const DEPTH_LIMIT: usize = 64;
 
-// A kind, where a test passes.
+// The kind, if the test holds.
 fn when(test: bool, kind: Kind) -> Option<Kind>
     ensures { result ≡ when_at test kind }
 {
     if test { Some(kind) } else { None }
 }
 
-// The first of two kinds, where there are both.
+// The first of two kinds, or the other one if there is no first.
 fn or_kind(first: Option<Kind>, other: Option<Kind>) -> Option<Kind>
     ensures { result ≡ faults.or_kind first other }
 {
@@ -40,7 +40,7 @@ fn or_kind(first: Option<Kind>, other: Option<Kind>) -> Option<Kind>
     }
 }
 
-// Whether a part of a text is the inputs.
+// Whether the part of the text that is being read is the inputs.
 fn is_inputs(phase: Phase) -> bool
     ensures { result ≡ faults.is_inputs phase }
 {
@@ -67,9 +67,9 @@ fn begins_statement(phase: Phase, sort: Sort) -> bool
     }
 }
 
-// The fault of a name.
-fn against_name(text: &[u8], piece: Piece, course: &Course, draft: &Draft) -> Option<Kind>
-    ensures { result ≡ faults.against_name text.now piece (course_of course.now) (draft_of draft.now) }
+// The fault of a name: it is no input, is a repeated input, or is too long.
+fn fault_of_name(text: &[u8], piece: Piece, course: &Course, draft: &Draft) -> Option<Kind>
+    ensures { result ≡ faults.fault_of_name text.now piece (course_of course.now) (draft_of draft.now) }
 {
     if !is_name(piece.sort) {
         return None;
@@ -83,9 +83,9 @@ fn against_name(text: &[u8], piece: Piece, course: &Course, draft: &Draft) -> Op
     or_kind(unknown, or_kind(repeated, long))
 }
 
-// The fault of a token of an expression, or of an atom, that is one too many.
-fn against_token(piece: Piece, course: &Course, draft: &Draft) -> Option<Kind>
-    ensures { result ≡ faults.against_token piece (course_of course.now) (draft_of draft.now) }
+// The fault of a token too many in an expression, or of an atom too many.
+fn fault_of_token(piece: Piece, course: &Course, draft: &Draft) -> Option<Kind>
+    ensures { result ≡ faults.fault_of_token piece (course_of course.now) (draft_of draft.now) }
 {
     let in_sum = is_in_expression(course.phase) && is_in_sums(piece.sort);
     let many_tokens = in_sum && course.tokens >= TOKEN_LIMIT as u64;
@@ -96,9 +96,9 @@ fn against_token(piece: Piece, course: &Course, draft: &Draft) -> Option<Kind>
     )
 }
 
-// The fault of an input, an open block or a statement that is one too many.
-fn against_count(piece: Piece, course: &Course, draft: &Draft) -> Option<Kind>
-    ensures { result ≡ faults.against_count piece (course_of course.now) (draft_of draft.now) }
+// The fault of an input, an open block or a statement too many.
+fn fault_of_count(piece: Piece, course: &Course, draft: &Draft) -> Option<Kind>
+    ensures { result ≡ faults.fault_of_count piece (course_of course.now) (draft_of draft.now) }
 {
     let many_inputs = is_inputs(course.phase)
         && is_name(piece.sort)
@@ -115,15 +115,15 @@ fn against_count(piece: Piece, course: &Course, draft: &Draft) -> Option<Kind>
     )
 }
 
-/// The fault that is reported at the first byte of a token: of several kinds the one with the least number.
-pub fn against_first(text: &[u8], piece: Piece, course: &Course, draft: &Draft) -> Option<Kind>
-    ensures { result ≡ faults.against_first text.now piece (course_of course.now) (draft_of draft.now) }
+/// The fault that is reported at the first byte of a token; of several kinds it is the one with the least number.
+pub fn fault_of_first(text: &[u8], piece: Piece, course: &Course, draft: &Draft) -> Option<Kind>
+    ensures { result ≡ faults.fault_of_first text.now piece (course_of course.now) (draft_of draft.now) }
 {
     let large = when(is_large(piece.sort), Kind::NumberTooLarge);
-    let named = against_name(text, piece, course, draft);
+    let named = fault_of_name(text, piece, course, draft);
     let counted = or_kind(
-        against_token(piece, course, draft),
-        against_count(piece, course, draft),
+        fault_of_token(piece, course, draft),
+        fault_of_count(piece, course, draft),
     );
     or_kind(large, or_kind(named, counted))
 }
@@ -138,17 +138,17 @@ fn ends_atom(piece: Piece, course: &Course) -> bool
     }
 }
 
-/// The fault that is reported at the first byte of the statement: with the negations of the atom that ends with a token
-/// it has too many rules.
-pub fn against_rules(piece: Piece, course: &Course) -> Option<Kind>
-    ensures { result ≡ faults.against_rules piece (course_of course.now) }
+/// The fault that is reported at the first byte of the statement: with the negations of the atom that ends with the
+/// token, it has too many rules.
+pub fn fault_of_rules(piece: Piece, course: &Course) -> Option<Kind>
+    ensures { result ≡ faults.fault_of_rules piece (course_of course.now) }
 {
     let rules = course.rules.saturating_add(negation_count(course.relation));
     let passes = ends_atom(piece, course) && rules > RULE_LIMIT as u64;
     when(passes, Kind::Limit(WhileKind::Rules))
 }
 
-/// The number of a kind: of two kinds at one position the one with the lesser number is reported.
+/// The number of a kind: of two kinds at one position, the one with the lower number is reported.
 pub fn number_of(kind: Kind) -> u32
     ensures { result ≡ faults.number_of kind }
 {
@@ -179,7 +179,7 @@ pub fn fault_at(kind: Option<Kind>, at: u64) -> Option<Fault<Kind>>
     }
 }
 
-// The first of two faults.
+// The first of two faults, by position and then by kind.
 fn first_of(best: Fault<Kind>, other: Fault<Kind>) -> Fault<Kind>
     ensures { (text : List ℕ) → refusal_of result
         ≡ first_at (reader (while_text text)) (Some (refusal_of best)) (refusal_of other) }
@@ -189,7 +189,7 @@ fn first_of(best: Fault<Kind>, other: Fault<Kind>) -> Fault<Kind>
     if nearer || lesser { other } else { best }
 }
 
-/// The first of two faults, where there are both.
+/// The first of two optional faults; none if both are absent.
 pub fn first_fault(best: Option<Fault<Kind>>, other: Option<Fault<Kind>>) -> Option<Fault<Kind>>
     ensures { (text : List ℕ) → fault_of result ≡ first_of_two (while_text text) (fault_of best) (fault_of other) }
 {

@@ -1,4 +1,4 @@
-//! The faults of values and of atoms: whether their forms can be expanded.
+//! The faults of values and atoms: whether their forms can be expanded.
 
 ghost use Rattle.std.specs.Prelude.{◌≡◌, IfOk, Option, pos};
 ghost use Rattle.model.specs.Programs.{Compare};
@@ -17,7 +17,7 @@ use its_model::Rel;
 use poly_terms::{Expr, Memory, PolyError, expand_difference, expand_strict_difference};
 use std::alloc::{AllocError, Global};
 
-// The kind of a fault.
+// The kind of refusal for a fault of an expansion.
 fn kind_in(fault: Option<Unexpanded>) -> Option<Kind>
     ensures { result ≡ faults.kind_in (fault_of fault) }
 {
@@ -41,7 +41,7 @@ fn fault_in(error: PolyError) -> Result<Option<Unexpanded>, Memory>
     }
 }
 
-// The first of two faults, where there are both.
+// The first of two faults, or the other one if there is no first.
 fn or_other(first: Option<Unexpanded>, other: Option<Unexpanded>) -> Option<Unexpanded>
     ensures { fault_of result ≡ or_else (fault_of first) (fault_of other) }
 {
@@ -51,7 +51,7 @@ fn or_other(first: Option<Unexpanded>, other: Option<Unexpanded>) -> Option<Unex
     }
 }
 
-// The lesser one of two faults, where there are both.
+// The lesser of two optional faults; none if both are absent.
 fn lesser(one: Option<Unexpanded>, other: Option<Unexpanded>) -> Option<Unexpanded>
     ensures { fault_of result ≡ faults.lesser (fault_of one) (fault_of other) }
 {
@@ -71,7 +71,7 @@ fn lesser(one: Option<Unexpanded>, other: Option<Unexpanded>) -> Option<Unexpand
 ///
 /// # Errors
 ///
-/// `Memory` where an allocation fails.
+/// `Memory` if an allocation fails.
 pub fn value_fault(alloc: Global, value: &Expr) -> Result<Option<Kind>, Memory>
     ensures { IfOk result (λ kind. kind ≡ faults.kind_in (first_fault (term_of value.now))) }
 {
@@ -88,7 +88,7 @@ fn difference_fault(alloc: Global, d: &Expr, e: &Expr) -> Result<Option<Unexpand
     }
 }
 
-// The fault of the difference of two expressions and 1.
+// The fault of the difference of two expressions plus 1.
 fn strict_fault(alloc: Global, d: &Expr, e: &Expr) -> Result<Option<Unexpanded>, Memory>
     ensures { IfOk result (λ fault. fault_of fault
         ≡ first_fault (Subtraction (Subtraction (term_of d.now) (term_of e.now)) (Literal (pos 1)))) }
@@ -122,7 +122,7 @@ fn atom_fault(
     }
 }
 
-// The fault of the negations of an atom.
+// The least fault of the negations of an atom.
 fn negations_fault(
     alloc: Global,
     left: &Expr,
@@ -145,11 +145,11 @@ fn negations_fault(
     }
 }
 
-/// The kind of the fault of the forms of an atom, if it has one: of its own one and of those of its negations.
+/// The kind of the fault of the forms of an atom, if it has one: the atom's own form and those of its negations.
 ///
 /// # Errors
 ///
-/// `Memory` where an allocation fails.
+/// `Memory` if an allocation fails.
 pub fn forms_fault(
     alloc: Global,
     left: &Expr,

@@ -1,4 +1,4 @@
-//! The grammar of while programs, over their pieces.
+//! The grammar of while programs, over their tokens.
 
 use class::{
     BECOMES, BLOCK_CLOSE, BLOCK_OPEN, CARET, CLOSE, COMMA, ELSE, IF, INPUT, JOINT, MINUS, NAME,
@@ -6,7 +6,7 @@ use class::{
 };
 use text_grammar::Item::{self, AMade, APiece, End, Or};
 
-/// The classes of pieces; what begins no piece is of the class after these.
+/// The classes of tokens; a byte that begins no token has the class after these.
 #[rattlefmt::skip]
 pub mod class {
     pub const INPUT: u32 = 0; pub const SKIP: u32 = 1; pub const WHILE: u32 = 2; pub const IF: u32 = 3;
@@ -18,7 +18,7 @@ pub mod class {
     pub const CARET: u32 = 21;
 }
 
-/// The number of classes of pieces.
+/// The number of classes of tokens.
 pub const CLASSES: u32 = 23;
 /// The number of rounds after which no entry of the table changes.
 pub const ROUNDS: u32 = 6;
@@ -56,27 +56,27 @@ const EXPONENT: u32 = 15;
 
 const BASE: u32 = 16;
 
-/// The rules. They have no marks: what a token does follows from the tokens before it.
+/// The rules. They have no marks: the effect of a token follows from the tokens before it.
 #[rattlefmt::skip]
 pub const WHILE_GRAMMAR: [Item; 101] = [
-    // text, more
+    // The rules of: text, more inputs.
     APiece(INPUT), APiece(NAME), AMade(MORE), AMade(STATEMENT), AMade(STATEMENTS), End,
     APiece(COMMA), APiece(NAME), AMade(MORE), Or, APiece(SEMICOLON), End,
-    // statements, statement
+    // The rules of: statements, statement.
     AMade(STATEMENT), AMade(STATEMENTS), Or, End,
     APiece(NAME), APiece(BECOMES), AMade(VALUE), APiece(SEMICOLON), Or,
     APiece(SKIP), APiece(SEMICOLON), Or,
     APiece(WHILE), APiece(OPEN), AMade(ATOMS), APiece(CLOSE), AMade(BLOCK), Or,
     APiece(IF), APiece(OPEN), AMade(ATOMS), APiece(CLOSE), AMade(BLOCK), AMade(OTHER), End,
-    // value, other, block
+    // The rules of: value, other branch, block.
     APiece(QUESTION), Or, AMade(SUM), End,
     APiece(ELSE), AMade(BLOCK), Or, End,
     APiece(BLOCK_OPEN), AMade(STATEMENTS), APiece(BLOCK_CLOSE), End,
-    // atoms, more atoms, atom
+    // The rules of: atoms, more atoms, atom.
     AMade(ATOM), AMade(MORE_ATOMS), End,
     APiece(JOINT), AMade(ATOM), AMade(MORE_ATOMS), Or, End,
     APiece(TRUTH), Or, AMade(SUM), APiece(RELATION), AMade(SUM), End,
-    // sum, more products, product, more factors, factor, exponent, base
+    // The rules of: sum, more products, product, more factors, factor, exponent, base.
     AMade(PRODUCT), AMade(MORE_PRODUCTS), End,
     APiece(PLUS), AMade(PRODUCT), AMade(MORE_PRODUCTS), Or, APiece(MINUS), AMade(PRODUCT), AMade(MORE_PRODUCTS), Or, End,
     AMade(FACTOR), AMade(MORE_FACTORS), End,

@@ -1,6 +1,6 @@
 //! Kinds of refusals of while programs.
 
-/// The limits of a while program, in the order in which they are refused at one position.
+/// The limits of a while program, in the order in which they are reported at one position.
 #[derive(Clone, Copy, Debug, PartialEq, Eq)]
 pub enum WhileKind {
     Name,
@@ -13,7 +13,7 @@ pub enum WhileKind {
     Rules,
 }
 
-/// Kinds of refusals, without their positions.
+/// The kinds of refusals, without their positions.
 #[derive(Clone, Copy, Debug, PartialEq, Eq)]
 pub enum Kind {
     NotAscii,

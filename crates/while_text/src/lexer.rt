@@ -1,4 +1,4 @@
-//! Cuts the bytes of a while program into pieces.
+//! Cuts the bytes of a while program into tokens.
 
 ghost use Rattle.std.specs.Prelude.{◌≡◌, ◌+◌, ◌≤◌, ◌<◌, ◌∷◌, length, IsTrue};
 ghost use Rattle.std.specs.List.{list_all};
@@ -45,7 +45,7 @@ fn follower_in(byte: u8) -> Follower
     }
 }
 
-// The keyword that a name is, or a name.
+// The keyword that a word is, or the sort of names.
 fn word_sort(name: &[u8]) -> Sort
     ensures { result ≡ lexing.word_sort name.now }
 {
@@ -66,7 +66,7 @@ fn word_sort(name: &[u8]) -> Sort
     }
 }
 
-// A sort of piece, of this many bytes.
+// The lexeme of a token of this sort and number of bytes.
 fn lexeme(sort: Sort, len: usize) -> Lexeme<Sort>
     ensures { lexeme_of result ≡ lexing.lexeme sort len }
 {
@@ -76,7 +76,7 @@ fn lexeme(sort: Sort, len: usize) -> Lexeme<Sort>
     }
 }
 
-// A piece of two bytes, where the second one follows, or else of one.
+// The lexeme of a token of two bytes if the second one follows, and else that of the token of one byte.
 fn pair_or(second: u8, two: Sort, one: Sort, others: &[u8]) -> Lexeme<Sort>
     ensures { lexeme_of result ≡ lexing.pair_or second two one others.now }
 {
@@ -87,7 +87,7 @@ fn pair_or(second: u8, two: Sort, one: Sort, others: &[u8]) -> Lexeme<Sort>
     }
 }
 
-// What a byte begins that is a piece by itself, or none.
+// The sort of a byte that is a token by itself, or of a byte that begins no token.
 fn sign_at(byte: u8) -> Sort
     ensures { result ≡ lexing.single_at byte }
 {
@@ -108,7 +108,7 @@ fn sign_at(byte: u8) -> Sort
     }
 }
 
-// What a byte begins that is neither white space nor begins a name or a number.
+// The lexeme of a byte that is neither white space nor begins a name or number.
 fn sign_lexeme(first: u8, others: &[u8]) -> Lexeme<Sort>
     ensures { lexeme_of result ≡ lexing.sign_at first others.now }
 {
@@ -123,8 +123,8 @@ fn sign_lexeme(first: u8, others: &[u8]) -> Lexeme<Sort>
     }
 }
 
-// The name that bytes begin with.
-fn front_name<'b>(bytes: &'b [u8], first: u8, others: &[u8]) -> &'b [u8]
+// The name at the beginning of bytes.
+fn leading_name<'b>(bytes: &'b [u8], first: u8, others: &[u8]) -> &'b [u8]
     requires { bytes.now ≡ first ∷ others.now }
     ensures { result.now ≡ first ∷ prefix continues_name others.now }
 {
@@ -137,12 +137,12 @@ fn name_lexeme(bytes: &[u8], first: u8, others: &[u8]) -> Lexeme<Sort>
     requires { bytes.now ≡ first ∷ others.now }
     ensures { lexeme_of result ≡ lexing.name_at first others.now }
 {
-    let name = front_name(bytes, first, others);
+    let name = leading_name(bytes, first, others);
     lexeme(word_sort(name), name.len())
 }
 
-// The digits that bytes begin with.
-fn front_digits<'b>(bytes: &'b [u8], first: u8, others: &[u8]) -> &'b [u8]
+// The digits at the beginning of bytes.
+fn leading_digits<'b>(bytes: &'b [u8], first: u8, others: &[u8]) -> &'b [u8]
     requires begins { bytes.now ≡ first ∷ others.now }
     requires digit { IsTrue (is_ascii_digit first) }
     ensures digits { result.now ≡ first ∷ prefix is_ascii_digit others.now }
@@ -158,12 +158,12 @@ fn number_lexeme(bytes: &[u8], first: u8, others: &[u8]) -> Lexeme<Sort>
     requires digit { IsTrue (is_ascii_digit first) }
     ensures { lexeme_of result ≡ lexing.number_at first others.now }
 {
-    let digits = front_digits(bytes, first, others);
+    let digits = leading_digits(bytes, first, others);
     let value = value_up_to(u128::from(COEFFICIENT_LIMIT) + 1, digits);
     lexeme(Sort::Number(value), digits.len())
 }
 
-// The sort of the piece that bytes begin with, if they begin with one.
+// The lexeme at the beginning of bytes: a token or white space.
 fn sort_at(bytes: &[u8], first: u8, others: &[u8]) -> Lexeme<Sort>
     requires { bytes.now ≡ first ∷ others.now }
     ensures { lexeme_of result ≡ lexing.sort_at first others.now }
@@ -183,7 +183,7 @@ fn sort_at(bytes: &[u8], first: u8, others: &[u8]) -> Lexeme<Sort>
 }
 
 impl WhileLexer {
-    // The lexeme of bytes with which the text ends.
+    // The lexeme with its token's position and follower, for the last bytes of the text.
     fn pieced(&self, bytes: &[u8], lexeme: Lexeme<Sort>) -> Lexeme<Piece>
         requires { lexeme.len ≤ length bytes.now }
         ensures { lexeme_of result ≡ lexing.pieced self.now.len bytes.now (lexeme_of lexeme) }

@@ -4,13 +4,14 @@
 //! `read_while` gives exactly the program that a text spells, or exactly its first fault.
 #![tactic(auto)]
 
+mod block;
 mod course;
 mod draft;
 mod error;
 mod faults;
 mod forms;
-mod front;
 mod grammar;
+mod grammar_state;
 mod kind;
 mod lexer;
 mod names;

@@ -1,4 +1,4 @@
-//! The bytes of pieces, and names among the inputs.
+//! The bytes of tokens, and names among the inputs.
 
 ghost use Rattle.std.specs.Prelude.{◌≡◌, ◌-◌, ◌^◌, min, map};
 ghost use Rattle.text_grammar.specs.text_core.Names.{is_among as is_among_names};
@@ -8,7 +8,7 @@ ghost use Rattle.while_text.specs.Drafts.{bytes_of as bytes_of_piece, number_of 
 use crate::piece::Piece;
 use its_model::Name;
 
-/// The bytes of a piece of a text.
+/// The bytes of a token of a text.
 #[tactic(auto, using(crate::proofs::LexingLaws::taken))]
 pub fn bytes_of<'t>(text: &'t [u8], piece: Piece) -> &'t [u8]
     ensures { result.now ≡ bytes_of_piece text.now piece }
@@ -30,14 +30,14 @@ pub fn is_among(names: &[Name], bytes: &[u8]) -> bool
     false
 }
 
-// A number as 32 bits hold it, or the greatest that they hold.
+// A number in 32 bits, or the greatest one of 32 bits if it is greater.
 fn in_32(number: usize) -> u32
     ensures { result ≡ min number (2 ^ 32 - 1) }
 {
     number.min(u32::MAX as usize) as u32
 }
 
-/// The number of an input, or that of all inputs where the name is none of them.
+/// The number of an input, or the number of inputs if the name is none of them.
 pub fn number_of(names: &[Name], bytes: &[u8]) -> u32
     ensures { result ≡ number_of_name (map name_of names.now) bytes.now }
 {

@@ -1,4 +1,4 @@
-//! What comes next in a while program, and whether it has had a fault.
+//! The parts of a while program, and whether it has had a fault.
 
 /// The part of a while program that is being read.
 #[derive(Clone, Copy, Debug, PartialEq, Eq)]
@@ -11,7 +11,7 @@ pub enum Phase {
     Assignment,
     /// The value of an assignment.
     Value,
-    /// A test outside of its atoms, or what comes before its block.
+    /// A test outside of its atoms, or the tokens between it and its block.
     Test,
     /// An atom up to its relation.
     Left,

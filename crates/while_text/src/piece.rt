@@ -1,6 +1,6 @@
-//! The pieces of a while program.
+//! The tokens of a while program.
 
-/// What a piece is.
+/// The sort of a token.
 #[derive(Clone, Copy, Debug, PartialEq, Eq)]
 pub enum Sort {
     Input,
@@ -37,11 +37,11 @@ pub enum Sort {
     Caret,
     /// A byte over 127.
     Strange,
-    /// Any other byte that begins no piece.
+    /// Any other byte that begins no token.
     Wrong,
 }
 
-/// What the next byte that is no white space begins.
+/// How the next byte that is no white space continues an expression.
 #[derive(Clone, Copy, Debug, PartialEq, Eq)]
 pub enum Follower {
     /// `+`, `-` or `*`, which continue each operand.
@@ -52,7 +52,7 @@ pub enum Follower {
     Other,
 }
 
-/// A piece, with the position of its first byte, how many bytes it has, and what comes next.
+/// A token: its sort, the position of its first byte, its number of bytes, and its follower.
 #[derive(Clone, Copy, Debug, PartialEq, Eq)]
 pub struct Piece {
     pub sort: Sort,

@@ -24,13 +24,13 @@ use while_tree::Whole;
 ///
 /// # Errors
 ///
-/// The refusal at the least position is reported, and of those at one position the one that comes first here.
+/// The refusal at the least position is reported; of several at one position, the one that comes first here.
 /// `NotAscii` is at a byte over 127 where no token can follow. `Syntax` is at the first token that can't follow, or at
 /// the text's length if it ends too early. `NumberTooLarge` is at a number over 2^63-1, and at the last byte of a value
 /// or of an atom with a form whose coefficient is too large; the forms of an atom are its own and those of its
 /// negations. `UnknownName` is at a name that is no input, `RepeatedName` at an input that occurs before. `Limit` is at
-/// a name of more than 256 bytes, at token 1,025 of a value or of one side of an atom, at the last byte of a value or of
-/// an atom with a form of more than 64 terms or of a degree over 8, at atom 65 of a test, at input 33, at the `{` of
+/// a name of more than 256 bytes, at token 1,025 of a value or of one side of an atom, at the last byte of a value or
+/// of an atom with a form of more than 64 terms or of a degree over 8, at atom 65 of a test, at input 33, at the `{` of
 /// level 65, and at the statement whose rules pass 1,000. `Memory` comes where memory ran out.
 pub fn read_while(alloc: Global, bytes: &[u8]) -> Result<Whole, WhileError>
     ensures answer { Answers bytes.now result }
@@ -39,7 +39,7 @@ pub fn read_while(alloc: Global, bytes: &[u8]) -> Result<Whole, WhileError>
     judge(alloc, bytes)
 }
 
-// The answer to a text.
+// The answer to a text: its program, or its first fault.
 fn judge(alloc: Global, bytes: &[u8]) -> Result<Whole, WhileError>
     ensures { Tells source_of refusal_in (answer (reader (while_text bytes.now)) (length bytes.now) (tokens bytes.now))
         result }

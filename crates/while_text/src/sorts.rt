@@ -1,4 +1,4 @@
-//! What the sorts of pieces are.
+//! Properties of the sorts of tokens.
 
 ghost use Rattle.std.specs.Prelude.{◌≡◌};
 ghost use Rattle.its_model.specs.Views.{relation_of as relation_view};
@@ -10,7 +10,7 @@ use crate::piece::Sort;
 use its_model::Rel;
 use model::COEFFICIENT_LIMIT;
 
-/// The class of a sort of pieces.
+/// The class of a sort of tokens.
 pub fn class_of(sort: Sort) -> u32
     ensures { result ≡ class_of_sort sort }
 {
@@ -41,21 +41,21 @@ pub fn class_of(sort: Sort) -> u32
     }
 }
 
-/// Whether a token is `^`.
+/// Whether a token of this sort is `^`.
 pub fn is_caret(sort: Sort) -> bool
     ensures { result ≡ course.is_caret sort }
 {
     matches!(sort, Sort::Caret)
 }
 
-/// Whether an expression can end with such a token.
+/// Whether an expression can end with a token of this sort.
 pub fn ends_operand(sort: Sort) -> bool
     ensures { result ≡ course.ends_operand sort }
 {
     matches!(sort, Sort::Name | Sort::Number(_) | Sort::Close)
 }
 
-/// Whether a token is a relation.
+/// Whether a token of this sort is a relation.
 pub fn is_relation(sort: Sort) -> bool
     ensures { result ≡ course.is_relation sort }
 {
@@ -65,7 +65,7 @@ pub fn is_relation(sort: Sort) -> bool
     )
 }
 
-/// The relation that a token is, or another one.
+/// The relation of a token of this sort, or another one if it is none.
 pub fn relation_of(sort: Sort, other: Rel) -> Rel
     ensures { relation_view result ≡ course.relation_of sort (relation_view other) }
 {
@@ -79,21 +79,21 @@ pub fn relation_of(sort: Sort, other: Rel) -> Rel
     }
 }
 
-/// Whether a token opens a block.
+/// Whether a token of this sort opens a block.
 pub fn opens_block(sort: Sort) -> bool
     ensures { result ≡ course.opens_block sort }
 {
     matches!(sort, Sort::BlockOpen)
 }
 
-/// Whether a token is a name.
+/// Whether a token of this sort is a name.
 pub fn is_name(sort: Sort) -> bool
     ensures { result ≡ faults.is_name sort }
 {
     matches!(sort, Sort::Name)
 }
 
-/// Whether a token is a number over the limit.
+/// Whether a token of this sort is a number over the limit.
 pub fn is_large(sort: Sort) -> bool
     ensures { result ≡ faults.is_large sort }
 {
@@ -103,7 +103,7 @@ pub fn is_large(sort: Sort) -> bool
     }
 }
 
-/// Whether a token is one of expressions.
+/// Whether a token of this sort belongs to expressions.
 pub fn is_in_sums(sort: Sort) -> bool
     ensures { result ≡ faults.is_in_sums sort }
 {
@@ -120,7 +120,7 @@ pub fn is_in_sums(sort: Sort) -> bool
     )
 }
 
-/// Whether a token begins a statement.
+/// Whether a token of this sort begins a statement.
 pub fn is_first_word(sort: Sort) -> bool
     ensures { result ≡ faults.is_first_word sort }
 {

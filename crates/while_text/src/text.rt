@@ -13,7 +13,7 @@ ghost use Rattle.while_text.specs.Views.{course_of, draft_of, source_of, state_o
 
 use crate::course::{Course, is_in_test};
 use crate::draft::Draft;
-use crate::faults::{against_first, against_rules, fault_at, first_fault, number_of};
+use crate::faults::{fault_at, fault_of_first, fault_of_rules, first_fault, number_of};
 use crate::kind::Kind;
 use crate::phase::Standing;
 use crate::piece::{Piece, Sort};
@@ -32,7 +32,7 @@ pub struct WhileReading<'a> {
     pub(crate) standing: Standing,
 }
 
-// Whether there has been a fault after a token.
+// Whether the text has had a fault, after a token that has one or not, within a test or not.
 fn standing_after(standing: Standing, fault: bool, in_test: bool) -> Standing
     ensures { result ≡ reading.standing_after standing fault in_test }
 {
@@ -44,7 +44,7 @@ fn standing_after(standing: Standing, fault: bool, in_test: bool) -> Standing
     }
 }
 
-// The first of the faults of a token: the one at its first byte, the one at its last byte, and that of the rules.
+// The first of the faults of a token: the one at its first byte, the one at its last byte, and that of too many rules.
 fn first_of_three(
     first: Option<Fault<Kind>>,
     last: Option<Fault<Kind>>,
@@ -57,7 +57,7 @@ fn first_of_three(
 }
 
 impl<'a> WhileReading<'a> {
-    /// Nothing has been read.
+    /// The state before the first token.
     pub fn new(alloc: Global, text: &'a [u8]) -> WhileReading<'a>
         ensures text { result.text.now ≡ text.now }
         ensures begun { state_of result ≡ reading.begun }
@@ -71,7 +71,7 @@ impl<'a> WhileReading<'a> {
         }
     }
 
-    // Reads a token where there has been no fault.
+    // Reads a token of a text that has had no fault.
     fn take_sound(&mut self, token: Token<Piece>) -> Result<Option<Fault<Kind>>, AllocError>
         requires { self.old.standing ≡ standings.Sound }
         ensures text { self.new.text.now ≡ self.old.text.now }
@@ -80,13 +80,13 @@ impl<'a> WhileReading<'a> {
         ensures shown { IfOk result (λ shown. (text : List ℕ)
             → fault_of shown ≡ first_of_two (reading.while_text text)
             (first_of_two (reading.while_text text)
-            (faults.fault_at (faults.against_first self.old.text.now token.piece (course_of self.old.course) (draft_of self.old.draft)) token.at)
-            (faults.fault_at (faults.against_last self.old.text.now token.piece (course_of self.old.course) (draft_of self.old.draft)) (token.upto - 1)))
-            (faults.fault_at (faults.against_rules token.piece (course_of self.old.course)) self.old.course.at)) }
+            (faults.fault_at (faults.fault_of_first self.old.text.now token.piece (course_of self.old.course) (draft_of self.old.draft)) token.at)
+            (faults.fault_at (faults.fault_of_last self.old.text.now token.piece (course_of self.old.course) (draft_of self.old.draft)) (token.upto - 1)))
+            (faults.fault_at (faults.fault_of_rules token.piece (course_of self.old.course)) self.old.course.at)) }
     {
         let course = self.course;
-        let first = against_first(self.text, token.piece, &course, &self.draft);
-        let rules = against_rules(token.piece, &course);
+        let first = fault_of_first(self.text, token.piece, &course, &self.draft);
+        let rules = fault_of_rules(token.piece, &course);
         let last = self.draft.take(self.alloc, self.text, token.piece, course)?;
         let fault = first.is_some() || (last.is_some() || rules.is_some());
         self.course = course.after(token.piece);
@@ -103,15 +103,15 @@ impl<'a> WhileReading<'a> {
         ensures text { self.new.text.now ≡ self.old.text.now }
         ensures read { state_of self.new ≡ reading.read self.old.text.now token.piece (state_of self.old) }
         ensures shown { fault_of result
-            ≡ faults.fault_at (faults.against_rules token.piece (course_of self.old.course)) self.old.course.at }
+            ≡ faults.fault_at (faults.fault_of_rules token.piece (course_of self.old.course)) self.old.course.at }
     {
         let course = self.course;
         self.course = course.after(token.piece);
         self.standing = standing_after(Standing::Faulty, true, is_in_test(self.course.phase));
-        fault_at(against_rules(token.piece, &course), course.at)
+        fault_at(fault_of_rules(token.piece, &course), course.at)
     }
 
-    // Reads a token after which no fault is shown.
+    // Reads a token of a text whose first fault is certain; no later fault is reported.
     fn take_settled(&mut self, token: Token<Piece>)
         requires { self.old.standing ≡ standings.Settled }
         ensures text { self.new.text.now ≡ self.old.text.now }
@@ -120,7 +120,7 @@ impl<'a> WhileReading<'a> {
         self.course = self.course.after(token.piece);
     }
 
-    // Reads a token.
+    // Reads a token, and returns its fault.
     fn take_token(&mut self, token: Token<Piece>) -> Result<Option<Fault<Kind>>, AllocError>
         ensures text { self.new.text.now ≡ self.old.text.now }
         ensures read { OnOk result (state_of self.new
@@ -207,7 +207,7 @@ impl<'a> Text for WhileReading<'a> {
     }
 }
 
-// The kind of the fault of a token that can't follow.
+// The kind of refusal for a token that can't follow.
 fn off_sort(sort: Sort) -> Kind
     ensures { result ≡ reading.off_sort sort }
 {

@@ -1,7 +1,7 @@
--- what the contracts of crates above this one cite
+-- The specs that contracts of other crates cite.
 pub mod Views
 pub mod Readable
--- the crates below, which callers name through this one
+-- The crates below, which callers name through this one.
 pub use Rattle.while_model.specs as while_model
 pub use Rattle.its_model.specs as its_model
 pub use Rattle.its_model.specs.poly_terms

@@ -8,24 +8,24 @@ use Rattle.while_tree.specs.declared.stmt.Stmt.{Stmt}
 use Rattle.while_tree.specs.declared.stmt.Stmt.TheOpen as code
 use Rattle.while_tree.specs.declared.stmt.Stmt.TheFolds.{fold-Stmt}
 
--- one statement: an action, a loop with its test and its block, or a branch with its test and its two blocks
+-- One statement: an action, a loop with its test and its block, or a branch with its test and its two blocks.
 pub data Statement : Type 0 where
   Plain : Action → Statement
   Loop : List Atom → Statements → Statement
   Branch : List Atom → Statements → Statements → Statement
 
--- a statement, and then others
+-- The statement, followed by the others.
 abbrev pub before : Statement → Statements → Statements
 before (Plain action) rest = Simple action rest
 before (Loop test block) rest = While test block rest
 before (Branch test block other) rest = If test block other rest
 
--- statements, one after the other
+-- The statements of the list, one after the other.
 abbrev pub joined : List Statement → Statements
 joined [] = Nothing
 joined (s ∷ ss) = before s (joined ss)
 
--- one statement of the code, with the plain statement of each one in its blocks in that one's place
+-- A statement of the code, with the statements in its blocks replaced by the plain ones.
 abbrev pub stmt_step : code.Stmt-F Statement → Statement
 stmt_step (code.Assign x e) = Plain (Assign x (term_of e))
 stmt_step (code.Any x) = Plain (Choose x)
@@ -33,10 +33,10 @@ stmt_step code.Skip = Plain Skip
 stmt_step (code.While test block) = Loop (map atom_of test.items) (joined block.items)
 stmt_step (code.If test block other) = Branch (map atom_of test.items) (joined block.items) (joined other.items)
 
--- a statement of the code as plain data
+-- A statement of the code as plain data.
 abbrev pub stmt_of : Stmt → Statement
 stmt_of = fold-Stmt Statement stmt_step
 
--- statements of the code as plain data
+-- Statements of the code as plain data.
 abbrev pub statements_of : List Stmt → Statements
 statements_of body = joined (map stmt_of body)

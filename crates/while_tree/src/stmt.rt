@@ -3,8 +3,8 @@
 use its_model::{Atom, Name};
 use poly_terms::Expr;
 
-/// A statement. Variables are numbered from 0, in the order of the inputs. A test is a list of atoms that holds where
-/// each of them does.
+/// A statement. Variables are numbered from 0, in the order of the inputs. A test is a list of atoms; it holds if each
+/// of them does.
 #[derive(Debug, PartialEq, Eq, Drop)]
 pub enum Stmt {
     /// The variable with this number takes the value of the expression.
@@ -15,7 +15,7 @@ pub enum Stmt {
     Skip,
     /// While the test holds, the block is executed.
     While(Vec<Atom>, Vec<Stmt>),
-    /// Where the test holds, the first block is executed, and else the second one.
+    /// If the test holds, the first block is executed, and else the second one.
     If(Vec<Atom>, Vec<Stmt>, Vec<Stmt>),
 }
 
@@ -26,6 +26,6 @@ pub struct Whole {
     pub names: Vec<Name>,
     /// The statements, in order.
     pub body: Vec<Stmt>,
-    /// The position of the first byte of each statement, those in blocks among them, in the order of the text.
+    /// The position of the first byte of each statement, including those in blocks, in the order of the text.
     pub at: Vec<u64>,
 }

@@ -23,9 +23,9 @@ use Rattle.cert_types.specs.declared.answer.LimitHit.{LimitHit}
 use Rattle.cert_types.specs.declared.answer.Question.TheVariants as asked
 use Rattle.cert_types.specs.rule_forms.Kinds.{Kind, Number, Argument, Affine, Plus}
 use Rattle.rank_search.specs.rule_questions.EmptyAnswers.{empty_program}
-use Rattle.local_size.specs.LocalAnswers.{Local, HasBound, HasHitLimit, HasSideBounds, SideComesTo}
+use Rattle.local_size.specs.LocalAnswers.{Local, HasBound, HasHitLimit, HasSideBounds, SideHasResult}
 use Rattle.local_size.specs.Places.{local_forms, value_on}
-use Rattle.local_size.specs.Sides.{SideBoundFound, NoneFound, ComesTo, solved_side_bound}
+use Rattle.local_size.specs.Sides.{SideBoundFound, NoneFound, HasResult, solved_side_bound}
 use Rattle.outcome.specs.Reports.{SizeUnbounded, SizeHitLimit, SizeMissing, SizeLarge}
 use Rattle.bound_fixpoint.specs.Keys.{key}
 use Rattle.cost_bounds.specs.CostOutcomes.{BoundedBy, NotBounded, FeasibleTo, StepTo}
@@ -46,7 +46,7 @@ at_most_A : StepTo entering_once (up_to by_A) (BoundedBy (SideBoundCost by_A))
 unfolding rewritten simplified passes_until_same at_node parts_passed below
 at_most_A = inl (record { before = refl; after = refl }, refl)
 
--- outcomes that differ
+-- different outcomes aren't equal
 never_is_not_empty : {multipliers : List ℕ} → BoundedBy NeverCost ≡ BoundedBy (EmptyCost multipliers) → ⊥
 never_is_not_empty e = cc
 
@@ -68,7 +68,7 @@ not_empty x multipliers (step, same, k) =
     composed (inl h) = empty_is_not_composed h.1
     composed (inr h) = empty_is_not_large h.1
 
--- the reason of a limit has its question
+-- equal outcomes with a limit have the same question
 limits_same : {x y : LimitHit} → NotBounded (SizeHitLimit x) ≡ NotBounded (SizeHitLimit y) → x ≡ y
 limits_same e = cc
 
@@ -94,7 +94,7 @@ rows = record {
   not_of_point = not_of_point;
 }
 
--- the first missing size is one
+-- equal outcomes with a missing size have the same place
 missing_same : {m n : ResultVariable} → NotBounded (SizeMissing m) ≡ NotBounded (SizeMissing n) → m ≡ n
 missing_same e = cc
 
@@ -122,7 +122,7 @@ missing = record {
 
 -- a dual shows that there is no form of the kind within one pivot, and a solution gives one
 none_by : (r : Rule) (side : Side) (kind : Kind) (zs : List ℤ) → IsScaledDual (asked_of r side kind) 1 zs 1
-    → ComesTo (local_forms (prepared r)) (value_on side (prepared r) 1) 1 kind
+    → HasResult (local_forms (prepared r)) (value_on side (prepared r) 1) 1 kind
     (NoneFound (listed (local_forms (prepared r)).unknowns (at zs)))
 none_by r side kind zs dual = (zs, (1, dual, refl))
 
@@ -130,7 +130,7 @@ abbrev solved_by : Rule → Side → Kind → List ℤ → SideBound
 solved_by r side kind zs = solved_side_bound (local_forms (prepared r)) (value_on side (prepared r) 1) kind zs 1
 
 side_bound_by : (r : Rule) (side : Side) (kind : Kind) (zs : List ℤ) → IsScaledSolution (asked_of r side kind) 1 zs 1
-    → ComesTo (local_forms (prepared r)) (value_on side (prepared r) 1) 1 kind
+    → HasResult (local_forms (prepared r)) (value_on side (prepared r) 1) 1 kind
     (SideBoundFound (solved_by r side kind zs))
 side_bound_by r side kind zs solution = (zs, (1, solution, refl))
 
@@ -160,7 +160,7 @@ five_low_number : IsScaledSolution (asked_of (costing five) Low Number) 1 five_l
 unfolding program_of_question first_tableau equation cost pivot divisor_of
 five_low_number = solution_run (asked_of (costing five) Low Number) 1 1 five_low (6 ∷ 1 ∷ []) refl
 
--- 5 bounds it, and -5 its negation
+-- 5 bounds the cost, and -5 its negation
 abbrev five_bounds : LocalBound
 five_bounds = record {
   up = by_five;
@@ -184,12 +184,12 @@ both_sides = record {
   first = (HasBound five_bounds, inr five_sides, inl (record { before = refl; after = refl }, refl));
 }
 
--- with a cost of A - 1 it does so too
+-- a point of the rows with a cost of A - 1 takes more than one pivot, too
 less_point : HitsLimit (empty_program (prepared (costing one_less))) 1 (budget 1)
 unfolding program_of_question first_tableau equation cost pivot divisor_of
 less_point = small_budget_run (pos 1 ∷ []) (empty_program (prepared (costing one_less))) 1 refl refl
 
--- no number bounds the cost, A does
+-- no number bounds the cost, but A does
 abbrev less_dual : List ℤ
 less_dual = pos 1 ∷ pos 0 ∷ []
 
@@ -204,7 +204,7 @@ less_argument : IsScaledSolution (asked_of (costing one_less) Up (Argument 1 Plu
 unfolding program_of_question first_tableau equation cost pivot divisor_of
 less_argument = solution_run (asked_of (costing one_less) Up (Argument 1 Plus)) 1 1 less_numbers (5 ∷ 4 ∷ []) refl
 
-less_up : SideComesTo (prepared (costing one_less)) 1 1 Up
+less_up : SideHasResult (prepared (costing one_less)) 1 1 Up
     (SideBoundFound (solved_by (costing one_less) Up (Argument 1 Plus) less_numbers))
 less_up = inr (
   (
@@ -214,7 +214,7 @@ less_up = inr (
   inl (tt, side_bound_by (costing one_less) Up (Argument 1 Plus) less_numbers less_argument),
 )
 
--- and a number that bounds its negation takes more than one pivot
+-- a number that bounds the negation of the cost takes more than one pivot
 less_low : HitsLimit (asked_of (costing one_less) Low Number) 1 (budget 1)
 unfolding program_of_question first_tableau equation cost pivot divisor_of
 less_low = budget_run (asked_of (costing one_less) Low Number) 1 refl refl
@@ -239,7 +239,7 @@ low_side = record {
   );
 }
 
--- with a cost of C * C
+-- the cost rule with a cost of C * C
 abbrev squared_rule : Rule
 squared_rule = cost_rule squaring_free (Multiplication (Variable 0) (Variable 0))
 
@@ -255,7 +255,7 @@ squared_point : HitsLimit (empty_program (prepared squared_rule)) 1 (budget 1)
 unfolding program_of_question first_tableau equation cost pivot divisor_of
 squared_point = small_budget_run (pos 1 ∷ []) (empty_program (prepared squared_rule)) 1 refl refl
 
--- no form bounds it on a side
+-- no form bounds this cost on a side
 abbrev up_dual : List ℤ
 up_dual = pos 1 ∷ pos 1 ∷ pos 1 ∷ pos 0 ∷ []
 
@@ -273,10 +273,10 @@ squared_low = dual_run (asked_of squared_rule Low Affine) 1 1 low_dual refl
 abbrev ray_by : List ℤ → List ℤ
 ray_by zs = listed (local_forms (prepared squared_rule)).unknowns (at zs)
 
-no_up : SideComesTo (prepared squared_rule) 1 1 Up (NoneFound (ray_by up_dual))
+no_up : SideHasResult (prepared squared_rule) 1 1 Up (NoneFound (ray_by up_dual))
 no_up = none_by squared_rule Up Affine up_dual squared_up
 
-no_low : SideComesTo (prepared squared_rule) 1 1 Low (NoneFound (ray_by low_dual))
+no_low : SideHasResult (prepared squared_rule) 1 1 Low (NoneFound (ray_by low_dual))
 no_low = none_by squared_rule Low Affine low_dual squared_low
 
 neither_side : IsOutcome squared_free (NotBounded (SizeHitLimit (limit_hit_at 1 (asked.Cost 1))))
@@ -296,7 +296,7 @@ neither_side = record {
   );
 }
 
--- the outcome is one
+-- a cost of 5 has no limit hit as its outcome
 not_of_five : (x : LimitHit) → IsOutcome (program_above five) (NotBounded (SizeHitLimit x)) → ⊥
 not_of_five x h =
     let e = costs-one.each (program_above five) 1 (known_as once no_size) 1 (BoundedBy (SideBoundCost by_five))

@@ -31,7 +31,7 @@ use Rattle.time_bounds.proofs.PassedForms.{unbounded_passes}
 use Rattle.worked_reasons.specs.Costs.{paying_rule, paying, CostsAreWorkedOut}
 use Rattle.worked_reasons.proofs.Runs.{budget_run}
 
--- C >= 0
+-- the row C >= 0
 abbrev row : Form
 row = plane_form (pos 0) (pos 1) (pos 0)
 
@@ -79,7 +79,7 @@ unbounded = record {
   passes = unbounded_passes (row ∷ []) 1 free_value from_one along_free meets rises;
 }
 
--- there is no other cost of the rule
+-- the only cost of the rule is this one
 cost_is : (P : Rule → Type 0) (h : HasCost paying 1) → P (cost_rule h.rule h.cost) → P (cost_rule paying_rule (Variable 1))
 cost_is P h k =
     let rule = some_same paying_rule h.rule h.numbered in

@@ -37,13 +37,13 @@ double_locals (suc (suc t)) i = HasBound doubled_member.local
 abbrev Flow : ℕ → ℕ → Type 0
 Flow = HasFlow (setting_of doubling.program) double_locals (live_result_variables doubling.program both_live)
 
--- into the first one none does
+-- no value flows into the first place
 first_stays : (a : ℕ) → Flow a 0 → ⊥
 first_stays zero h = no_is_not_yes false refl h.flow
 first_stays (suc zero) h = no_is_not_yes false refl h.flow
 first_stays (suc (suc a)) h = let low : suc (suc a) < 2 = h.from in omega (arith, low)
 
--- and from the second one into itself alone
+-- values flow from the second place into itself alone
 second_stays : (b : ℕ) → Flow 1 b → b ≡ 1
 second_stays zero h = absurd (first_stays 1 h)
 second_stays (suc zero) h = refl
@@ -55,7 +55,7 @@ lead = record { within = λ a b h. h.from; back = λ a h. absurd (first_stays a 
 apart : AreComponents (setting_of doubling.program) both_live double_locals two_components
 apart = record { positions = both_listed; listing = two_listed Flow lead; result_variables = refl }
 
--- what holds of both rules holds of each
+-- a property of both rules is one of each
 of_rules : (P : ℕ → Type 0) → P 1 → P 2 → (t : ℕ) → IsRule doubling.program t → P t
 of_rules P first second zero h = absurd (none_some h.rule h.numbered)
 of_rules P first second (suc zero) h = first
@@ -68,7 +68,7 @@ first_rule = record { rule = enter; numbered = refl }
 second_rule : IsRule doubling.program 2
 second_rule = record { rule = doubling_rule; numbered = refl }
 
--- the first rule leaves the start, and leads to where the second one comes from
+-- the first rule leaves the start symbol, and leads to the source of the second one
 first_alive : IsDead doubling.program (λ u. false) 1 → ⊥
 first_alive (inl empty) = no_is_not_yes false refl empty
 first_alive (inr unreached) = unreached enter refl (Here refl)

@@ -35,7 +35,7 @@ doubled_result_variables members h = go is_one_of
     go (inr (inl e)) = e
     go (inr (inr none)) = absurd none
 
--- so the first rule is none of its rules
+-- the first rule isn't one of the component's rules
 no_first_rule : (members : List Member) → key 2 1 ∷ [] ≡ map (λ m. m.result_variable) members
     → is_in 1 (rules_of (setting_of doubling.program) members) ≡ true → ⊥
 no_first_rule [] e u = let none : ⊥ = cc in none
@@ -51,7 +51,7 @@ pub not_used : (members : List Member) → IsComponentOf doubling.program 10 2 1
     → is_in 1 (rules_of (setting_of doubling.program) members) ≡ true → ⊥
 not_used members h = no_first_rule members (doubled_result_variables members h)
 
--- and the local bound of that place is the only one that is answered
+-- the local bound of the place is the only answer for it
 one_member : (members : List Member) → key 2 1 ∷ [] ≡ map (λ m. m.result_variable) members
     → All (λ (m : Member). IsLocalOf doubling.program 10 m.result_variable.rule m.result_variable.place (HasBound m.local)) members
     → members ≡ doubled

@@ -45,7 +45,7 @@ enter_passes_none x h =
     dual_hits_no_limit (empty_program (prepared enter)) 0 (pos 1 ∷ pos 1 ∷ []) 1 no_rows (cause_of x.cause)
     (of_rule (λ r. HitsLimit (empty_program (prepared r)) 0 (cause_of x.cause)) enter h.rule h.numbered h.hits_limit.1)
 
--- and where A >= 1 and A <= 0 a pivot is needed
+-- the linear program for a point where A >= 1 and A <= 0 needs a pivot
 stay_hits_limit : HitsLimit (empty_program (prepared stay)) 0 (budget 0)
 unfolding program_of_question first_tableau equation cost pivot divisor_of
 stay_hits_limit = budget_run (empty_program (prepared stay)) 0 refl refl

@@ -26,7 +26,7 @@ use Rattle.worked_reasons.proofs.DoubleComponents.{doubled_alone}
 use Rattle.worked_reasons.proofs.DoubleMembers.{doubled_members}
 use Rattle.worked_reasons.proofs.Growths.{doubled_shape}
 
--- of all that its size needs, the size after the first rule is the first that is missing
+-- among the premises of its size, the size after the first rule is the first that is missing
 missing_fails : (b : Bounds) → b 1 1 ≡ None
     → IsFirstAmong (cycle_checks (setting_of doubling.program) (over b) doubled) (reasons.MissingSize 1 1)
 missing_fails b none = inr (
@@ -64,7 +64,7 @@ not_untimed b none h =
         (missing_fails b none) fails in
         (let none : ⊥ = cc in none)
 
--- where that is known, the time of its rule
+-- if that size is known, the first missing one is the time of its rule
 untimed_fails :
     IsFirstAmong (cycle_checks (setting_of doubling.program) (over untimed_tower_said) doubled) (reasons.MissingTime 2)
 untimed_fails = inr (
@@ -107,7 +107,7 @@ not_large n h =
         (reasons.MissingTime 2) r untimed_fails fails in
         (let none : ⊥ = cc in none)
 
--- and where that is known too, how large it is
+-- if both are known, the reason is the number of nodes
 large : SizeIsLarge doubling.program 10 timed_tower_said 2 1 415
 unfolding rewritten simplified passes_until_same at_node parts_passed
 large = record {

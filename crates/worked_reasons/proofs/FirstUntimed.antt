@@ -26,7 +26,7 @@ use Rattle.worked_reasons.specs.FirstUntimed.{FirstUntimedIsWorkedOut}
 within : (n : ℕ) → n ≤ 1 → IsInLimit n
 within n h = omega (arith, h)
 
--- so a side bound with such numbers has its shape over the first rule
+-- a side bound with such numbers has the right shape over the first rule
 first_shape : (c d : ℤ) → nat_abs c ≤ 1 → nat_abs d ≤ 1
     → HasLinearShape (setting_of growing_twice) 1 1 1 (form (c ∷ []) d) []
 first_shape c d low_c low_d = record {
@@ -41,7 +41,7 @@ first_shape c d low_c low_d = record {
   one_each = record { long = refl; limit = All-nil IsInLimit };
 }
 
--- and over the second rule
+-- a side bound with such numbers has the right shape over the second rule
 second_shape : (c d : ℤ) → nat_abs c ≤ 1 → nat_abs d ≤ 1
     → HasLinearShape (setting_of growing_twice) 2 1 1 (form (c ∷ []) d) []
 second_shape c d low_c low_d =
@@ -54,7 +54,7 @@ second_shape c d low_c low_d =
       one_each = record { long = refl; limit = All-nil IsInLimit };
     }
 
--- both members have their shape
+-- both members have the right shape
 grown_shape : HasCycleShape (setting_of growing_twice) grown
 grown_shape = record {
   some = omega arith;
@@ -86,7 +86,7 @@ low_first = implies_one [] [] _ refl refl (λ u. refl) (omega (arith, ints))
 low_second : AcceptsLow (setting_of growing_twice) (grown_after 2)
 low_second = implies_one [] [] _ refl refl (λ u. refl) (omega (arith, ints))
 
--- neither rule has a time: the first one's is the first that is missing
+-- if neither rule has a time, the first rule's is the first that is missing
 first_missing :
     IsFirstAmong (cycle_checks (setting_of growing_twice) (over (bounds_with (unknown 1) (unknown 2))) grown)
     (reasons.MissingTime 1)
@@ -120,7 +120,7 @@ first_missing = inr (
   ),
 )
 
--- where the first one has a time, the second one's is
+-- if the first rule has a time, the second rule's is the first that is missing
 second_missing :
     IsFirstAmong (cycle_checks (setting_of growing_twice) (over (bounds_with (Timed (Constant 3)) (unknown 2))) grown)
     (reasons.MissingTime 2)

@@ -80,7 +80,7 @@ doubled_shape = record {
       }) (All-nil (HasMemberShape (setting_of doubling.program)));
 }
 
--- what doubles grows by its rule
+-- the place that doubles grows by its rule
 grows : GrowsUntimed doubling.program 10 growing_said 2 1 2
 grows = record {
   members = doubled;
@@ -130,7 +130,7 @@ alone_shape =
       floor = record { long = refl; limit = old.floor.limit };
     }
 
--- and it ranks the rule
+-- the function A ranks the rule
 alone_ranks : IsRanking (setting_of counting.program) (2 ∷ []) 2 [] alone_node
 unfolding divisor_of
 alone_ranks = record {
@@ -142,7 +142,7 @@ alone_ranks = record {
   reads = λ a j h. absurd (no_is_not_yes false refl h);
 }
 
--- where the first rule has a time, the set of the second one is itself
+-- if the first rule has a time, the set of the second one is the second one alone
 alone_set : IsSetOfRule counting.program deep_said 2 (2 ∷ [])
 alone_set = record { ascending = tt; members = λ e. (onward e, back e) }
   where
@@ -159,7 +159,7 @@ alone_set = record { ascending = tt; members = λ e. (onward e, back e) }
     back e (inl same) = subst (λ (n : ℕ). is_in n (2 ∷ []) ≡ true) (sym same) refl
     back e (inr h) = leading e h
 
--- the first rule, which enters it, has a size at its only place
+-- the first rule, which enters the set, has a size at its only place
 one_place : (i : ℕ) → IsPlace counting.program 1 i → i ≡ 1
 one_place i place =
     let last : i ≤ 1 = subst (λ (a : ℕ). i ≤ arity_of counting.program a) (sym (some_same 1 place.symbol place.target)) place.last in
@@ -194,7 +194,7 @@ solved : IsScaledSolution (rank_program counted) 10 numbers 1
 unfolding program_of_question first_tableau equation cost pivot divisor_of
 solved = solution_run (rank_program counted) 10 4 numbers (8 ∷ 3 ∷ 0 ∷ 6 ∷ []) refl
 
--- so the function A is found
+-- the search finds the function A
 alone_found : IsRankNode counted 10 alone_node
 unfolding divisor_of
 alone_found = record {
@@ -207,7 +207,7 @@ alone_found = record {
   hits_no_limit = record { each = solution_hits_no_limit (rank_program counted) 10 numbers 1 solved };
 }
 
--- the time that it composes of 201 levels is large
+-- the time that it composes of a size of 201 levels is large
 deep : TimeIsLarge counting.program 10 deep_said 2 208
 deep = record {
   set = 2 ∷ [];
@@ -220,7 +220,7 @@ deep = record {
   nodes = refl;
 }
 
--- no other function is found, whatever its multipliers
+-- the search finds no other function, whatever its multipliers
 nodes_of : (node : RankNode) → node.set ≡ 2 ∷ [] → node.den ≡ 1 → node.forms ≡ alone_node.forms
     → large_nodes (setting_of counting.program).rewrite (rank_time (setting_of counting.program) node (over deep_said)) ≡ 208
 nodes_of node set den forms =

@@ -20,7 +20,7 @@ use Rattle.rank_search.specs.RankAnswers.{IsOwnLimitHit, rank_program}
 use Rattle.rank_search.specs.rule_questions.EmptyAnswers.{empty_program}
 use Rattle.rank_search.specs.rule_questions.ProgramQuestions.{ranked_set}
 use Rattle.local_size.specs.Places.{local_forms, value_on, is_polynomial_at, kinds_of}
-use Rattle.local_size.specs.Sides.{kind_program, LimitPassed, SearchComesTo}
+use Rattle.local_size.specs.Sides.{kind_program, LimitPassed, SearchHasResult}
 use Rattle.bound_fixpoint.specs.Keys.{Bounds}
 use Rattle.bound_fixpoint.proofs.Cases.{either}
 use Rattle.bound_fixpoint.proofs.OneOrder.{sets_one, shut_one}
@@ -35,17 +35,17 @@ use Rattle.worked_reasons.specs.Programs.{limit_hit_at, squaring_to, squares}
 use Rattle.worked_reasons.specs.HitsLimit.{HitsLimitAreWorkedOut}
 use Rattle.worked_reasons.proofs.Runs.{is_there, budget_run, no_budget}
 
--- a function that ranks k(A) -> k(A)
+-- the linear program for a function that ranks k(A) -> k(A) exceeds the limit
 rank_hits_limit : HitsLimit (rank_program (ranked_set looping (1 ∷ []) 1 [])) 0 (budget 0)
 unfolding program_of_question first_tableau equation cost pivot
 rank_hits_limit = budget_run (rank_program (ranked_set looping (1 ∷ []) 1 [])) 0 refl refl
 
--- within 10 pivots its sequence has ended
+-- within 10 pivots its sequence ends
 rank_ends : is_there (tableau_at (rank_program (ranked_set looping (1 ∷ []) 1 [])) 11) ≡ false
 unfolding program_of_question first_tableau equation cost pivot
 rank_ends = refl
 
--- a number that bounds its new value
+-- the linear program for a number that bounds the new value exceeds the limit
 number_hits_limit :
     HitsLimit (kind_program (local_forms (prepared looping_rule)) (value_on Up (prepared looping_rule) 1) Number) 0 (budget 0)
 unfolding program_of_question first_tableau equation cost pivot
@@ -53,7 +53,7 @@ number_hits_limit =
     budget_run (kind_program (local_forms (prepared looping_rule)) (value_on Up (prepared looping_rule) 1) Number) 0 refl
     refl
 
--- a point where A <= 0
+-- the linear program for a point where A <= 0 exceeds the limit
 pub point_hits_limit : (target : ℕ) → HitsLimit (empty_program (prepared (squaring_to target))) 0 (budget 0)
 unfolding program_of_question first_tableau equation cost pivot divisor_of
 point_hits_limit target = budget_run (empty_program (prepared (squaring_to target))) 0 refl refl
@@ -62,12 +62,12 @@ pub squaring_hits_limit : (t target : ℕ) → rule_at squares t ≡ Some (squar
     → EmptyHitsLimitSo squares 0 t (limit_hit_at 0 (asked.Empty t))
 squaring_hits_limit t target e = record { rule = squaring_to target; numbered = e; hits_limit = (refl, point_hits_limit target) }
 
--- a point without rows
+-- the linear program for a point without rows doesn't
 no_rows_end : ¬ (HitsLimit (empty_program (prepared looping_rule)) 0 (budget 0))
 unfolding program_of_question first_tableau equation cost pivot
 no_rows_end = no_budget (empty_program (prepared looping_rule)) 0 0 refl
 
--- no rule's emptiness question is a rank question
+-- the limit hit of a rank question isn't one of a rule's feasibility question
 never_first : (pivots limit r : ℕ) (ts : List ℕ) → FirstHitsLimitSo looping pivots ts (limit_hit_at limit (asked.Rank r)) → ⊥
 never_first pivots limit r [] h = h
 never_first pivots limit r (t ∷ ts) (inl h) = let e = h.hits_limit.0 in (let none : ⊥ = cc in none)
@@ -79,7 +79,7 @@ other_rank h =
     either h.hits_limit (λ own. let e = own.question in (let none : ⊥ = cc in none))
     (λ points. never_first 0 0 2 h.set points.first)
 
--- nor that of another rule or place that of this one
+-- the question of another rule or place isn't that of this place
 other_rule : PlaceHitsLimitSo looping 0 1 1 (limit_hit_at 0 (asked.Local 2 1)) → ⊥
 other_rule h =
     either h.hits_limit (λ own. let e = own.question in (let none : ⊥ = cc in none))
@@ -92,7 +92,7 @@ other_place h =
 
 -- a limit of pivots that the questions of a side exceed is the one that they are given
 limit_is : (r : RuleForms) (w : Form) (pivots n : ℕ) (kinds : List Kind)
-    → SearchComesTo r w pivots kinds (LimitPassed (budget n)) → n ≡ pivots
+    → SearchHasResult r w pivots kinds (LimitPassed (budget n)) → n ≡ pivots
 limit_is r w pivots n [] h = absurd h
 limit_is r w pivots n (kind ∷ []) h = h.1
 limit_is r w pivots n (kind ∷ next ∷ kinds) (inl h) = h.1.1
@@ -135,7 +135,7 @@ ends_before h = either h.hits_limit (own h.set h.shut set shut) (λ points. neve
         (subst (λ (zs : List SymbolPlace). IsOwnLimitHit (ranked_set looping (1 ∷ []) 1 zs) 10 (limit_hit_at 10 (asked.Rank 1))) f
         (subst (λ (zs : List ℕ). IsOwnLimitHit (ranked_set looping zs 1 ys) 10 (limit_hit_at 10 (asked.Rank 1))) e limit_hit)).hits_limit
 
--- no question is needed where the update is a polynomial
+-- if the update is a polynomial, no linear program is needed
 nothing_asked : (b : Bounds) → PlaceHitsLimitSo squares 0 1 1 (limit_hit_at 0 (asked.Local 1 1)) → ⊥
 nothing_asked b h =
     no_is_not_yes true

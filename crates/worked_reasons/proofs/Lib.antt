@@ -14,7 +14,7 @@ pub mod OnePlace
 pub mod LoopComponents
 pub mod TwoTogether
 pub mod ProductComponents
--- what was worked out by hand
+-- the worked values hold
 pub mod HitsLimit
 pub mod SquareTimes
 pub mod FirstHitsLimit

@@ -49,12 +49,12 @@ not_small r =
     over : unsigned_abs (pos 2147483648) < 2147483648 → ⊥
     over l = omega (arith, ints, l)
 
--- the first tableau of a point of the rule has it, on the line of the constant
+-- the first tableau for a point of the rule has the number 2147483648, in the row of the constant
 point_out : IsInRange (empty_program (prepared huge_rule)) (first_tableau (empty_program (prepared huge_rule))) → ⊥
 unfolding program_of_question first_tableau equation cost pivot divisor_of
 point_out r = not_small (r.each 1 0 (record { row = omega arith; column = omega arith; cost = λ l. omega (arith, l) }))
 
--- so it is out of range before any pivot
+-- the number is out of range before any pivot
 first_out : (p : LinearProgram) → (IsInRange p (first_tableau p) → ⊥) → ExceedsNumberRange p 10 0
 first_out p out = record {
   within = omega arith;
@@ -81,7 +81,7 @@ not_later h =
     other : range 1 ≡ range 0 → ⊥
     other e = let n : ◌≡◌ {A = ℕ} 1 0 = cc in omega (arith, n)
 
--- the number below it is in range there
+-- 2147483647 is in range there
 large_in : IsInRange (empty_program (prepared large_rule)) (first_tableau (empty_program (prepared large_rule)))
 unfolding program_of_question first_tableau equation cost pivot divisor_of
 large_in =
@@ -95,7 +95,7 @@ in_range h =
     (subst (λ (t : Tableau). IsInRange (empty_program (prepared large_rule)) t)
     (some_same (first_tableau (empty_program (prepared large_rule))) early.1.last early.1.reached.is) large_in)
 
--- the linear program that asks for a number which bounds the new value has the same line
+-- the linear program for a number that bounds the new value has the same row
 number_out : IsInRange (asked_of huge_rule Up Number) (first_tableau (asked_of huge_rule Up Number)) → ⊥
 unfolding program_of_question first_tableau equation cost pivot divisor_of
 number_out r = not_small (r.each 1 2 (record { row = omega arith; column = omega arith; cost = λ l. omega (arith, l) }))
@@ -119,7 +119,7 @@ size_range = record {
 abbrev free_rule : ℕ → Rule
 free_rule n = rule_over 0 0 n (Variable 0) []
 
--- a line for each variable and one for the constant
+-- the tableau has a row for each variable and one for the constant
 lines_of : (m : ℕ) (g : Group) → length (listed m (line 0 g) ++ []) ≡ m
 lines_of m g =
     let parts = length-append (listed m (line 0 g)) [] in
@@ -136,7 +136,7 @@ rows_are n =
       fixed = minus_one;
     }) ∙ (let e : suc (1 + n + 0) ≡ n + 2 = omega arith in e)
 
--- and a column for the slack
+-- the tableau has a column for the slack of each row
 columns_are : (n : ℕ) → (empty_program (prepared (free_rule n))).columns ≡ 1
 unfolding program_of_question
 columns_are n = refl

@@ -1,4 +1,4 @@
--- The component of the program that stays, within 10 pivots, and that nothing grows in it.
+-- The component of the program k(A) -> k(A), within 10 pivots, and that nothing grows in it.
 use Rattle.std.proofs.Common.{◌≡◌, inl, inr, ℕ, zero, suc, ◌<◌, ◌≤◌, ◌↔◌, Bool, true, false, List, [], ◌∷◌, map, refl, sym}
 use Rattle.std.proofs.Common.{◌||◌, ap, subst, arith, All}
 use Rattle.std.proofs.lemmas.List.Elements.{All-head}
@@ -33,11 +33,11 @@ use Rattle.worked_reasons.proofs.DoubleRuns.{entered_side_bounds}
 use Rattle.worked_reasons.proofs.OnePlace.{one_listed, one_is_listed}
 use Rattle.worked_reasons.proofs.RulesWithPoints.{one_point, not_empty}
 
--- its new value is that of the rule that enters l
+-- the new value of the rule has the side bounds of the rule that enters l
 loop_side_bounds : HasSideBounds (prepared looping_rule) 1 10 entered_member.local
 loop_side_bounds = entered_side_bounds
 
--- it alone is live
+-- only rule 1 is live
 abbrev pub one_live : ℕ → Bool
 one_live zero = false
 one_live (suc zero) = true
@@ -83,7 +83,7 @@ live = record { is_empty = λ t. false; empty = empty; live = each }
     each (suc zero) = ((λ f. (the_rule, alive)), λ h. refl)
     each (suc (suc t)) = ((λ f. absurd (no_is_not_yes false refl f)), λ h. absurd (none_some h.0.rule h.0.numbered))
 
--- its only place
+-- the only place after rule 1 is place 1
 one_place : (i : ℕ) → IsPlace looping 1 i → i ≡ 1
 one_place i place =
     let last : i ≤ 1 = subst (λ (a : ℕ). i ≤ arity_of looping a) (sym (some_same 0 place.symbol place.target)) place.last in
@@ -110,14 +110,14 @@ are_components = (one_live, live, (loop_locals, locals, alone))
 abbrev IsBoundOf : Member → Type 0
 IsBoundOf m = IsLocalOf looping 10 m.result_variable.rule m.result_variable.place (HasBound m.local)
 
--- no other bound is answered
+-- the place has no other local bound
 local_is : (l : LocalBound) → IsLocalOf looping 10 1 1 (HasBound l) → l ≡ entered_member.local
 local_is l h =
     let same : HasBound l ≡ HasBound entered_member.local =
     local_one looping 10 empties-one locals-one 1 1 (HasBound l) (HasBound entered_member.local) h the_local in
     cc
 
--- so the component has this member alone
+-- the component has this member alone
 members_are : (members : List Member) → key 1 1 ∷ [] ≡ map (λ m. m.result_variable) members
     → All IsBoundOf members → members ≡ entered_member ∷ []
 members_are [] e bound = absurd (let none : ⊥ = cc in none)
@@ -143,7 +143,7 @@ loop_members members h = go is_one_of
     go (inl e) = members_are members e h.bounds
     go (inr none) = absurd none
 
--- and it keeps its value: the rule neither multiplies nor adds
+-- the member keeps its value: the rule neither multiplies nor adds
 pub grows_nowhere : GrowsUntimed looping 10 staying_said 1 1 1 → ⊥
 unfolding rewritten simplified passes_until_same at_node parts_passed
 grows_nowhere h =

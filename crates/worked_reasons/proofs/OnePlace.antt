@@ -1,4 +1,4 @@
--- One node: it is a component.
+-- One node is a component by itself.
 use Rattle.std.proofs.Common.{◌≡◌, inr, ℕ, zero, suc, ◌<◌, List, [], ◌∷◌, ◌++◌, refl, sym, ◌∙◌, subst, arith}
 use Rattle.model.specs.Paths.{Path, Here, Onward}
 use Rattle.its_graph.specs.Components.{IsMutual, IsListed, IsNext, IsListing}
@@ -13,7 +13,7 @@ all_listed zero low = record { component = 0 ∷ []; listed = (zero, omega arith
 all_listed (suc a) low = absurd (let none : suc a < 1 = low in omega (arith, none))
 
 module _ (E : ℕ → ℕ → Type 0) (within : (a b : ℕ) → E a b → a ≡ 0) where
-  -- what leads to the node is itself
+  -- a path to the node begins at the node
   leads_back : (a b : ℕ) → Path E a b → b ≡ 0 → a ≡ 0
   leads_back a b (Here same) e = same ∙ e
   leads_back a b (Onward {b = z} way edge) e = leads_back a z way (within z b edge)

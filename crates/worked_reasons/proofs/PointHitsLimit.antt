@@ -1,4 +1,4 @@
--- HitsLimit of the linear program for a point where no function and no form is found.
+-- Limits that the linear program for a point exceeds, if no function and no form is found.
 use Rattle.std.proofs.Common.{◌≡◌, inl, inr, ℕ, zero, suc, ◌≤◌, true, false, List, [], ◌∷◌, None, refl, sym, subst, arith}
 use Rattle.std.specs.Prelude.{ℤ, pos, negsuc}
 use Rattle.model.specs.Bounds.{Input}
@@ -25,9 +25,9 @@ use Rattle.cert_types.proofs.cert_rules.WorkedAccepted.{of_one, of_two}
 use Rattle.rank_search.specs.RankAnswers.{rank_program}
 use Rattle.rank_search.specs.rule_questions.EmptyAnswers.{empty_program}
 use Rattle.rank_search.specs.rule_questions.ProgramQuestions.{ranked_set}
-use Rattle.local_size.specs.LocalAnswers.{SideComesTo}
+use Rattle.local_size.specs.LocalAnswers.{SideHasResult}
 use Rattle.local_size.specs.Places.{local_forms, value_on}
-use Rattle.local_size.specs.Sides.{NoneFound, ComesTo}
+use Rattle.local_size.specs.Sides.{NoneFound, HasResult}
 use Rattle.bound_fixpoint.specs.Keys.{IsPlace, is_untimed}
 use Rattle.bound_fixpoint.specs.Sets.{IsSetOfRule, IsShut}
 use Rattle.bound_fixpoint.proofs.Cases.{either}
@@ -44,7 +44,7 @@ use Rattle.worked_reasons.proofs.DoubleRuns.{asked_of}
 use Rattle.worked_reasons.proofs.Runs.{budget_run, no_budget, is_there}
 use Rattle.worked_reasons.proofs.WholeEnds.{dual_run, dual_hits_no_limit}
 
--- both rules stay at the start, so the set of the second one is both
+-- both rules stay at the start symbol, so the set of the second one is both
 both_set : IsSetOfRule resetting resetting_said 2 (1 ∷ 2 ∷ [])
 both_set = record { ascending = (omega arith, tt); members = λ e. (onward e, back e) }
   where
@@ -64,7 +64,7 @@ both_set = record { ascending = (omega arith, tt); members = λ e. (onward e, ba
     back e (inl same) = subst (λ (n : ℕ). is_in n (1 ∷ 2 ∷ []) ≡ true) (sym same) refl
     back e (inr h) = leading e h
 
--- the virtual entry, which alone enters it, has a size at its only place
+-- the virtual entry, the only entry of the set, has a size at its only place
 one_place : (i : ℕ) → IsPlace resetting 0 i → i ≡ 1
 one_place i place =
     let last : i ≤ 1 = subst (λ (a : ℕ). i ≤ arity_of resetting a) (sym (some_same 0 place.symbol place.target)) place.last in
@@ -88,7 +88,7 @@ sought = record {
   };
 }
 
--- a function that ranks the second rule
+-- the rank question of the second rule over both
 abbrev both : RankedSet
 both = ranked_set resetting (1 ∷ 2 ∷ []) 2 []
 
@@ -99,7 +99,7 @@ no_function : IsScaledDual (rank_program both) 2 numbers 1
 unfolding program_of_question first_tableau equation cost pivot divisor_of
 no_function = dual_run (rank_program both) 2 2 numbers refl
 
--- a point of the first one
+-- the linear program for a point of the first rule exceeds the limit
 point_hits_limit : HitsLimit (empty_program (prepared resetting_rule)) 2 (budget 2)
 unfolding program_of_question first_tableau equation cost pivot divisor_of
 point_hits_limit = budget_run (empty_program (prepared resetting_rule)) 2 refl refl
@@ -169,26 +169,26 @@ unfolding program_of_question first_tableau equation cost pivot divisor_of
 any_low_ends = dual_run (asked_of choosing_rule Low Affine) 2 2 (pos 0 ∷ negsuc 0 ∷ pos 0 ∷ []) refl
 
 none_by : (side : Side) (kind : Kind) (zs : List ℤ) → IsScaledDual (asked_of choosing_rule side kind) 2 zs 1
-    → ComesTo (local_forms (prepared choosing_rule)) (value_on side (prepared choosing_rule) 1) 2 kind
+    → HasResult (local_forms (prepared choosing_rule)) (value_on side (prepared choosing_rule) 1) 2 kind
     (NoneFound (listed (local_forms (prepared choosing_rule)).unknowns (at zs)))
 none_by side kind zs dual = (zs, (1, dual, refl))
 
 abbrev ray_by : List ℤ → List ℤ
 ray_by zs = listed (local_forms (prepared choosing_rule)).unknowns (at zs)
 
-no_up : SideComesTo (prepared choosing_rule) 1 2 Up (NoneFound (ray_by (pos 0 ∷ pos 1 ∷ pos 0 ∷ [])))
+no_up : SideHasResult (prepared choosing_rule) 1 2 Up (NoneFound (ray_by (pos 0 ∷ pos 1 ∷ pos 0 ∷ [])))
 no_up = inr (
   (ray_by (pos 0 ∷ pos 1 ∷ pos 0 ∷ []), none_by Up Number (pos 0 ∷ pos 1 ∷ pos 0 ∷ []) up_ends),
   none_by Up Affine (pos 0 ∷ pos 1 ∷ pos 0 ∷ []) any_up_ends,
 )
 
-no_low : SideComesTo (prepared choosing_rule) 1 2 Low (NoneFound (ray_by (pos 0 ∷ negsuc 0 ∷ pos 0 ∷ [])))
+no_low : SideHasResult (prepared choosing_rule) 1 2 Low (NoneFound (ray_by (pos 0 ∷ negsuc 0 ∷ pos 0 ∷ [])))
 no_low = inr (
   (ray_by (pos 0 ∷ negsuc 0 ∷ pos 0 ∷ []), none_by Low Number (pos 0 ∷ negsuc 0 ∷ pos 0 ∷ []) low_ends),
   none_by Low Affine (pos 0 ∷ negsuc 0 ∷ pos 0 ∷ []) any_low_ends,
 )
 
--- and a point of the rule that chooses
+-- the linear program for a point of the rule that chooses exceeds the limit
 choosing_hits_limit : HitsLimit (empty_program (prepared choosing_rule)) 2 (budget 2)
 unfolding program_of_question first_tableau equation cost pivot divisor_of
 choosing_hits_limit = budget_run (empty_program (prepared choosing_rule)) 2 refl refl

@@ -1,4 +1,4 @@
--- The component of the program that multiplies its arguments, within no pivots, and that it has no others.
+-- The component of the program that multiplies its arguments, within no pivots, and that there is no other.
 use Rattle.std.proofs.Common.{◌≡◌, inl, inr, ℕ, zero, suc, ◌≤◌, ◌↔◌, true, false, List, [], ◌∷◌, map, refl}
 use Rattle.std.proofs.Common.{sym, subst, arith, All}
 use Rattle.std.proofs.lemmas.List.Elements.{All-nil, All-cons, All-head, All-tail}
@@ -73,7 +73,7 @@ live = record { is_empty = λ t. false; empty = empty; live = each }
     each (suc zero) = ((λ f. (the_rule, alive)), λ h. refl)
     each (suc (suc t)) = ((λ f. absurd (no_is_not_yes false refl f)), λ h. absurd (none_some h.0.rule h.0.numbered))
 
--- the update bounds each place after it
+-- the update bounds each place after the rule
 place_local : (i : ℕ) → IsPlace products 1 i → is_polynomial_at (prepared product_rule) i ≡ true
     → IsLocalOf products 0 1 i (HasBound both_polynomial)
 place_local i place polynomial = record {
@@ -92,7 +92,7 @@ second_local = place_local 2 (record { symbol = 0; target = refl; least = omega 
 abbrev product_locals : Locals
 product_locals t i = HasBound both_polynomial
 
--- it has two places
+-- the places after the rule are places 1 and 2, each with its local bound
 locals_at : (i : ℕ) → IsPlace products 1 i → IsLocalOf products 0 1 i (HasBound both_polynomial)
 locals_at zero h = absurd (let least : 1 ≤ 0 = h.least in omega (arith, least))
 locals_at (suc zero) h = first_local
@@ -146,7 +146,7 @@ component i inside = record {
       (All-cons IsBoundOf (record { result_variable = key 1 2; local = both_polynomial }) [] second_local (All-nil IsBoundOf));
 }
 
--- the updates are polynomials, so no other bound is answered
+-- the updates are polynomials, so there is no other local bound
 local_is : (i : ℕ) (l : LocalBound) → is_polynomial_at (prepared product_rule) i ≡ true
     → IsLocalOf products 0 1 i (HasBound l) → l ≡ both_polynomial
 local_is i l polynomial h =

@@ -15,7 +15,7 @@ use Rattle.cert_types.specs.cert_program.Setting.{setting_of}
 use Rattle.local_size.specs.LocalAnswers.{both_polynomial}
 use Rattle.bound_fixpoint.specs.Keys.{key, has_key, over}
 use Rattle.outcome.specs.Reports.{SizeNonlinear}
-use Rattle.time_bounds.specs.SizeWhys.{LacksFirst, BendsAt}
+use Rattle.time_bounds.specs.SizeWhys.{LacksFirst, MultipliesAt}
 use Rattle.worked_reasons.specs.Products.{products_said, ProductsAreWorkedOut}
 use Rattle.worked_reasons.specs.Programs.{product_rule, products, both_products}
 use Rattle.worked_reasons.proofs.ProductComponents.{component, no_other}
@@ -24,7 +24,7 @@ use Rattle.worked_reasons.proofs.ProductComponents.{component, no_other}
 abbrev product : Polynomial
 product = record { coef = pos 1; vars = 0 ∷ 1 ∷ [] } ∷ []
 
--- its monomials have both arguments alone
+-- the monomials of the product have both arguments alone
 below_two : All (λ (v : ℕ). v < 2) (0 ∷ 1 ∷ [])
 below_two = All-cons (λ (v : ℕ). v < 2) 0 (1 ∷ []) (omega arith)
     (All-cons (λ (v : ℕ). v < 2) 1 [] (omega arith) (All-nil (λ (v : ℕ). v < 2)))
@@ -33,14 +33,14 @@ product_left : All (λ (m : Monomial). All (λ (v : ℕ). v < 2) m.vars) product
 product_left = All-cons (λ (m : Monomial). All (λ (v : ℕ). v < 2) m.vars) (record { coef = pos 1; vars = 0 ∷ 1 ∷ [] }) []
     below_two (All-nil (λ (m : Monomial). All (λ (v : ℕ). v < 2) m.vars))
 
--- it is the update of both places
+-- the product is the update of both places
 first_update : IsPolynomialUpdate (setting_of products) (key 1 1)
 first_update = record { polynomial = product; nonlinear = refl; left_alone = product_left }
 
 second_update : IsPolynomialUpdate (setting_of products) (key 1 2)
 second_update = record { polynomial = product; nonlinear = refl; left_alone = product_left }
 
--- the members, and that they have their shape
+-- the members, which have the right shape
 abbrev member_at : ℕ → Member
 member_at i = record { result_variable = key 1 i; local = both_polynomial }
 
@@ -67,7 +67,7 @@ shape = record {
       (All-nil (HasMemberShape (setting_of products))));
 }
 
--- of all that the size of both needs, the first that fails is that the first place reads no member
+-- the first check of both places that fails is that the first place reads no member by a polynomial
 first_fails : IsFirstAmong (cycle_checks (setting_of products) (over products_said) both_products) (reasons.Nonlinear 1 1)
 first_fails = inr (
   shape,
@@ -113,8 +113,8 @@ first_fails = inr (
   ),
 )
 
--- so the first place is reported for both
-bends : (i : ℕ) → has_key (key 1 1 ∷ key 1 2 ∷ []) 1 i ≡ true → BendsAt products 0 products_said 1 i (key 1 1)
+-- the first place is reported for both places
+bends : (i : ℕ) → has_key (key 1 1 ∷ key 1 2 ∷ []) 1 i ≡ true → MultipliesAt products 0 products_said 1 i (key 1 1)
 bends i inside = record {
   members = both_products;
   component = component i inside;
@@ -126,8 +126,8 @@ bends i inside = record {
   first = (reasons.Nonlinear 1 1, refl, first_fails);
 }
 
--- and the second isn't
-not_second : (i : ℕ) → BendsAt products 0 products_said 1 i (key 1 2) → ⊥
+-- the second place isn't reported
+not_second : (i : ℕ) → MultipliesAt products 0 products_said 1 i (key 1 2) → ⊥
 not_second i h =
     other
     (subst (λ (ms : List Member). LacksFirst (setting_of products) products_said ms (SizeNonlinear (key 1 2)))

@@ -27,7 +27,7 @@ one_point rows e = record {
   };
 }
 
--- no multipliers certify that a rule with a point has none
+-- no multipliers certify that a rule with a point is infeasible
 pub not_empty : (p : Program) (pivots t : ℕ) (r : Rule) → rule_at p t ≡ Some r → HasPoint (prepared r).rows
     → IsEmptyRule p pivots t → ⊥
 not_empty p pivots t r numbered point (multipliers, (q, there, (a, same, is))) =

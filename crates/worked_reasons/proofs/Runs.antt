@@ -1,4 +1,4 @@
--- Sequences of tableaux, followed by computation: of integers; and whether they exceed the limit of pivots.
+-- Sequences of tableaux of integers, followed by computation; and whether they exceed the limit of pivots.
 use Rattle.std.proofs.Common.{◌≡◌, ℕ, suc, ◌+◌, ◌<◌, ◌≤◌, ◌&&◌, Bool, true, false, Option, Some, None, refl, sym, ap, subst}
 use Rattle.std.proofs.Common.{arith}
 use Rattle.std.specs.Prelude.{ℤ, pos, ◌-ℤ◌, unsigned_abs, nat_lt}
@@ -66,7 +66,7 @@ row_whole p t h i low =
           (every-each (p.columns + p.rows + 1) (λ k. nat_lt (unsigned_abs (t.entry i k)) number_limit) both.1 j within),
     )
 
--- then the tableau is in range
+-- if all numbers are whole and below the limit, the tableau is in range
 whole_in_range : (p : LinearProgram) (t : Tableau) → is_whole p t ≡ true → IsInRange p t
 whole_in_range p t h = record {
   each = λ i j inside.
@@ -82,7 +82,7 @@ tableau_in p (Some t) = t
 abbrev pub tableau_after : LinearProgram → ℕ → Tableau
 tableau_after p k = tableau_in p (tableau_at p k)
 
--- whether something is there
+-- whether there is a tableau
 abbrev pub is_there : Option Tableau → Bool
 is_there None = false
 is_there (Some t) = true
@@ -91,14 +91,15 @@ there_is : (p : LinearProgram) (o : Option Tableau) → is_there o ≡ true → 
 there_is p None e = absurd (no_is_not_yes false refl e)
 there_is p (Some t) e = refl
 
--- the table isn't too wide, after this many pivots, which are allowed, there is a tableau, and all so far pass a test
+-- the table isn't too wide; after this many of the allowed pivots there is a tableau, and all tableaux so far pass a
+-- test
 pub record IsRun (p : LinearProgram) (test : Tableau → Bool) (allowed k : ℕ) : Type 0 where
   pub fits : table_size p ≤ widest
   pub within : k ≤ allowed
   pub reached : is_there (tableau_at p k) ≡ true
   pub passed : every (suc k) (λ i. test (tableau_after p i)) ≡ true
 
--- whether it is so
+-- whether there is such a run
 abbrev pub is_run : LinearProgram → (Tableau → Bool) → ℕ → ℕ → Bool
 is_run p test allowed k =
     nat_lt (table_size p) (suc widest)
@@ -123,7 +124,7 @@ run-sound p test allowed k h =
     below : (m n : ℕ) → m < suc n → m ≤ n
     below m n l = omega (arith, l)
 
--- where the tableaux that pass the test are in range, all so far are, and the last one comes after this many pivots
+-- if all tableaux that pass the test are in range, all so far are, and the last one comes after this many pivots
 pub run_in_range : (p : LinearProgram) (test : Tableau → Bool) (allowed k : ℕ)
     → ((t : Tableau) → test t ≡ true → IsInRange p t) → IsRun p test allowed k → (i : ℕ) → i < suc k
     → IsInRange p (tableau_after p i)
@@ -143,7 +144,7 @@ run_after p test allowed k sound r = record {
 abbrev pub IsWholeRun : LinearProgram → ℕ → ℕ → Type 0
 IsWholeRun p allowed k = IsRun p (is_whole p) allowed k
 
--- whether they have
+-- whether all tableaux so far have integers
 abbrev pub is_whole_run : LinearProgram → ℕ → ℕ → Bool
 is_whole_run p allowed k = is_run p (is_whole p) allowed k
 
@@ -163,8 +164,8 @@ run_scale p allowed k r i low =
     (row_whole p (tableau_after p k)
     (every-each (suc k) (λ l. is_whole p (tableau_after p l)) r.passed k (omega arith)) i low).0
 
--- if another tableau follows after the allowed pivots, and the tableaux that pass the test are in range, the program hits
--- the limit on the number of pivots
+-- if another tableau follows after the allowed pivots, and the tableaux that pass the test are in range, the program
+-- hits the limit on the number of pivots
 pub run_hits_limit : (p : LinearProgram) (test : Tableau → Bool) (allowed : ℕ) → ((t : Tableau) → test t ≡ true → IsInRange p t)
     → IsRun p test allowed allowed → is_there (tableau_at p (suc allowed)) ≡ true → HitsLimit p allowed (budget allowed)
 run_hits_limit p test allowed sound r onward = (
@@ -184,12 +185,12 @@ run_hits_limit p test allowed sound r onward = (
     follows None e f = absurd (no_is_not_yes false refl e)
     follows (Some t) e f = there_is p (next p t) f
 
--- so it is where all tableaux so far have integers
+-- if all tableaux so far have integers and another one follows, the program hits the limit on the number of pivots
 pub budget_run : (p : LinearProgram) (allowed : ℕ) → is_whole_run p allowed allowed ≡ true
     → is_there (tableau_at p (suc allowed)) ≡ true → HitsLimit p allowed (budget allowed)
 budget_run p allowed h onward = run_hits_limit p (is_whole p) allowed (whole_in_range p) (whole_run p allowed allowed h) onward
 
--- where none follows, it doesn't
+-- if no tableau follows, the program doesn't hit it
 pub no_budget : (p : LinearProgram) (allowed n : ℕ) → is_there (tableau_at p (suc allowed)) ≡ false
     → ¬ (HitsLimit p allowed (budget n))
 no_budget p allowed n over h =

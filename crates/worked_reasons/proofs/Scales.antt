@@ -89,7 +89,7 @@ upto_one (suc n) a =
     never true = refl
     never false = refl
 
--- so a number below 0 and -1 have the divisor 1
+-- a number below 0 and -1 have the divisor 1
 one_last : (n : ℕ) → divisor_of (negsuc n ∷ negsuc 0 ∷ []) ≡ 1
 unfolding divisor_of
 one_last n = some_upto (suc n + 1) (omega arith)
@@ -98,7 +98,7 @@ one_last n = some_upto (suc n + 1) (omega arith)
     some_upto zero h = absurd (omega (arith, h))
     some_upto (suc m) h = upto_one m (negsuc n)
 
--- A - 18837001 >= 0 and -1867833 * A - B >= 0
+-- the rows A - 18837001 >= 0 and -1867833 * A - B >= 0
 abbrev large_least : Form
 large_least = record { coefs = pos 1 ∷ pos 0 ∷ []; constant = negsuc 18837000 }
 
@@ -111,7 +111,7 @@ large_rule = falling_below (pos 18837001) (pos 1867833)
 abbrev large_program : LinearProgram
 large_program = program_of_rows large_rule (large_least ∷ large_most ∷ [])
 
--- these are the rule's rows
+-- these are the rows of the rule
 large_rows : rows_of large_rule ≡ large_least ∷ large_most ∷ []
 large_rows = both_tightened large_least large_most one_first (one_last 1867832)
 
@@ -125,7 +125,7 @@ unfolding program_of_question first_tableau equation cost pivot
 large_ends =
     small_dual_run (pos 354832606674001 ∷ pos 18837001 ∷ pos 1 ∷ []) large_program 10 2 large_dual refl
 
--- integers that stand for the dual are over a multiple of the least value of A, so the second is 2^45 + 1 or more
+-- integers that represent the dual are over a multiple of the least value of A, so the second is 2^45 + 1 or more
 large_exceeds : ExceedsDual large_dual
 large_exceeds numbers den over within =
     too_large (at numbers 1) (at numbers 2) over.positive (over.each 1 _ (omega arith) refl)
@@ -135,13 +135,13 @@ large_exceeds numbers den over within =
         → unsigned_abs b ≤ point_limit → ⊥
     too_large b c positive e f low = omega (arith, ints, positive, e, f, low)
 
--- so it hits the limit on the scale
+-- the linear program hits the limit on the scale
 large_hits_limit : HitsLimit (empty_program (prepared large_rule)) 10 scale
 large_hits_limit =
     subst (λ (rows : List Form). HitsLimit (program_of_rows large_rule rows) 10 scale) (sym large_rows)
     (large_ends.0, inr (record { dual = large_dual; k = 2; ends = large_ends.1; exceeds = large_exceeds }))
 
--- and nothing else does
+-- the linear program hits no other limit
 no_other : (cause : LimitCause)
     → EmptyHitsLimitSo (below_multiple (pos 18837001) (pos 1867833)) 10 1 (limit_hit_by (asked.Empty 1) cause)
     → cause ≡ causes.Scale
@@ -157,7 +157,7 @@ no_other cause h =
     named (causes.Wide entries) e = absurd (let none : ⊥ = cc in none)
     named causes.Scale e = refl
 
--- A - 2^23 >= 0 and -2^22 * A - B >= 0
+-- the rows A - 2^23 >= 0 and -2^22 * A - B >= 0
 abbrev small_least : Form
 small_least = record { coefs = pos 1 ∷ pos 0 ∷ []; constant = negsuc 8388607 }
 
@@ -170,7 +170,7 @@ small_rule = falling_below (pos 8388608) (pos 4194304)
 abbrev small_program : LinearProgram
 small_program = program_of_rows small_rule (small_least ∷ small_most ∷ [])
 
--- these are the rule's rows
+-- these are the rows of the rule
 small_rows : rows_of small_rule ≡ small_least ∷ small_most ∷ []
 small_rows = both_tightened small_least small_most one_first (one_last 4194303)
 
@@ -187,7 +187,7 @@ small_ends = small_dual_run (pos 70368744177664 ∷ pos 8388608 ∷ pos 1 ∷ []
 abbrev small_point : List ℤ
 small_point = pos 8388608 ∷ negsuc 35184372088831 ∷ pos 1 ∷ []
 
--- its numbers stand for the dual, over 2^23, and are small
+-- the numbers of the point represent the dual, over 2^23, and are small
 small_over : AreOver small_dual 3 small_point 8388608
 small_over = record {
   positive = omega arith;
@@ -205,7 +205,7 @@ small_within = record {
     at_most : (n : ℕ) → n < suc point_limit → n ≤ point_limit
     at_most n h = omega (arith, h)
 
--- so no limit is passed
+-- the linear program exceeds no limit
 small_hits_no_limit : (c : Cause) → HitsLimit (empty_program (prepared small_rule)) 10 c → ⊥
 small_hits_no_limit c hits_limit =
     infeasible_hits_no_limit small_program 10 2 small_dual small_point 8388608 small_ends.0 small_ends.1 small_over

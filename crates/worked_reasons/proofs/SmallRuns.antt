@@ -43,7 +43,7 @@ lowest_least n d a b lowest apart same =
     subst (λ (m : ℕ). m ≤ unsigned_abs a * unsigned_abs b) (sym sizes) (mul-le-mul_left (unsigned_abs a) dens) in
     (le_of_mul-le-mul_right products positive, dens)
 
--- so a fraction is small where a factor above 0 leaves numbers below the limit of its numerator and denominator
+-- a fraction is small if dividing its numerator and denominator by a factor above 0 leaves numbers below the limit
 quotients_small : (z s g a b : ℤ) → pos 0 <ℤ g → a *ℤ g ≡ z → b *ℤ g ≡ s → b ≢ pos 0 → unsigned_abs a < number_limit
     → unsigned_abs b < number_limit → IsSmallRatio z s
 quotients_small z s g a b over of_z of_s apart low_a low_b = record {
@@ -64,7 +64,7 @@ quotients_small z s g a b over of_z of_s apart low_a low_b = record {
     below : (m k : ℕ) → m ≤ k → k < number_limit → m < number_limit
     below m k l h = omega (arith, l, h)
 
--- whether a factor above 0 leaves numbers below the limit of a numerator and a denominator
+-- whether dividing a numerator and a denominator by a factor above 0 leaves numbers below the limit
 abbrev pub leaves_small : ℤ → ℤ → ℤ → Bool
 leaves_small z s g =
     int_lt (pos 0) g
@@ -84,7 +84,7 @@ left_small z s g h =
     (same-sound (int_div s g *ℤ g) s c.0) (is_zero-false (int_div s g) (not-true (is_zero (int_div s g)) d.0))
     (ltb-true (unsigned_abs (int_div z g)) number_limit e.0) (ltb-true (unsigned_abs (int_div s g)) number_limit e.1)
 
--- whether one of some factors does
+-- whether this is so for one of some factors
 abbrev pub one_leaves_small : List ℤ → ℤ → ℤ → Bool
 one_leaves_small [] z s = false
 one_leaves_small (g ∷ gs) z s = leaves_small z s g || one_leaves_small gs z s
@@ -98,7 +98,7 @@ one_left_small (g ∷ gs) z s h = go (leaves_small z s g) refl h (one_left_small
     go true e f rest = left_small z s g e
     go false e f rest = rest f
 
--- whether one of some factors does of each number of a tableau; then the tableau is in range
+-- whether this is so for each number of a tableau; then the tableau is in range
 abbrev pub is_small : List ℤ → LinearProgram → Tableau → Bool
 is_small gs p t =
     every (p.rows + 3) (λ i. every (p.columns + p.rows + 1) (λ j. one_leaves_small gs (t.entry i j) (t.scale i)))
@@ -113,8 +113,8 @@ small_in_range gs p t h = record {
       j inside.column);
 }
 
--- if another tableau follows after the allowed pivots, and factors show that all so far are in range, the program hits the
--- limit on the number of pivots
+-- if another tableau follows after the allowed pivots, and factors show that all so far are in range, the program hits
+-- the limit on the number of pivots
 pub small_budget_run : (gs : List ℤ) (p : LinearProgram) (allowed : ℕ) → is_run p (is_small gs p) allowed allowed ≡ true
     → is_there (tableau_at p (suc allowed)) ≡ true → HitsLimit p allowed (budget allowed)
 small_budget_run gs p allowed h onward =

@@ -39,7 +39,7 @@ not_empty t target e h =
     let same = (program_searches_one.each squares 0).empties t _ _ h.1 (emptiness_hits_limit t target e) in
     (let none : ⊥ = cc in none)
 
--- what holds of both rules holds of each
+-- a property of both rules is one of each
 of_rules : (P : ℕ → Type 0) → P 1 → P 2 → (t : ℕ) → IsRule squares t → P t
 of_rules P one two zero h = absurd (none_some h.rule h.numbered)
 of_rules P one two (suc zero) h = one
@@ -52,7 +52,7 @@ first_rule = record { rule = squaring_to 0; numbered = refl }
 second_rule : IsRule squares 2
 second_rule = record { rule = squaring_to 1; numbered = refl }
 
--- both rules leave the start
+-- both rules leave the start symbol, so they aren't dead
 not_dead : (t target : ℕ) → rule_at squares t ≡ Some (squaring_to target) → IsDead squares (λ u. false) t → ⊥
 not_dead t target e (inl empty) = no_is_not_yes false refl empty
 not_dead t target e (inr unreached) = unreached (squaring_to target) e (Here refl)
@@ -126,7 +126,7 @@ are_components = (both_live, live, (square_locals, locals, squares_apart))
 abbrev IsBoundOf : Member → Type 0
 IsBoundOf m = IsLocalOf squares 0 m.result_variable.rule m.result_variable.place (HasBound m.local)
 
--- the updates of both rules are polynomials, so no other bound is answered
+-- the updates of both rules are polynomials, so there is no other local bound
 local_is : (t target : ℕ) (l : LocalBound) → rule_at squares t ≡ Some (squaring_to target)
     → IsLocalOf squares 0 t 1 (HasBound l) → l ≡ both_polynomial
 local_is t target l e h =

@@ -1,4 +1,4 @@
--- Along which places values flow in the program that squares.
+-- From which places values flow into which in the program that squares.
 use Rattle.std.proofs.Common.{◌≡◌, ℕ, zero, suc, ◌<◌, Bool, true, false, refl, arith}
 use Rattle.model.proofs.Membership.{no_is_not_yes}
 use Rattle.cert_types.specs.cert_program.Setting.{setting_of}
@@ -22,13 +22,13 @@ square_locals t i = HasBound both_polynomial
 abbrev Flow : ℕ → ℕ → Type 0
 Flow = HasFlow (setting_of squares) square_locals (live_result_variables squares both_live)
 
--- from the second one nowhere
+-- no value flows from the second place
 second_stays : (b : ℕ) → Flow 1 b → ⊥
 second_stays zero h = no_is_not_yes false refl h.flow
 second_stays (suc zero) h = no_is_not_yes false refl h.flow
 second_stays (suc (suc b)) h = let low : suc (suc b) < 2 = h.to in omega (arith, low)
 
--- so into the first one from itself alone
+-- values flow into the first place from itself alone
 flow_back : (a : ℕ) → Flow a 0 → a ≡ 0
 flow_back zero h = refl
 flow_back (suc zero) h = absurd (second_stays 0 h)
@@ -37,6 +37,6 @@ flow_back (suc (suc a)) h = let low : suc (suc a) < 2 = h.from in absurd (omega 
 lead : LeadOnward Flow
 lead = record { within = λ a b h. h.from; back = flow_back; stays = λ b h. absurd (second_stays b h) }
 
--- these are the components
+-- each place is a component by itself
 pub squares_apart : AreComponents (setting_of squares) both_live square_locals two_components
 squares_apart = record { positions = both_listed; listing = two_listed Flow lead; result_variables = refl }

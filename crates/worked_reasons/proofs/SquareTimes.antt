@@ -26,14 +26,14 @@ use Rattle.worked_reasons.specs.Programs.{limit_hit_at, squaring_to, squares}
 use Rattle.worked_reasons.specs.Squares.{squares_said}
 use Rattle.worked_reasons.proofs.Runs.{budget_run}
 
--- every rule leaves k
+-- both rules leave k
 leaves_start : (t : ℕ) (r : Rule) → rule_at squares t ≡ Some r → r.source ≡ 0
 leaves_start zero r e = absurd (none_some r e)
 leaves_start (suc zero) r e = of_rule (λ q. q.source ≡ 0) r (squaring_to 0) (sym e) refl
 leaves_start (suc (suc zero)) r e = of_rule (λ q. q.source ≡ 0) r (squaring_to 1) (sym e) refl
 leaves_start (suc (suc (suc t))) r e = absurd (none_some r e)
 
--- so no path leads on from l
+-- no path leads on from l
 stays_at_end : (a b : ℕ) → HasPath squares (is_untimed squares_said) a b → a ≡ 1 → b ≡ 1
 stays_at_end a b (Here same) e = sym same ∙ e
 stays_at_end a b (Onward {b = z} way edge) e =
@@ -51,7 +51,7 @@ no_way_back h =
     let none : ◌≡◌ {A = ℕ} 0 1 = to ∙ end in
     omega (arith, none)
 
--- the set of the first rule is itself
+-- the set of the first rule is the first rule alone
 first_set : IsSetOfRule squares squares_said 1 (1 ∷ [])
 first_set = record { ascending = tt; members = λ e. (onward e, back e) }
   where
@@ -68,7 +68,7 @@ first_set = record { ascending = tt; members = λ e. (onward e, back e) }
     back e (inl same) = subst (λ (n : ℕ). is_in n (1 ∷ []) ≡ true) (sym same) refl
     back e (inr h) = leading e h
 
--- and that of the second one both
+-- the set of the second rule is both rules
 second_set : IsSetOfRule squares squares_said 2 (1 ∷ 2 ∷ [])
 second_set = record { ascending = (omega arith, tt); members = λ e. (onward e, back e) }
   where
@@ -88,7 +88,7 @@ second_set = record { ascending = (omega arith, tt); members = λ e. (onward e, 
     back e (inl same) = subst (λ (n : ℕ). is_in n (1 ∷ 2 ∷ []) ≡ true) (sym same) refl
     back e (inr h) = leading e h
 
--- the virtual entry, which alone enters both sets, has a size at its only place
+-- the virtual entry, the only entry of both sets, has a size at its only place
 one_place : (i : ℕ) → IsPlace squares 0 i → i ≡ 1
 one_place i place =
     let last : i ≤ 1 = subst (λ (a : ℕ). i ≤ arity_of squares a) (sym (some_same 0 place.symbol place.target)) place.last in
@@ -116,7 +116,7 @@ none_shut set unshut = record {
   places = λ s. ((λ m. absurd (contains-none s m)), λ h. absurd (unshut s h));
 }
 
--- both linear programs need a pivot
+-- the linear programs of both rank questions need a pivot
 pub first_hits_limit : HitsLimit (rank_program (ranked_set squares (1 ∷ []) 1 [])) 0 (budget 0)
 unfolding program_of_question first_tableau equation cost pivot divisor_of
 first_hits_limit = budget_run (rank_program (ranked_set squares (1 ∷ []) 1 [])) 0 refl refl

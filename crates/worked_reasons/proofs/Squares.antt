@@ -21,15 +21,15 @@ use Rattle.bound_fixpoint.specs.Keys.{Bounds, key, over}
 use Rattle.bound_fixpoint.specs.Loops.{do_loop}
 use Rattle.time_bounds.specs.CostWhys.{HasNoCost}
 use Rattle.time_bounds.specs.SaidBounds.{bounds_said}
-use Rattle.time_bounds.specs.SizeWhys.{RestsOnSize, BendsAt, SizeIsLarge, composed_size, HasNoSize}
+use Rattle.time_bounds.specs.SizeWhys.{RestsOnSize, MultipliesAt, SizeIsLarge, composed_size, HasNoSize}
 use Rattle.time_bounds.specs.TimeWhys.{HasNoTime}
 use Rattle.worked_reasons.specs.Programs.{limit_hit_at, squaring_to, squares, square, square_after, squares_report}
-use Rattle.worked_reasons.specs.Programs.{bending_report}
+use Rattle.worked_reasons.specs.Programs.{nonlinear_report}
 use Rattle.worked_reasons.specs.Squares.{squares_said, towering_said, SquaresAreWorkedOut}
 use Rattle.worked_reasons.proofs.SquareComponents.{components}
 use Rattle.worked_reasons.proofs.SquareTimes.{first_time, second_time}
 
--- its monomials have the first variable alone
+-- the monomials of the square have the first variable alone
 square_left : All (λ (m : Monomial). All (λ (v : ℕ). v < 1) m.vars) square
 square_left = All-cons (λ (m : Monomial). All (λ (v : ℕ). v < 1) m.vars) (record { coef = pos 1; vars = 0 ∷ 0 ∷ [] }) []
     below_one (All-nil (λ (m : Monomial). All (λ (v : ℕ). v < 1) m.vars))
@@ -41,7 +41,7 @@ first_square = record { polynomial = square; nonlinear = refl; left_alone = squa
 second_square : IsPolynomialUpdate (setting_of squares) (key 2 1)
 second_square = record { polynomial = square; nonlinear = refl; left_alone = square_left }
 
--- the members have their shape
+-- the members have the right shape
 first_shape : HasMemberShape (setting_of squares) (square_after 1)
 first_shape = record {
   at = record { rule = squaring_to 0; numbered = refl; least = omega arith; most = omega arith };
@@ -65,7 +65,7 @@ first_together = record {
 }
 
 -- the first place squares itself
-bends : BendsAt squares 0 squares_said 1 1 (key 1 1)
+bends : MultipliesAt squares 0 squares_said 1 1 (key 1 1)
 bends = record {
   members = square_after 1 ∷ [];
   component = components.first;
@@ -100,13 +100,13 @@ bends = record {
 }
 
 -- the second place isn't in a loop
-no_loop : (b : Bounds) → BendsAt squares 0 b 2 1 (key 2 1) → ⊥
+no_loop : (b : Bounds) → MultipliesAt squares 0 b 2 1 (key 2 1) → ⊥
 no_loop b h =
     no_is_not_yes (do_loop (setting_of squares) (square_after 2 ∷ [])) refl
     (subst (λ (ms : List Member). do_loop (setting_of squares) ms ≡ true) (components.no_other_second h.members h.component)
     h.loop)
 
--- it takes the first one over
+-- the size of the second place depends on that of the first one
 rests : RestsOnSize squares 0 squares_said 2 1 (key 1 1)
 rests = record {
   members = square_after 2 ∷ [];
@@ -182,7 +182,7 @@ not_so_large h = other (h.nodes ∙ nodes_of h.members h.size h.composed (compon
         (λ (ns : List Member). large_nodes (setting_of squares).rewrite
         (composed_size (do_loop (setting_of squares) ns) (setting_of squares) (over towering_said) ns) ≡ 823) (sym same) refl)
 
--- the whole report
+-- the reasons of the whole report are true
 whole_times : (t : ℕ) (why : NoTime) → numbered_entry squares_report.times t ≡ Some (Untimed why)
     → HasNoTime squares 0 squares_said t why
 whole_times zero why e = absurd (none_some (Untimed why) e)
@@ -224,5 +224,5 @@ squares_worked = record {
   large = large;
   not_so_large = not_so_large;
   whole = record { times = whole_times; costs = whole_costs; sizes = whole_sizes };
-  not_whole = λ h. no_loop (bounds_said squares bending_report) (h.sizes 2 1 (SizeNonlinear (key 2 1)) refl);
+  not_whole = λ h. no_loop (bounds_said squares nonlinear_report) (h.sizes 2 1 (SizeNonlinear (key 2 1)) refl);
 }

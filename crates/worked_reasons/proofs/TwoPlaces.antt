@@ -1,4 +1,4 @@
--- Two nodes, of which nothing leads back from the second to the first: each is a component, in their order.
+-- Two nodes without an edge from the second to the first: each is a component, in their order.
 use Rattle.std.proofs.Common.{◌≡◌, ◌⊎◌, inl, inr, ℕ, zero, suc, ◌<◌, ◌≤◌, List, [], ◌∷◌, ◌++◌, refl, sym, ◌∙◌, subst}
 use Rattle.std.proofs.Common.{arith, Contains}
 use Rattle.model.specs.Paths.{Path, Here, Onward}
@@ -6,13 +6,13 @@ use Rattle.its_graph.specs.Components.{IsMutual, IsListed, MayComeNext, IsNext, 
 use Rattle.bound_fixpoint.proofs.Cases.{either}
 use Rattle.bound_fixpoint.proofs.ListMembers.{contains-cases, contains-none}
 
--- edges lead from one of two nodes, to the first from itself alone, and from the second to itself alone
+-- edges lead only from one of two nodes, into the first one from itself alone, and from the second one to itself alone
 pub record LeadOnward (E : ℕ → ℕ → Type 0) : Type 0 where
   pub within : (a b : ℕ) → E a b → a < 2
   pub back : (a : ℕ) → E a 0 → a ≡ 0
   pub stays : (b : ℕ) → E 1 b → b ≡ 1
 
--- a list of one node has that one alone
+-- a list of one node has that node alone
 pub only_one : (a b : ℕ) → Contains (a ∷ []) b → a ≡ b
 only_one a b h = either (contains-cases b a [] h) (λ e. e) (λ none. absurd (contains-none b none))
 
@@ -25,7 +25,7 @@ both_listed = (0 ∷ []) ∷ (1 ∷ []) ∷ []
 first_is_listed : IsListed ((0 ∷ []) ∷ []) 0
 first_is_listed = record { component = 0 ∷ []; listed = (zero, omega arith, refl); member = (zero, omega arith, refl) }
 
--- the components that were listed then have the first node alone
+-- the first component has the first node alone
 listed_then : (a : ℕ) → IsListed ((0 ∷ []) ∷ []) a → 0 ≡ a
 listed_then a h = either (contains-cases h.component (0 ∷ []) [] h.listed)
     (λ e. only_one 0 a (subst (λ (c : List ℕ). Contains c a) (sym e) h.member))
@@ -41,18 +41,18 @@ all_listed (suc zero) low = record {
 all_listed (suc (suc a)) low = absurd (let none : suc (suc a) < 2 = low in omega (arith, none))
 
 module _ (E : ℕ → ℕ → Type 0) (lead : LeadOnward E) where
-  -- what leads to the first node begins there
+  -- a path to the first node begins there
   leads_back : (a b : ℕ) → Path E a b → b ≡ 0 → a ≡ 0
   leads_back a b (Here same) e = same ∙ e
   leads_back a b (Onward {b = z} way edge) e = leads_back a z way (lead.back z (subst (λ (n : ℕ). E z n) e edge))
 
-  -- and what begins at the second one ends there
+  -- a path from the second node ends there
   leads_nowhere : (a b : ℕ) → Path E a b → a ≡ 1 → b ≡ 1
   leads_nowhere a b (Here same) e = sym same ∙ e
   leads_nowhere a b (Onward {b = z} way edge) e =
       lead.stays b (subst (λ (n : ℕ). E n b) (leads_nowhere a z way e) edge)
 
-  -- a path stays where it begins, or begins at a node
+  -- a path is empty, or begins at one of the nodes
   begins_within : (a b : ℕ) → Path E a b → (a ≡ b) ⊎ (a < 2)
   begins_within a b (Here same) = inl same
   begins_within a b (Onward {b = z} way edge) =
@@ -91,7 +91,7 @@ module _ (E : ℕ → ℕ → Type 0) (lead : LeadOnward E) where
   later zero ready = absurd (ready.unlisted first_is_listed)
   later (suc a) ready = omega arith
 
-  -- and then the second one
+  -- the second node comes second
   second_listed : IsNext E 2 ((0 ∷ []) ∷ []) (1 ∷ [])
   second_listed = record {
     least = 1;
@@ -115,6 +115,6 @@ module _ (E : ℕ → ℕ → Type 0) (lead : LeadOnward E) where
   each_next (x ∷ y ∷ []) after c e = absurd (let none : ⊥ = cc in none)
   each_next (x ∷ y ∷ z ∷ before) after c e = absurd (let none : ⊥ = cc in none)
 
-  -- so they are listed
+  -- both components are listed
   pub two_listed : IsListing E 2 both_listed
   two_listed = record { each = each_next; all = all_listed }

@@ -16,7 +16,7 @@ pub record LeadBoth (E : ℕ → ℕ → Type 0) : Type 0 where
 abbrev pub pair_listed : List (List ℕ)
 pair_listed = (0 ∷ 1 ∷ []) ∷ []
 
--- the two are in the list, and no others
+-- the two nodes are in the list, and no others
 is_of_two : (b : ℕ) → Contains (0 ∷ 1 ∷ []) b → b < 2
 is_of_two b h =
     either (contains-cases b 0 (1 ∷ []) h) (λ e. subst (λ (n : ℕ). n < 2) e (omega arith))
@@ -30,19 +30,19 @@ there (suc (suc b)) low = absurd (let none : suc (suc b) < 2 = low in omega (ari
 all_listed : (a : ℕ) → a < 2 → IsListed pair_listed a
 all_listed a low = record { component = 0 ∷ 1 ∷ []; listed = (zero, omega arith, refl); member = there a low }
 
--- it ascends
+-- the list ascends
 rises : IsStrictlyIncreasing (0 ∷ 1 ∷ [])
 rises zero low = omega arith
 rises (suc k) low = absurd (omega (arith, low))
 
 module _ (E : ℕ → ℕ → Type 0) (lead : LeadBoth E) where
-  -- both are in the component of the first
+  -- both nodes are in the component of the first
   with_first : (b : ℕ) → b < 2 → IsMutual E 0 b
   with_first zero low = record { onward = Here refl; back = Here refl }
   with_first (suc zero) low = record { onward = Onward (Here refl) lead.onward; back = Onward (Here refl) lead.back }
   with_first (suc (suc b)) low = absurd (let none : suc (suc b) < 2 = low in omega (arith, none))
 
-  -- what leads to one of the two is one of them
+  -- a path to one of the two nodes begins at one of them
   begins_within : (a b : ℕ) → Path E a b → b < 2 → a < 2
   begins_within a b (Here same) low = subst (λ (n : ℕ). n < 2) (sym same) low
   begins_within a b (Onward {b = z} way edge) low = begins_within a z way (lead.within z b edge)

@@ -25,7 +25,7 @@ use Rattle.worked_reasons.specs.Programs.{above_rule, above}
 abbrev lowered_value : Form
 lowered_value = plane_form (pos 0) (negsuc 0) (pos 0)
 
--- it rises back along C, where A stays
+-- the negation rises back along C, where A is unchanged
 stays_back : (j : ℕ) → j < 1 → at back_along_free j ≡ pos 0
 stays_back zero l = refl
 stays_back (suc j) l = absurd (omega (arith, l))
@@ -51,7 +51,7 @@ low = record {
       (record { z = at from_one.parts; d = pos from_one.den; point = free_point }) back_rises;
 }
 
--- C - A >= 0
+-- the row C - A >= 0
 abbrev row : Form
 row = plane_form (negsuc 0) (pos 1) (pos 0)
 
@@ -70,7 +70,7 @@ rises = record {
   rises = omega (arith, ints);
 }
 
--- from a point of the row
+-- the free value is unbounded upwards, from a point of the row
 up_from : (kept : ScaledPoint) → length kept.parts ≡ 2 → IsPoint (row ∷ []) (at kept.parts) (pos kept.den)
     → PassesEveryForm above 1 1 Up along_free kept
 unfolding divisor_of
@@ -108,7 +108,7 @@ half_meets = record {
   };
 }
 
--- where A is 1 and C is 0 the row doesn't hold
+-- the point where A is 1 and C is 0 is off the row
 below_row : IsPoint (row ∷ []) (at (pos 1 ∷ pos 0 ∷ [])) (pos 1) → ⊥
 below_row h =
     let holds = All-head (λ r. pos 0 ≤ℤ form_value r (at (pos 1 ∷ pos 0 ∷ [])) (pos 1)) row [] h.meets.each in
@@ -120,7 +120,7 @@ off_the_row h =
     below_row
     (of_rule (λ r. IsPoint (prepared r).rows (at (pos 1 ∷ pos 0 ∷ [])) (pos 1)) above_rule h.rule h.numbered h.from)
 
--- back along C the row is left
+-- the ray back along C leaves the row
 leaves : IsUnboundedRay (row ∷ []) 1 lowered_value (at back_along_free) → ⊥
 leaves h =
     let holds = All-head (λ r. pos 0 ≤ℤ form_value r (at back_along_free) (pos 0)) row [] h.ray.each in

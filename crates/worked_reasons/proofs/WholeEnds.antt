@@ -1,4 +1,4 @@
--- What sequences of integers end with, followed by computation: a dual or a solution, and then no limit is passed.
+-- The ends of sequences of integers, followed by computation: a dual or a solution; at these no limit is exceeded.
 use Rattle.std.proofs.Common.{◌≡◌, ◌≢◌, inl, inr, ℕ, zero, suc, ◌<◌, ◌≤◌, ◌==◌, ◌&&◌, ◌||◌, not, Bool, true, false}
 use Rattle.std.proofs.Common.{List, [], ◌∷◌, length, Option, Some, None, refl, sym, ◌∙◌, ap, subst, arith}
 use Rattle.std.specs.Prelude.{ℤ, pos, ◌*ℤ◌, unsigned_abs, nat_lt, slice_get, slice_index}
@@ -33,7 +33,7 @@ use Rattle.simplex_core.proofs.WholeAnswers.{solution-given, dual-given}
 use Rattle.worked_reasons.proofs.Runs.{passes_both, are_same, same-sound, tableau_after, IsWholeRun, is_whole_run, whole_run}
 use Rattle.worked_reasons.proofs.Runs.{run_whole, run_comes, run_scale}
 
--- numbers below the limit as fractions
+-- whether all numbers are below the limit, as fractions
 abbrev pub are_low : List ℤ → Bool
 are_low [] = true
 are_low (z ∷ zs) = nat_lt (unsigned_abs z) number_limit && are_low zs
@@ -68,7 +68,7 @@ wholes-at (z ∷ zs) h zero f e =
 wholes-at (z ∷ zs) h (suc j) f e =
     wholes-at zs (passes_both (nat_lt (unsigned_abs z) number_limit) (are_low zs) h).1 j f e
 
--- all of them are below the limit
+-- all these numbers are below the limit
 low_at : (zs : List ℤ) → are_low zs ≡ true → (j : ℕ) → unsigned_abs (at zs j) < number_limit
 low_at [] h j = zero_low
   where
@@ -78,7 +78,7 @@ low_at (z ∷ zs) h zero =
     ltb-true (unsigned_abs z) number_limit (passes_both (nat_lt (unsigned_abs z) number_limit) (are_low zs) h).0
 low_at (z ∷ zs) h (suc j) = low_at zs (passes_both (nat_lt (unsigned_abs z) number_limit) (are_low zs) h).1 j
 
--- they are the fractions over 1
+-- the fractions are the numbers over 1
 wholes_scaled : (zs : List ℤ) (h : are_low zs ≡ true) → AreScaled (wholes zs h) zs 1
 wholes_scaled zs h = record {
   lengths = sym (wholes-long zs h);
@@ -107,7 +107,7 @@ pub record IsDualRun (p : LinearProgram) (allowed k : ℕ) (zs : List ℤ) : Typ
   pub low : are_low zs ≡ true
   pub read : every p.rows (λ j. are_same (dual_of p (tableau_after p k) j) (at zs j)) ≡ true
 
--- whether it does
+-- whether the run ends as infeasible with this dual
 abbrev pub is_dual_run : LinearProgram → ℕ → ℕ → List ℤ → Bool
 is_dual_run p allowed k zs =
     is_whole_run p allowed k
@@ -155,12 +155,12 @@ dual_given p allowed k zs r =
         (subst (λ (n : ℤ). n *ℤ pos 1 ≡ dual_of p (tableau_after p k) j *ℤ pos 1) (sym is.0)
         (subst (λ (n : ℤ). at zs j *ℤ pos 1 ≡ n *ℤ pos 1) (sym same) refl)))
 
--- so the dual is the answer
+-- the dual is the answer of the linear program
 pub dual_run : (p : LinearProgram) (allowed k : ℕ) (zs : List ℤ) → is_dual_run p allowed k zs ≡ true
     → IsScaledDual p allowed zs 1
 dual_run p allowed k zs h = dual_given p allowed k zs (dual_parts p allowed k zs h)
 
--- nothing is there
+-- whether there is no number
 abbrev pub is_none : Option ℕ → Bool
 is_none None = true
 is_none (Some c) = false
@@ -169,7 +169,8 @@ none_there : (o : Option ℕ) → is_none o ≡ true → o ≡ None
 none_there None e = refl
 none_there (Some c) e = absurd (no_is_not_yes false refl e)
 
--- a number of the basic solution: that of the row that is solved for the column, or 0 where none is
+-- whether a number is that of the basic solution: the one of the row that is solved for the column, or 0 if there is
+-- none
 abbrev pub is_solved_for : LinearProgram → Tableau → ℕ → ℤ → ℕ → Bool
 is_solved_for p t j z i = (t.basis i == j) && are_same (t.entry i (unknowns p)) z
 
@@ -187,7 +188,7 @@ pub record IsSolutionRun (p : LinearProgram) (allowed k : ℕ) (zs : List ℤ) (
   pub basis_long : length basis ≡ p.rows
   pub basis_read : every p.rows (λ i. slice_index basis i == (tableau_after p k).basis i) ≡ true
 
--- whether it does
+-- whether the run ends as optimal with this solution
 abbrev pub is_solution_run : LinearProgram → ℕ → ℕ → List ℤ → List ℕ → Bool
 is_solution_run p allowed k zs basis =
     is_whole_run p allowed k
@@ -220,7 +221,7 @@ solution_parts p allowed k zs basis h =
       basis_read = g.1;
     }
 
--- the value of a number of the basic solution
+-- the number of the basic solution has this value
 solved-sound : (p : LinearProgram) (t : Tableau) (j : ℕ) (f : Frac) → f.den ≡ pos 1
     → ((i : ℕ) → i < p.rows → t.scale i ≡ pos 1) → is_basic p t j f.num ≡ true → IsBasicValue p t j f
 solved-sound p t j f one over h =
@@ -287,12 +288,12 @@ solution_given p allowed k zs basis r =
         (subst (λ (z : ℤ). is_basic p (tableau_after p k) j z ≡ true) (sym is.0)
         (every-each p.columns (λ l. is_basic p (tableau_after p k) l (at zs l)) r.read j (below j f e)))
 
--- so the solution is the answer
+-- the solution is the answer of the linear program
 pub solution_run : (p : LinearProgram) (allowed k : ℕ) (zs : List ℤ) (basis : List ℕ)
     → is_solution_run p allowed k zs basis ≡ true → IsScaledSolution p allowed zs 1
 solution_run p allowed k zs basis h = solution_given p allowed k zs basis (solution_parts p allowed k zs basis h)
 
--- what ends as infeasible with fractions that small integers stand for exceeds no limit
+-- a run that ends as infeasible with fractions that small integers represent exceeds no limit
 pub infeasible_hits_no_limit : (p : LinearProgram) (allowed k : ℕ) (fs : List Frac) (zs : List ℤ) (den : ℕ)
     → table_size p ≤ widest → EndsInfeasibly p allowed fs k → AreOver fs (length fs) zs den
     → AreWithin point_limit (length fs) zs → (c : Cause) → ¬ (HitsLimit p allowed c)
@@ -309,14 +310,14 @@ infeasible_hits_no_limit p allowed k fs zs den fits ends over within scale (w, i
     t.exceeds zs den (over-same fs t.dual zs den same over)
     (record { each = λ j l. within.each j (let a = same.lengths in omega (arith, l, a)) })
 
--- so what is answered by a dual passes none
+-- a linear program whose answer is a dual exceeds no limit
 pub dual_hits_no_limit : (p : LinearProgram) (allowed : ℕ) (zs : List ℤ) (den : ℕ) → IsScaledDual p allowed zs den
     → (c : Cause) → ¬ (HitsLimit p allowed c)
 dual_hits_no_limit p allowed zs den s =
     infeasible_hits_no_limit p allowed s.k s.dual zs den s.fits s.ends s.scaled.over
     (record { each = λ j l. s.within.each j (let b = s.scaled.lengths in omega (arith, l, b)) })
 
--- and neither does what is answered by a solution
+-- a linear program whose answer is a solution exceeds no limit
 pub solution_hits_no_limit : (p : LinearProgram) (allowed : ℕ) (zs : List ℤ) (den : ℕ) → IsScaledSolution p allowed zs den
     → (c : Cause) → ¬ (HitsLimit p allowed c)
 solution_hits_no_limit p allowed zs den s (range m) t =
@@ -333,20 +334,20 @@ solution_hits_no_limit p allowed zs den s scale (w, inl t) =
       each = λ j l. s.within.each j (let a = same.lengths in let b = s.scaled.lengths in omega (arith, l, a, b));
     }) s.den_within
 
--- one solution is answered
+-- the solution of a linear program is unique
 pub solutions_same : (p : LinearProgram) (allowed : ℕ) (xs ys : List ℤ) (d e : ℕ) → IsScaledSolution p allowed xs d
     → IsScaledSolution p allowed ys e → (xs ≡ ys) × (d ≡ e)
 solutions_same p allowed xs ys d e s t =
     scaled-once s.point t.point xs ys d e (optimal-same p allowed s.k t.k s.point t.point s.basis t.basis s.ends t.ends).0
     s.scaled t.scaled
 
--- and one dual
+-- the dual of a linear program is unique
 pub duals_same : (p : LinearProgram) (allowed : ℕ) (xs ys : List ℤ) (d e : ℕ) → IsScaledDual p allowed xs d
     → IsScaledDual p allowed ys e → (xs ≡ ys) × (d ≡ e)
 duals_same p allowed xs ys d e s t =
     scaled-once s.dual t.dual xs ys d e (infeasible-same p allowed s.k t.k s.dual t.dual s.ends t.ends).0 s.scaled t.scaled
 
--- and not both
+-- a linear program hasn't both a solution and a dual
 pub never_both : (p : LinearProgram) (allowed : ℕ) (xs ys : List ℤ) (d e : ℕ) → IsScaledSolution p allowed xs d
     → IsScaledDual p allowed ys e → ⊥
 never_both p allowed xs ys d e s t = ends-apart p allowed s.k t.k s.point s.basis t.dual s.ends t.ends

@@ -27,14 +27,14 @@ use Rattle.worked_reasons.specs.Programs.{limit_hit_at}
 abbrev pub never : ℕ → Option Bound
 never t = Some (Constant 0)
 
--- the cost of entering, where no rule ever occurs, and where each occurs once
+-- the question of the cost of entering, if no rule ever occurs, and if each rule occurs once
 abbrev pub never_entering : CostQuestion
 never_entering = paying_over never no_size 1
 
 abbrev pub entering_once : CostQuestion
 entering_once = paying_over once own_size 1
 
--- nothing is answered of one step; its cost is at most A; and a limit is hit
+-- the answers on the cost of one step: there is none; the cost is at most A; and a limit is hit
 abbrev pub Unanswered : Local → Type 0
 Unanswered step = ⊥
 
@@ -44,9 +44,9 @@ AtMostA step = step ≡ up_to by_A
 abbrev pub Exceeds : LimitHit → Local → Type 0
 Exceeds x step = step ≡ HasHitLimit x
 
--- rows without a point come first, also where the rule never occurs; then a time of 0, whatever is answered of one
--- step, also where the linear program for a point exceeds a limit. That limit is no reason by itself: where one step
--- has a bound, the cost has it; and where it is the answer on one step, the question is the cost and not the point
+-- rows without a point come first, even if the rule never occurs; then a time of 0, whatever the answer on one step is,
+-- even if the linear program for a point exceeds a limit. That limit is no reason by itself: if one step has a bound,
+-- so has the cost; and if the limit is the answer on one step, its question is the cost and not the point
 pub record RowsAreWorkedOut : Type 0 where
   pub empty : (node : EmptyNode)
       → FeasibleTo never_entering Unanswered (feasible.Empty node) (BoundedBy (EmptyCost node.multipliers.items))
@@ -101,7 +101,7 @@ three_above v =
     Compare (Variable v) AtLeast (Literal (pos 1)) ∷ Compare (Variable v) AtLeast (Literal (pos 2))
     ∷ Compare (Variable v) AtLeast (Literal (pos 3)) ∷ []
 
--- k(A) -> l(A) for a cost, where A is at least these numbers
+-- k(A) -> l(A) with a cost, if A is at least 1, 2 and 3
 abbrev pub rule_above : Term → Rule
 rule_above c = with_cost c (rule_over 0 1 0 (Variable 0) (three_above 0))
 
@@ -145,9 +145,9 @@ abbrev pub IsOutcome : Program → CostOutcome → Type 0
 IsOutcome p o = IsCostOf p 1 (known_as once no_size) 1 o
 
 -- within one pivot the linear program for a point of the rows exceeds the limit. A cost of 5 has both sides all the
--- same, and is bounded. Of a cost of A - 1 the upper side has the bound A, and the lower side exceeds the limit: the cost
--- isn't bounded, though an upper bound of one step is found. Of a cost of C * C neither side has a form: whether it is
--- unbounded isn't known, and the limit is reported, by the question of the cost and not by that of the point
+-- same, and is bounded. Of a cost of A - 1 the upper side has the bound A, and the lower side exceeds the limit: the
+-- cost isn't bounded, though an upper bound of one step is found. Of a cost of C * C neither side has a form: whether
+-- it is unbounded isn't known, and the limit is reported, by the question of the cost and not by that of the point
 pub record LimitsOfCostsAreWorkedOut : Type 0 where
   pub both_sides : IsOutcome (program_above five) (BoundedBy (SideBoundCost by_five))
   pub not_of_five : (x : LimitHit) → ¬ (IsOutcome (program_above five) (NotBounded (SizeHitLimit x)))
@@ -158,7 +158,7 @@ pub record LimitsOfCostsAreWorkedOut : Type 0 where
   pub not_unbounded : (side : Side) (ray : List ℤ) (kept : ScaledPoint)
       → ¬ (IsOutcome squared_free (NotBounded (SizeUnbounded side ray kept)))
 
--- all of these
+-- all worked values of the outcomes of costs
 pub record CostOutcomesAreWorkedOut : Type 0 where
   pub rows : RowsAreWorkedOut
   pub missing : MissingSizesAreWorkedOut

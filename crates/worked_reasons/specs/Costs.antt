@@ -1,5 +1,5 @@
--- Why costs have no bound, worked out by hand: of k(A) -> l(A) for a cost of C, where C is free; and of a rule without a
--- cost.
+-- Why costs have no bound, worked out by hand: of k(A) -> l(A) for a cost of C, where C is free; and of a rule without
+-- a cost.
 use Rattle.std.specs.Prelude.{[], ◌∷◌}
 use Rattle.model.specs.Programs.{Program, Rule}
 use Rattle.model.specs.Terms.{Variable}
@@ -21,9 +21,9 @@ paying_rule = with_cost (Variable 1) (rule_over 0 1 1 (Variable 0) [])
 abbrev pub paying : Program
 paying = program_with (paying_rule ∷ [])
 
--- along C, from a point where it is at least 0, the cost passes every affine form in A; it isn't unbounded below. Within
--- no pivots the first linear program about the cost exceeds the limit of 0 pivots: by the question of the cost, and not
--- by that of a place, nor does another limit. And a rule without a cost has no such reason
+-- along C, from a point where it is at least 0, the cost exceeds every affine form in A; it isn't unbounded below.
+-- Within no pivots the first linear program about the cost exceeds the limit of 0 pivots: with the question of the
+-- cost, not with that of a place, and no other limit. And a rule without a cost has no such reason
 pub record CostsAreWorkedOut : Type 0 where
   pub unbounded : (b : Bounds) → HasNoCost paying 10 b 1 (SizeUnbounded Up along_free from_one)
   pub not_below : (b : Bounds) → ¬ (HasNoCost paying 10 b 1 (SizeUnbounded Low along_free from_one))

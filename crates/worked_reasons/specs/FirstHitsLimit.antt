@@ -9,8 +9,8 @@ use Rattle.worked_reasons.specs.Programs.{limit_hit_at, squares}
 use Rattle.worked_reasons.specs.Squares.{squares_said}
 
 -- within no pivots both rules that square exceed the limit, so the first one is reported and not the second, which is
--- reported behind a rule that doesn't exist; behind a rule without rows, which exceeds none, the next one is reported.
--- And where the linear program for a function that ranks the rule exceeds the limit itself, the one for a point of the
+-- reported after a rule that doesn't exist; after a rule without rows, which exceeds none, the next one is reported.
+-- And if the linear program for a function that ranks the rule exceeds the limit itself, the one for a point of the
 -- rule isn't reported
 pub record FirstHitsLimitAreWorkedOut : Type 0 where
   pub first : FirstHitsLimitSo squares 0 (1 ∷ 2 ∷ []) (limit_hit_at 0 (asked.Empty 1))

@@ -14,9 +14,9 @@ untimed_tower_said = bounds_said doubling.program untimed_tower_report
 abbrev pub timed_tower_said : Bounds
 timed_tower_said = bounds_said doubling.program timed_tower_report
 
--- while the size after the first rule is missing, that is the reason, and not the rule that doubles, whether that has a
--- time or not. Where that size has 201 levels, the rule is the reason while it has no time, and not how large the size
--- is; once it has one, the reason is the size's 415 nodes, and not 414
+-- as long as the size after the first rule is missing, that is the reason, and not the rule that doubles, whether that
+-- has a time or not. If that size has 201 levels, the rule is the reason if it has no time, and not how large the size
+-- is; if it has a time, the reason is the size's 415 nodes, and not 414
 pub record FirstReasonsAreWorkedOut : Type 0 where
   pub missing : (b : Bounds) → b 1 1 ≡ None → HasNoSize doubling.program 10 b 2 1 (SizeMissing (key 1 1))
   pub not_untimed : (b : Bounds) → b 1 1 ≡ None → ¬ (HasNoSize doubling.program 10 b 2 1 (SizeUntimed 2))

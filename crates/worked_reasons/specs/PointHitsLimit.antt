@@ -1,6 +1,6 @@
--- HitsLimit of the linear program for a point where no function and no form is found, worked out by hand: of k(A) -> k(0)
--- where A <= 0, A <= -1 and A <= -2, with k(A) -> k(A - 1); and of k() -> l(C) where B <= 0, B <= -1 and B <= -2, with
--- B and C free.
+-- Limits that the linear program for a point exceeds, if no function and no form is found, worked out by hand: of k(A)
+-- -> k(0) where A <= 0, A <= -1 and A <= -2, with k(A) -> k(A - 1); and of k() -> l(C) where B <= 0, B <= -1 and B <=
+-- -2, with B and C free.
 use Rattle.std.specs.Prelude.{List, [], ◌∷◌, pos, negsuc, None}
 use Rattle.model.specs.Programs.{Atom, AtMost, Compare, Rule, Program}
 use Rattle.model.specs.Terms.{Literal, Variable, Subtraction}

@@ -10,8 +10,8 @@ use Rattle.worked_reasons.specs.Programs.{products, both_products, products_repo
 abbrev pub products_said : Bounds
 products_said = bounds_said products products_report
 
--- both places are one component, of each of them, and of no other members. Both bend, and the first is reported for
--- either place, not the second
+-- both places are one component, of each of them, and of no other members. Both are nonlinear, and the first is
+-- reported for either place, not the second
 pub record ProductsAreWorkedOut : Type 0 where
   pub first_component : IsComponentOf products 0 1 1 both_products
   pub second_component : IsComponentOf products 0 1 2 both_products

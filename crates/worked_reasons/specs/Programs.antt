@@ -72,7 +72,7 @@ products = record {
 abbrev pub both_products : List Member
 both_products = record { result_variable = key 1 1; local = both_polynomial } ∷ record { result_variable = key 1 2; local = both_polynomial } ∷ []
 
--- within no pivots the rule has no time, and the first place bends
+-- within no pivots the rule has no time, and the first place is nonlinear
 abbrev pub products_report : Report
 products_report = record {
   times = Untimed (TimeHitLimit (limit_hit_at 0 (asked.Rank 1))) ∷ [];
@@ -109,16 +109,16 @@ squares_report = record {
   sizes = (Unsized (SizeNonlinear (key 1 1)) ∷ []) ∷ (Unsized (SizeMissing (key 1 1)) ∷ []) ∷ [];
 }
 
--- the same where the report says that the second place bends
-abbrev pub bending_report : Report
-bending_report = record {
+-- the same report, which says that the second place is nonlinear
+abbrev pub nonlinear_report : Report
+nonlinear_report = record {
   times = squares_report.times;
   costs = None ∷ None ∷ [];
   total = None;
   sizes = (Unsized (SizeNonlinear (key 1 1)) ∷ []) ∷ (Unsized (SizeNonlinear (key 2 1)) ∷ []) ∷ [];
 }
 
--- the same where the report gives the first place a size of 201 levels
+-- the same report, which gives the first place a size of 201 levels
 abbrev pub towering_report : Report
 towering_report = record {
   times = squares_report.times;
@@ -137,7 +137,7 @@ growing_report = record {
   sizes = (Sized (Input 0) ∷ []) ∷ (Unsized (SizeUntimed 2) ∷ []) ∷ [];
 }
 
--- the same where neither rule has a time
+-- the same report, in which neither rule has a time
 abbrev pub untimed_report : Report
 untimed_report = record {
   times = Untimed (TimeHitLimit (limit_hit_at 0 (asked.Rank 1)))
@@ -147,7 +147,7 @@ untimed_report = record {
   sizes = growing_report.sizes;
 }
 
--- the same where the second rule has a time
+-- the same report, in which the second rule has a time
 abbrev pub timed_report : Report
 timed_report = record {
   times = Timed (Constant 1) ∷ Timed (Constant 3) ∷ [];
@@ -165,7 +165,7 @@ untimed_tower_report = record {
   sizes = (Sized (tower 200) ∷ []) ∷ (Unsized (SizeUntimed 2) ∷ []) ∷ [];
 }
 
--- the same where it has a time
+-- the same report, in which the second rule has a time
 abbrev pub timed_tower_report : Report
 timed_tower_report = record {
   times = timed_report.times;

@@ -9,13 +9,13 @@ use Rattle.time_bounds.specs.SizeWhys.{HasNoSize}
 use Rattle.time_bounds.specs.WorkedReports.{along_free, from_one}
 use Rattle.worked_reasons.specs.Programs.{above}
 
--- back along C
+-- the ray back along C
 abbrev pub back_along_free : List ℤ
 back_along_free = pos 0 ∷ negsuc 0 ∷ []
 
--- back along C the negation of the free value passes every affine form in A. Where C >= A the value does along C, from
--- a point of the row, with integers or over a denominator of 2; not from a point off the row, nor the negation back
--- along C, which leaves the row
+-- back along C the negation of the free value exceeds every affine form in A. Where C >= A the value does along C, from
+-- a point of the row, with integers or over a denominator of 2; not from a point off the row, nor does the negation
+-- back along C, which leaves the row
 pub record UnboundedPlacesAreWorkedOut : Type 0 where
   pub low : (b : Bounds) → HasNoSize guessed 10 b 1 1 (SizeUnbounded Low back_along_free from_one)
   pub up : (b : Bounds) → HasNoSize above 10 b 1 1 (SizeUnbounded Up along_free from_one)

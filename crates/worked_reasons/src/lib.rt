@@ -21,11 +21,11 @@ ghost use Rattle.worked_reasons.specs.HitsLimit.{HitsLimitAreWorkedOut};
 
 /// Worked values, on small programs, of why rules have no time and places no size: linear programs that exceed a limit
 /// of pivots, of numbers, of a table's size or of a point's integers, which of several rules is reported, and the one
-/// for a point where no function and no form is found; places that are unbounded on a side; sizes that depend on others,
-/// that bend in a loop, that grow by a rule without a time, and that are too large, which of several such reasons is
-/// reported, and of several such rules the first; a time that is too large; a cost that is unbounded, or whose linear
-/// program exceeds a limit; and which outcome a cost has, by its rows, of several missing sizes, and where a limit is
-/// exceeded. The function has no code: its contract is these values.
+/// for a point if no function and no form is found; places that are unbounded on a side; sizes that depend on others,
+/// that are nonlinear in a loop, that grow by a rule without a time, and that are too large, which of several such
+/// reasons is reported, and of several such rules the first; a time that is too large; a cost that is unbounded, or
+/// whose linear program exceeds a limit; and which outcome a cost has, by its rows, of several missing sizes, and where
+/// a limit is exceeded. The function has no code: its contract is these values.
 pub fn missing_bounds_are_as_worked_out()
     ensures hits_limit { HitsLimitAreWorkedOut }
     ensures first_hits_limit { FirstHitsLimitAreWorkedOut }

@@ -1,4 +1,4 @@
-use Rattle.bound_fixpoint.proofs.StandingLaws.{nodes_accepted}
+use Rattle.bound_fixpoint.proofs.JustificationLaws.{nodes_accepted}
 use Rattle.bound_fixpoint.proofs.nodes_are_accepted.Goals as goal
 
 pub returns : goal.returns

@@ -9,7 +9,7 @@ use Rattle.cert_rules.proofs.WorkedReasons.{reasons_worked}
 use Rattle.cert_rules.proofs.WorkedRefused as refused
 use Rattle.cert_rules.proofs.worked_values_hold.Goals as goal
 
--- the four lemmas with their facts
+-- the worked four lemmas are accepted, with their facts
 four : FourLemmasAreAccepted
 unfolding facts_of_lemmas
 four = record { accepted = four_accepted; facts = refl; once_value = refl; down_value = refl; entered_value = refl; looped_value = refl }

@@ -12,6 +12,6 @@ pub record StatesReport (program : Program) (pivots : ℕ) (report : Report) (te
   pub found : IsFound program pivots report
   pub stated : States program text report
 
--- by the report of the program's analysis, which the text states
+-- the table of `analyse`: by the report of the program's analysis, which the text states
 abbrev pub analyse_answers : ℕ → Program → Cases
 analyse_answers pivots program = by_report (IsAnalysis program pivots) (StatesReport program pivots)

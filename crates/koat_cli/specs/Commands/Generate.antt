@@ -11,6 +11,6 @@ pub record StatesGenerated (n : ℕ) (text : List ℕ) : Type 0 where
   pub result_is : text ≡ canonical_text (generated n)
   pub spelled : SpellsWithin text (generated n)
 
--- always `Done`, with the program
+-- the table of `generate`: always `Done`, with the program
 abbrev pub generate_answers : ℕ → Cases
 generate_answers n = Case Done ⊤ (StatesGenerated n) End

@@ -1,4 +1,4 @@
--- `lasso`: whether the turn of a lasso leads back, or is seen to move on, so that its rules occur without end.
+-- `lasso`: whether the turn of a lasso leads back, or is shown to move on, so that its rules occur without end.
 use Rattle.std.specs.Prelude.{◌≡◌, ◌≤◌, ℕ, List}
 use Rattle.std.specs.List.{All}
 use Rattle.model.specs.Bounds.{Bound}
@@ -16,9 +16,9 @@ use Rattle.call_plans.specs.Plans.{Cases, End, Case}
 use Rattle.koat_cli.specs.LassoTexts.{turn_text, obstacle_text}
 use Rattle.koat_cli.specs.Statements.{StatesOne}
 
--- the text has the rules of the turn, what it costs, and of one that moves on its differences; each of these rules occurs
--- without end, so no bound on its use holds; a turn that moves on does so by these differences; and where a turn that leads
--- back costs something, no bound on what all steps cost holds
+-- the text has the rules of the turn, what it costs, and for a turn that moves on its differences; each of these rules
+-- occurs without end, so no bound on its use holds; a turn that moves on does so by these differences; and if a turn
+-- that leads back costs something, no bound on what all steps cost holds
 pub record StatesTurn (program : Program) (file : LassoFile) (text : List ℕ) : Type 0 where
   pub turn : EndlessTurn
   pub is_turn : IsEndlessTurn program file turn
@@ -30,17 +30,17 @@ pub record StatesTurn (program : Program) (file : LassoFile) (text : List ℕ) :
   pub no_total : (back : Turn) → turn ≡ Back back → 1 ≤ back.cost → (bound : Bound) → ¬ (HoldsTotal program bound)
   pub result_is : text ≡ turn_text turn
 
--- something keeps the turn from being repeated, or from being seen to: the first bad step, the place at which the turn
--- leads elsewhere, or what is found of one that isn't seen to move on
+-- there is something that prevents that the turn is repeated, or is shown to be: the first bad step, the place at which
+-- the turn leads elsewhere, or why a turn isn't shown to move on
 abbrev pub HasSomeObstacle : Program → LassoFile → Type 0
 HasSomeObstacle program file = (obstacle : Obstacle) × HasObstacle program file obstacle
 
--- the text states it
+-- the text states what prevents it
 abbrev pub StatesObstacle : Program → LassoFile → List ℕ → Type 0
 StatesObstacle program file text = StatesOne (HasObstacle program file) obstacle_text text
 
--- `Done` where the steps are a run within 128 bits and the turn leads back, or is seen to move on, as the form of the file
--- has it, with its rules and its cost; and `NotARun` where something keeps it from that, with what does
+-- the table of `lasso`: `Done` if the steps are a run within 128 bits and the turn leads back, or is shown to move on,
+-- by the form of the file, with its rules and its cost; and `NotARun` if something prevents this, with what does
 abbrev pub lasso_answers : Program → LassoFile → Cases
 lasso_answers program file =
     Case Done (CanRepeat program file) (StatesTurn program file)

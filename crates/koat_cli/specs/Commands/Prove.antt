@@ -12,8 +12,8 @@ use Rattle.analysis_certs.specs.ProvedFiles.{file_of_outcome}
 use Rattle.call_plans.specs.Plans.{Cases}
 use Rattle.koat_cli.specs.Found.{IsFound, by_report}
 
--- what an analysis of the program with this many pivots found, with its lemmas and its gaps; their file is accepted for
--- the program, and the text is that of this file, within the limits of proof files
+-- the outcome of an analysis of the program with this many pivots, with its lemmas and its gaps; the file of these is
+-- accepted for the program, and the text is that of this file, within the limits of proof files
 pub record IsProved (program : Program) (pivots : ℕ) (outcome : Outcome) (text : List ℕ) : Type 0 where
   pub found : IsFound program pivots (report_of outcome)
   pub lemmas : HasLemmas program pivots outcome
@@ -26,6 +26,6 @@ pub record StatesProof (program : Program) (pivots : ℕ) (report : Report) (tex
   pub reported : report_of outcome ≡ report
   pub proved : IsProved program pivots outcome text
 
--- by the report of the program's analysis, with its proof file
+-- the table of `prove`: by the report of the program's analysis, with its proof file
 abbrev pub prove_answers : ℕ → Program → Cases
 prove_answers pivots program = by_report (IsAnalysis program pivots) (StatesProof program pivots)

@@ -20,14 +20,14 @@ use Rattle.koat_cli.specs.WithinBounds.{IsWithinBounds}
 abbrev pub IsInRange : Program → Run → Type 0
 IsInRange program run = IsRunInRange program run.start (last_first run)
 
--- one of them is the first bad one
+-- one of the steps is the first bad one
 abbrev pub HasBadStep : Program → Run → Type 0
 HasBadStep program run = (bad : BadStep) × IsFirstBadStep program run.start (last_first run) bad
 
--- the text has the tally along the run beside the bounds that the program's analysis with the usual number of pivots
--- finds, each as its value, up to 2^127, at the absolute start values; the report has an entry for each rule and for
--- each place of its target, so that none of their lines is left out; and each number of the tally is at most the value
--- of the bound beside it
+-- the text has the tally along the run beside the bounds of the program's analysis with the default number of pivots,
+-- each as its value, up to 2^127, at the absolute start values; the report has an entry for each rule and for each
+-- place of its target, so that none of their lines is left out; and each number of the tally is at most the value of
+-- the bound beside it
 pub record StatesTally (program : Program) (run : Run) (text : List ℕ) : Type 0 where
   pub in_range : IsInRange program run
   pub report : Report
@@ -42,8 +42,8 @@ pub record StatesTally (program : Program) (run : Run) (text : List ℕ) : Type 
 abbrev pub StatesBadStep : Program → Run → List ℕ → Type 0
 StatesBadStep program run text = StatesOne (IsFirstBadStep program run.start (last_first run)) bad_step_text text
 
--- `Done` where the steps are a run within 128 bits, with the tally beside the bounds; and `NotARun` where one of them
--- is bad, with the first bad one
+-- the table of `replay`: `Done` if the steps are a run within 128 bits, with the tally beside the bounds; and `NotARun`
+-- if one of them is bad, with the first bad one
 abbrev pub replay_answers : Program → Run → Cases
 replay_answers program run =
     Case Done (IsInRange program run) (StatesTally program run)

@@ -12,8 +12,8 @@ use Rattle.call_plans.specs.Plans.{Cases}
 use Rattle.koat_cli.specs.Figures.{text_of_figures}
 use Rattle.koat_cli.specs.Found.{IsFound, by_report}
 
--- the text has the figures of what the program's analysis with the usual number of pivots finds, which has this report;
--- its lemmas are those of this analysis
+-- the text has the figures of the program's analysis with the default number of pivots, which has this report; its
+-- lemmas are those of this analysis
 pub record StatesFigures (program : Program) (report : Report) (text : List ℕ) : Type 0 where
   pub outcome : Outcome
   pub reported : report_of outcome ≡ report
@@ -21,6 +21,6 @@ pub record StatesFigures (program : Program) (report : Report) (text : List ℕ)
   pub lemmas : HasLemmas program default_pivots outcome
   pub result_is : text ≡ text_of_figures program (report_of outcome) (length outcome.lemmas.items)
 
--- by the report of the generated program's analysis, with its figures
+-- the table of `selfrun`: by the report of the generated program's analysis, with its figures
 abbrev pub selfrun_answers : ℕ → Cases
 selfrun_answers n = by_report (IsAnalysis (generated n) default_pivots) (StatesFigures (generated n))

@@ -12,6 +12,6 @@ pub record StatesTranslation (source : Source) (text : List ℕ) : Type 0 where
   pub result_is : text ≡ canonical_text (translation_of source)
   pub spelled : SpellsBack text (translation_of source)
 
--- always `Done`, with the translation
+-- the table of `translate`: always `Done`, with the translation
 abbrev pub translate_answers : Source → Cases
 translate_answers source = Case Done ⊤ (StatesTranslation source) End

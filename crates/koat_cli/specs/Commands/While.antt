@@ -10,8 +10,8 @@ use Rattle.call_plans.specs.Plans.{Cases}
 use Rattle.koat_cli.specs.Found.{by_report}
 use Rattle.koat_cli.specs.Commands.Analyse.{StatesReport}
 
--- the text has the position of each statement, followed by what `analyse` writes of the translation with as many
--- pivots; the program's executions end as the runs of the translation do; and where the report has a total, each
+-- the text has the position of each statement, followed by the text that `analyse` writes for the translation with as
+-- many pivots; the program's executions end as the runs of the translation do; and if the report has a total, each
 -- execution has at most as many steps as it says
 pub record StatesExecutions (source : Source) (pivots : ℕ) (report : Report) (text : List ℕ) : Type 0 where
   pub report_text : List ℕ
@@ -20,7 +20,8 @@ pub record StatesExecutions (source : Source) (pivots : ℕ) (report : Report) (
   pub ends : EndsAsRuns source
   pub bounded : (total : Bound) → report.total ≡ Some total → HasStepsWithin source total
 
--- by the report of the translation's analysis, which the text states behind the positions of the statements
+-- the table of `while`: by the report of the translation's analysis, which the text states after the positions of the
+-- statements
 abbrev pub while_answers : ℕ → Source → Cases
 while_answers pivots source =
     by_report (IsAnalysis (translation_of source) pivots) (StatesExecutions source pivots)

@@ -1,4 +1,4 @@
--- What is derived as an expression or as atoms is what spells one of programs.
+-- The token lists derived as an expression or as atoms are those that spell one of programs.
 use Rattle.while_laws.proofs.DerivedAlike as lemmas
 use Rattle.while_laws.proofs.derived_alike.Goals as goal
 

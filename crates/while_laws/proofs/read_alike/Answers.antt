@@ -1,4 +1,4 @@
--- What reading makes of expressions and atoms are the terms and atoms of programs.
+-- The reader builds the terms and atoms of programs from expressions and atoms.
 use Rattle.while_laws.proofs.ReadAlike as lemmas
 use Rattle.while_laws.proofs.read_alike.Goals as goal
 

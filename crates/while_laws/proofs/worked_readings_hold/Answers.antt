@@ -1,4 +1,4 @@
--- Small texts are read as it was worked out by hand.
+-- Small texts have the worked answers.
 use Rattle.while_laws.proofs.WorkedReadings as lemmas
 use Rattle.while_laws.proofs.worked_readings_hold.Goals as goal
 

@@ -26,7 +26,7 @@ decreases-one_below l = 16 * (bound_weight (bound_of l.a.now) + bound_weight (bo
 abbrev pub decreases-terms_below : goal.decreases-terms_below
 decreases-terms_below l = 16 * (factors_weight (bounds_of l.parts.now) + factors_weight (bounds_of l.others.now)) + 10
 
--- parts of a sum are compared before their factors
+-- the recursion measure of each way of pairing: parts of a sum are compared before their factors
 abbrev pub turn : Pairing → ℕ
 turn AsTerms = 8
 turn AsFactors = 1
@@ -59,7 +59,7 @@ decreases-is_among_taken l =
 abbrev pub decreases-is_factor_below : goal.decreases-is_factor_below
 decreases-is_factor_below l = 16 * (factor_weight (bound_of l.factor.now) + factor_weight (bound_of l.other.now))
 
--- one factor below another
+-- one factor is below another, as the test `below` says
 abbrev pub beneath : Bound → Bound → Bool
 beneath = factor_below (λ p q. below p q)
 

@@ -7,7 +7,7 @@ use Rattle.bound_text.specs.Printing.{separator_of, before_of}
 use Rattle.bound_text.specs.Depths.{Flags}
 use Rattle.bound_text.proofs.depths.+mark.Given as goal
 
--- the factors left, after what was marked, are all the factors
+-- the factors still to be marked, after what was marked, are all the factors
 abbrev pub invariant-mark_factors-loop-factor : goal.invariant-mark_factors-loop-factor
 invariant-mark_factors-loop-factor l =
     Flags l.room l.fn.flags.items l.flags.items
@@ -15,7 +15,7 @@ invariant-mark_factors-loop-factor l =
     (λ level. factors_marks level (before_of l.before) (parts_of (bounds_of (drop l.factor-index l.factors))))
     × (count_of (before_of l.before) ≤ l.factor-index)
 
--- the parts left, after what was marked, are all the parts
+-- the parts still to be marked, after what was marked, are all the parts
 abbrev pub invariant-mark_joined-loop-part : goal.invariant-mark_joined-loop-part
 invariant-mark_joined-loop-part l =
     Flags l.room l.fn.flags.items l.flags.items

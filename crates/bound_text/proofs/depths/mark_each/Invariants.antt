@@ -5,7 +5,7 @@ use Rattle.bound_text.specs.Printing.{separator_of}
 use Rattle.bound_text.specs.Depths.{Flags}
 use Rattle.bound_text.proofs.depths.mark_each.Given as goal
 
--- the parts left, after what was marked, are all the parts
+-- the parts still to be marked, after what was marked, are all the parts
 abbrev pub invariant-loop-part : goal.invariant-loop-part
 invariant-loop-part l =
     Flags l.room l.fn.flags.items l.flags.items

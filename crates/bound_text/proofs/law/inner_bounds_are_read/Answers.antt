@@ -1,4 +1,4 @@
--- The laws don't depend on what is shown.
+-- The laws of a reader don't depend on the faults that it shows.
 use Rattle.bound_text.proofs.InsideLaws.{inner_bounds_are_read}
 use Rattle.bound_text.proofs.law.inner_bounds_are_read.Goals as goal
 

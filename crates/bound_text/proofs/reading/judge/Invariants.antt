@@ -5,7 +5,7 @@ use Rattle.bound_text.specs.Views.{front_of, is_settled}
 use Rattle.bound_text.proofs.ReadingLaws.{Decides}
 use Rattle.bound_text.proofs.reading.judge.Given as goal
 
--- the current state decides the answer together with the remaining pieces
+-- the current state decides the answer together with the pieces that are left
 abbrev pub invariant-loop-first : goal.invariant-loop-first
 invariant-loop-first l = Decides (map name_of l.names) l.bytes l.rest (front_of l.reader) × IsTrue (is_settled l.reader)
 

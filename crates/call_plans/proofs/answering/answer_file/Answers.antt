@@ -2,7 +2,7 @@ use Rattle.std.proofs.Common.{string_bytes, refl}
 use Rattle.call_plans.specs.Calls.{seen_of}
 use Rattle.call_plans.specs.OnFiles.{Without}
 use Rattle.call_plans.specs.Plans.{Answers}
-use Rattle.call_plans.proofs.Behind.{behind_ok, told_ok}
+use Rattle.call_plans.proofs.Behind.{behind_ok, row_of_result}
 use Rattle.call_plans.proofs.answering.answer_file.Goals as goal
 
 pub returns-in-Answer-clause-says : goal.returns-in-Answer-clause-says
@@ -23,5 +23,5 @@ returns-in-Thing-clause-says g c =
     (λ t. Answers (g.C.Reader.answers reader t)) thing c.answer.result c.in_ok-said.ensures.keeps_files
     c.in_ok-said.ensures.keeps_count (rw c.in-Thing.is at c.in_ok-said.ensures.fault) c.in_ok-said.ensures.counted
     (λ last. refl) (rw c.in-Thing.is at c.in_ok-said.ensures.gives)
-    (told_ok (seen_of g.F.Shelf after after) (g.F.Shelf.fetches after) (g.C.Reader.answers reader thing) c.answer.result
+    (row_of_result (seen_of g.F.Shelf after after) (g.F.Shelf.fetches after) (g.C.Reader.answers reader thing) c.answer.result
     refl c.answer.ensures)

@@ -4,6 +4,6 @@ use Rattle.guard_prep.specs.Prepared.{prepared}
 use Rattle.guard_prep.specs.Views.{prepared_of}
 use Rattle.cert_context.proofs.context.all_rows.Given as goal
 
--- the rows of the rules so far
+-- the list has the prepared rows of the rules before this one
 abbrev pub invariant-loop-rule : goal.invariant-loop-rule
 invariant-loop-rule l = map prepared_of l.prepared_rules.items ≡ map prepared (map rule_of (take l.rule-index l.p.rules.items))

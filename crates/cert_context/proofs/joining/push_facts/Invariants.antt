@@ -3,7 +3,7 @@ use Rattle.cert_types.specs.Views.{facts_of}
 use Rattle.cert_context.specs.Lookups.{facts_at}
 use Rattle.cert_context.proofs.joining.push_facts.Given as goal
 
--- what is done and what is left is all
+-- the facts pushed and those still to be pushed are all facts
 abbrev pub invariant-loop-fact : goal.invariant-loop-fact
 invariant-loop-fact l =
     facts_at l.all.items ++ facts_of (drop l.fact-index l.facts) ≡ facts_at l.initial.all.items ++ facts_of l.facts

@@ -4,7 +4,7 @@ use Rattle.model.specs.Facts as plain
 use Rattle.cert_types.specs.Views.{facts_of}
 use Rattle.cert_types.specs.cert_rules.Known.{table_of}
 use Rattle.cert_context.specs.Lookups.{facts_at}
-use Rattle.cert_context.specs.Joining.{TellsAlso}
+use Rattle.cert_context.specs.Joining.{StatesAlso}
 use Rattle.cert_context.specs.Statements.{facts_by}
 use Rattle.cert_context.proofs.JoinedTables.{all_at-still}
 use Rattle.cert_context.proofs.joining.push_used.Goals as goal
@@ -12,7 +12,7 @@ use Rattle.cert_context.proofs.joining.push_used.Goals as goal
 pub returns-in-StatedFacts-clause-joined : goal.returns-in-StatedFacts-clause-joined
 returns-in-StatedFacts-clause-joined c =
     on_ok_weaker c.push_kept.result
-    (λ h. subst (λ (fs : List plain.Fact). TellsAlso (facts_at c.args.all.now.items) fs (facts_at c.push_kept.new.all.items))
+    (λ h. subst (λ (fs : List plain.Fact). StatesAlso (facts_at c.args.all.now.items) fs (facts_at c.push_kept.new.all.items))
     (sym (ap (facts_by c.args.kept.now) c.in-StatedFacts.is)) h)
     c.push_kept.ensures.joined
 

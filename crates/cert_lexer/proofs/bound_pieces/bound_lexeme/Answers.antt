@@ -18,7 +18,7 @@ returns-then-is_ascii_digit-clause-piece c =
     let digits = number_at (b ∷ prefix is_ascii_digit bytes) in
     let mark = lexeme_with (mark_at b) 1 in
     c.number.ensures.piece n c.args.before
-    ∙ ap (λ (ds : List ℕ). (bound_piece n c.args.before (number_at ds).piece)) c.front_digits.ensures.digits
+    ∙ ap (λ (ds : List ℕ). (bound_piece n c.args.before (number_at ds).piece)) c.leading_digits.ensures.digits
     ∙ sym (ap (λ (v : Bool). bound_piece n c.args.before
     (cond {A = Lexeme Piece} v (word_at names (b ∷ prefix continues_name bytes) (rest continues_name bytes))
     (cond {A = Lexeme Piece} (is_ascii_digit b) digits mark)).piece)

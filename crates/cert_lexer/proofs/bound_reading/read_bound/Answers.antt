@@ -3,7 +3,7 @@ use Rattle.bound_text.specs.Printing.{piece_of}
 use Rattle.std.specs.Prelude.{IfOk}
 use Rattle.bound_text.specs.Fronts.{Front}
 use Rattle.cert_lexer.specs.BoundSteps.{Ends, IsBefore, pieces_in}
-use Rattle.cert_lexer.specs.Carried.{Carries, IsToldWithout, StepsOn}
+use Rattle.cert_lexer.specs.Carried.{Carries, IsRefusedWithout, StepsOn}
 use Rattle.cert_lexer.specs.Packed.{inners_in}
 use Rattle.cert_lexer.proofs.CarriedReading.{knows_begun, knows_on, knows_off, knows_refusal}
 use Rattle.cert_lexer.proofs.FollowerLaws.{tree_settled}
@@ -35,10 +35,10 @@ loop-inner-preserved c =
     record {
       knows =
           knows_on c.args.names (inners_in c.args.pieces) (inners_in c.loop-inner.rest) (inners_in c.in-Some.behind) c.in-Some.inner
-          c.loop-inner.best next c.in-Led.first_refusal at c.loop-inner.reading c.step.new.self c.settle.new.self i.knows
+          c.loop-inner.best next c.in-Accepted.first_refusal at c.loop-inner.reading c.step.new.self c.settle.new.self i.knows
           c.in-Some.ensures (omega (arith, a, b)) within
           (λ f h. subst (StepsOn c.args.names f (piece_of c.in-Some.inner.piece) (pieces_in (inners_in c.in-Some.behind))
-          c.loop-inner.reading.reader c.step.new.self) c.in-Led.is (c.in_ok-first_refusal.ensures f h))
+          c.loop-inner.reading.reader c.step.new.self) c.in-Accepted.is (c.in_ok-first_refusal.ensures f h))
           c.or_refusal_at-best.ensures.first c.settle.ensures.follower
           (c.settle.ensures.reader ∙ ap (λ (v : Bool). cond (v || c.step.new.self.follower.levels.marked.deep) None
           c.step.new.self.reader) c.is_some.ensures);
@@ -48,8 +48,8 @@ loop-inner-preserved c =
           c.or_refusal_at-best.ensures.before;
     }
 
-pub returns-in-Off : goal.returns-in-Off
-returns-in-Off c =
+pub returns-in-Rejected : goal.returns-in-Rejected
+returns-in-Rejected c =
     let at = c.len.result - c.len-in-Some.result in
     let a = c.len.ensures in
     let b = c.len-in-Some.ensures in
@@ -57,12 +57,12 @@ returns-in-Off c =
     c.loop-inner.best at c.loop-inner.reading c.step.new.self c.off.result c.loop-inner.invariant.knows
     c.in-Some.ensures (omega (arith, a, b))
     (λ f h. subst (StepsOn c.args.names f (piece_of c.in-Some.inner.piece) (pieces_in (inners_in c.in-Some.behind))
-    c.loop-inner.reading.reader c.step.new.self) c.in-Off.is (c.in_ok-first_refusal.ensures f h))
+    c.loop-inner.reading.reader c.step.new.self) c.in-Rejected.is (c.in_ok-first_refusal.ensures f h))
     c.off.ensures
 
 pub returns : goal.returns
 returns c =
     knows_refusal c.args.names (inners_in c.args.pieces) (inners_in c.loop-inner.rest) c.loop-inner.best c.loop-inner.reading c.ended.result
     c.loop-inner.invariant.knows c.in_default.ensures
-    (subst (λ (k : ℕ). (f : Front) → Carries f c.loop-inner.reading → IsToldWithout f c.loop-inner.best k c.loop-inner.reading
+    (subst (λ (k : ℕ). (f : Front) → Carries f c.loop-inner.reading → IsRefusedWithout f c.loop-inner.best k c.loop-inner.reading
     → IfOk c.ended.result (λ read. Ends f c.loop-inner.best k read)) c.len-2.ensures c.ended.ensures)

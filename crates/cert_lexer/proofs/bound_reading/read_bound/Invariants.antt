@@ -4,7 +4,8 @@ use Rattle.cert_lexer.specs.Packed.{inners_in}
 use Rattle.cert_lexer.proofs.CarriedReading.{Knows}
 use Rattle.cert_lexer.proofs.bound_reading.read_bound.Given as goal
 
--- the rest decides the answer, where the state represents what has been read, and all refusals so far are before it
+-- the state represents the pieces read so far, all refusals so far are before the next piece, and the rest decides the
+-- answer
 abbrev pub invariant-loop-inner : goal.invariant-loop-inner
 invariant-loop-inner l = record {
   knows : Knows l.names (inners_in l.pieces) (inners_in l.rest) l.best l.reading;

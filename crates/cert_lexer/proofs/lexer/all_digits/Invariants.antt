@@ -3,6 +3,6 @@ use Rattle.std.specs.List.{list_all}
 use Rattle.std.specs.Char.{is_ascii_digit}
 use Rattle.cert_lexer.proofs.lexer.all_digits.Given as goal
 
--- all bytes are digits exactly if the remaining ones are
+-- all bytes are digits exactly if those that are left are
 abbrev pub invariant-loop-byte : goal.invariant-loop-byte
 invariant-loop-byte l = list_all is_ascii_digit (drop l.byte-index l.bytes) ≡ list_all is_ascii_digit l.bytes

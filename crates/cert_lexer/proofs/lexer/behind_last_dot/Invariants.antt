@@ -3,7 +3,8 @@ use Rattle.std.specs.Prelude.{IfSome, option_map}
 use Rattle.cert_lexer.specs.Lexing.{behind_last_dot}
 use Rattle.cert_lexer.proofs.lexer.behind_last_dot.Given as goal
 
--- what follows the last dot of the remaining bytes, or else the last one before, is what follows the last dot of all
+-- the bytes after the last dot of those that are left, or else those after the last dot so far, are the bytes after the
+-- last dot of all
 abbrev pub invariant-loop-first : goal.invariant-loop-first
 invariant-loop-first l =
     (behind_last_dot (option_map (λ a. a.now) l.after) l.rest ≡ behind_last_dot None l.run)

@@ -1,4 +1,4 @@
--- They are.
+-- The reader of proof files satisfies the laws of readers.
 use Rattle.cert_text.proofs.Lawful.{proofs_read}
 use Rattle.cert_text.proofs.law.proof_texts_are_read.Goals as goal
 

@@ -11,7 +11,7 @@ use Rattle.cert_lexer.specs.declared.piece.Mode.TheVariants as mode
 use Rattle.cert_lexer.specs.declared.piece.Piece.{Piece}
 use Rattle.cert_lexer.specs.Lexing.{tokens}
 use Rattle.cert_text.specs.Reading.{proofs_of}
-use Rattle.cert_text.specs.Told.{refusal_in}
+use Rattle.cert_text.specs.StatedErrors.{refusal_in}
 use Rattle.cert_text.proofs.Judging.{judged, tokens_in_order}
 use Rattle.cert_text.proofs.Lawful.{lawful}
 use Rattle.cert_text.proofs.reading.judge.Goals as goal

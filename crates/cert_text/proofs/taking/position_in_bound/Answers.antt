@@ -1,6 +1,6 @@
 use Rattle.std.proofs.Common.{◌≡◌, ℕ, ◌-◌, ap, length, take, arith}
 use Rattle.cert_lexer.specs.Packed.{inners_in}
-use Rattle.cert_text.specs.Against.{bytes_of}
+use Rattle.cert_text.specs.NumberFaults.{bytes_of}
 use Rattle.cert_text.proofs.BoundBytes.{before_taken}
 use Rattle.cert_text.proofs.taking.position_in_bound.Goals as goal
 

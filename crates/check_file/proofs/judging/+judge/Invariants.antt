@@ -12,7 +12,7 @@ decreases-judge l = 2 * length (nodes_of (proof_of l.proof.now))
 abbrev pub decreases-judge_all : goal.decreases-judge_all
 decreases-judge_all l = 2 * length (nodes_in (map proof_of l.proofs.now)) + 1
 
--- those so far are accepted
+-- the parts before this one are accepted
 abbrev pub invariant-judge_all-loop-proof : goal.invariant-judge_all-loop-proof
 invariant-judge_all-loop-proof l =
     AreWhole (setting l.context) l.kept (map proof_of (take l.proof-index l.proofs)) l.before

@@ -11,7 +11,7 @@ decreases-counted l = 2 * length (nodes_of (proof_of l.proof.now))
 abbrev pub decreases-all_counted : goal.decreases-all_counted
 decreases-all_counted l = 2 * length (nodes_in (map proof_of l.proofs.now)) + 1
 
--- the nodes of the proofs so far are counted
+-- the nodes of the derivations before this one are counted
 abbrev pub invariant-all_counted-loop-proof : goal.invariant-all_counted-loop-proof
 invariant-all_counted-loop-proof l =
     IsCount (l.before + length (nodes_in (map proof_of (take l.proof-index l.proofs)))) l.count

@@ -4,6 +4,6 @@ use Rattle.cert_types.specs.Views.{proof_of}
 use Rattle.check_file.specs.Files.{HasFewNodes}
 use Rattle.check_file.proofs.numbering.have_few_nodes.Given as goal
 
--- the proofs so far have few nodes
+-- the derivations before this one have few nodes
 abbrev pub invariant-loop-proof : goal.invariant-loop-proof
 invariant-loop-proof l = All HasFewNodes (map proof_of (take l.proof-index l.proofs))

@@ -3,7 +3,7 @@ use Rattle.std.specs.List.{range_with_len}
 use Rattle.check_ranks.specs.Marks.{AreMarks}
 use Rattle.check_ranks.proofs.symbols.marked.Given as goal
 
--- the marked numbers so far
+-- the numbers are the marked ones before this one
 abbrev pub invariant-loop-mark : goal.invariant-loop-mark
 invariant-loop-mark l = (test : ℕ → Bool) → AreMarks test l.marks
     → l.found.items ≡ filter test (range_with_len 0 l.mark-index)

@@ -5,6 +5,6 @@ use Rattle.cert_types.specs.cert_rules.AcceptsSizes.{AcceptsLow}
 use Rattle.cert_context.specs.CheckContexts.{setting}
 use Rattle.check_sizes.proofs.looping.first_refused_low.Given as goal
 
--- the lower side bounds of the members so far are accepted
+-- the lower side bounds of the members before this one are accepted
 abbrev pub invariant-loop-member : goal.invariant-loop-member
 invariant-loop-member l = All (AcceptsLow (setting l.context)) (map member_of (take l.member-index l.members))

@@ -14,7 +14,7 @@ use Rattle.cert_context.specs.CheckContexts.{program, setting}
 use Rattle.check_sizes.proofs.SizedNodes.{cycle-answer, cycle-low, cycle-shape, cycle-up}
 use Rattle.check_sizes.proofs.looping.loop_facts.Goals as goal
 
--- what is answered of the first member that a test fails
+-- the answer is the first member that fails the test, or none if all pass
 abbrev FirstOff : (plain.Member → Type 0) → List plain.Member → Option (Bor Member) → Type 0
 FirstOff P ms o = MatchOption o (AllByRecursion P ms) (λ m. IsFirstFailing P ms (member_of m.now))
 

@@ -10,7 +10,7 @@ use Rattle.check_sizes.specs.SideBounds.{form_in, side_of}
 use Rattle.check_sizes.proofs.SideBoundGoals.{side_bound-row}
 use Rattle.check_sizes.proofs.side_bound_rows.side_bound_row.Goals as goal
 
--- a constant in the limit is as it was read
+-- a constant within the limit is unchanged by reading it in 64 bits
 constant-read : (k : ℤ) → IsInLimit (nat_abs k) → to_z w64 (of_z w64 k) ≡ k
 constant-read k l = to_z-of_z w64 k (fits_signed_from_abs w64 k (omega (arith, ints, l)))
 

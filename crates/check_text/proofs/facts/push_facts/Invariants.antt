@@ -4,7 +4,7 @@ use Rattle.cert_types.specs.Views.{facts_of}
 use Rattle.check_text.specs.Texts.{fact_lines}
 use Rattle.check_text.proofs.facts.push_facts.Given as goal
 
--- what is written and what is left make the whole
+-- the written text and the remaining one are the whole
 abbrev pub invariant-loop-fact : goal.invariant-loop-fact
 invariant-loop-fact l =
     l.text.items ++ fact_lines (map name_of l.names) (facts_of (drop l.fact-index l.facts))

@@ -4,7 +4,7 @@ use Rattle.its_model.specs.Views.{name_of, program_of}
 use Rattle.cert_types.specs.AnswerViews.{file_of}
 use Rattle.cert_types.specs.Views.{fact_of}
 use Rattle.cert_types.specs.declared.fact.Fact.{Fact}
-use Rattle.check_text.specs.Told.{IsListedFact}
+use Rattle.check_text.specs.StatedErrors.{IsListedFact}
 use Rattle.check_text.proofs.Verdicts.{facts-listed}
 use Rattle.check_text.proofs.verdict.verdict_on.Goals as goal
 

@@ -7,7 +7,7 @@ use Rattle.cert_types.specs.cert_rules.Composed.{parts_for, sizes_after}
 use Rattle.cert_types.specs.cert_rules.ComposedSizes.{composed_side_bound}
 use Rattle.cost_nodes.proofs.composing.step_bound.Given as goal
 
--- what is done and what is left is all
+-- What is done and what is left are all.
 abbrev pub invariant-loop-rule : goal.invariant-loop-rule
 invariant-loop-rule g l =
     joined (parts_of (bounds_of l.parts.items))

@@ -1,4 +1,4 @@
--- It is worked out.
+-- The worked values hold.
 use Rattle.expr_reader.proofs.WorkedValues.{worked_values}
 use Rattle.expr_reader.proofs.law.worked_values_hold.Goals as goal
 

@@ -4,7 +4,7 @@ use Rattle.report_text.specs.Pieces.{numbered_lines}
 use Rattle.facts_report.specs.FactTexts.{symbol_lines}
 use Rattle.facts_report.proofs.lines.push_lines.Given as goal
 
--- what is written and what is left make the whole
+-- the written text and the remaining one are the whole
 abbrev pub invariant-loop-s : goal.invariant-loop-s
 invariant-loop-s l =
     l.text.items ++ numbered_lines (λ s symbol. symbol_lines l.kept s (symbol_of symbol)) l.s (drop l.s l.symbols)

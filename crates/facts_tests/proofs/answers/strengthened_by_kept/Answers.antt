@@ -3,7 +3,7 @@ use Rattle.location_facts.specs.Faults.{proofs_of}
 use Rattle.location_facts.proofs.ProvedFacts.{facts-hold}
 use Rattle.facts_tests.proofs.answers.strengthened_by_kept.Goals as goal
 
--- facts that are kept are proved, and so they are tried and hold
+-- facts that are kept are proved, so they are among those that are tried, and hold
 pub strengthen-requires-clause-held : goal.strengthen-requires-clause-held
 strengthen-requires-clause-held c =
     facts-hold.proved (program_of c.args.p.now) c.in_ok-found.found.kept.items (proofs_of c.in_ok-found.found) c.requires

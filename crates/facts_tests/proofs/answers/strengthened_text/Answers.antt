@@ -6,7 +6,7 @@ use Rattle.location_facts.specs.Faults.{proofs_of, AreProved, IsFirstFault}
 use Rattle.location_facts.proofs.ProvedFacts.{facts-hold}
 use Rattle.facts_tests.proofs.answers.strengthened_text.Goals as goal
 
--- facts with which nothing is wrong are tried and hold
+-- facts without a fault are among those that are tried, and hold
 pub strengthen-requires-clause-held : goal.strengthen-requires-clause-held
 strengthen-requires-clause-held c =
     facts-hold.proved (program_of c.args.p.now) c.args.facts.now.kept.items (proofs_of c.args.facts.now) c.requires

@@ -3,7 +3,7 @@ use Rattle.std.proofs.lemmas.List.Elements.{All-get_or}
 use Rattle.its_graph.proofs.Naming.{AreFirstSoFar, first-goes_on}
 use Rattle.its_graph.proofs.classes.add_first.Goals as goal
 
--- the first node of one name more
+-- With one more node, the first nodes of the names stay right.
 pub loop-node-preserved : goal.loop-node-preserved
 loop-node-preserved c =
     let names = c.args.names.now in

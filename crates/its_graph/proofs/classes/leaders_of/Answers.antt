@@ -7,14 +7,14 @@ use Rattle.its_graph.proofs.Filling.{joins-within}
 use Rattle.its_graph.proofs.Naming.{names-within, leaders-are}
 use Rattle.its_graph.proofs.classes.leaders_of.Goals as goal
 
--- a name is one of the nodes
+-- A name is one of the nodes.
 pub first_of_each_name-requires-clause-within : goal.first_of_each_name-requires-clause-within
 first_of_each_name-requires-clause-within c =
     let next = c.args.next.now in
     subst (λ (xs : List ℕ). All (λ name. name < length xs) xs) (sym c.deref.ensures.value)
     (names-within (Joins next) (length next) c.in_ok-names.names.items (joins-within next (length next) c.requires.tables.next_within) c.in_ok-names.ensures)
 
--- the first node of each name is the least of the component
+-- The first node of each name is the least of the component.
 pub returns : goal.returns
 returns c =
     let next = c.args.next.now in

@@ -5,7 +5,7 @@ use Rattle.its_graph.specs.Classes.{AreClassNames}
 use Rattle.its_graph.proofs.Naming.{names-are}
 use Rattle.its_graph.proofs.classes.names_of.Goals as goal
 
--- all nodes are roots, so all components have a name
+-- All nodes are roots, so all components have a name.
 pub returns : goal.returns
 returns c =
     let n : ℕ = length c.args.next.now in

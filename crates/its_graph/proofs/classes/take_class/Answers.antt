@@ -13,13 +13,13 @@ use Rattle.its_graph.proofs.TakingClasses.{takes}
 use Rattle.its_graph.proofs.Filling.{found-within}
 use Rattle.its_graph.proofs.classes.take_class.Goals as goal
 
--- the root is a candidate
+-- The root is a candidate.
 pub fill-requires-2-clause-start_old : goal.fill-requires-2-clause-start_old
 fill-requires-2-clause-start_old c =
     let f : Fills (Joins c.args.previous.now) c.args.colors.now c.fill.new.colors c.args.root UNKNOWN CANDIDATE c.in_ok-candidates.candidates.items = c.in_ok-candidates.ensures in
     f.are c.args.root ((f.reached c.args.root).1 (Here refl))
 
--- the component is within
+-- The nodes of the component are below the number of nodes.
 pub name_all-requires : goal.name_all-requires
 name_all-requires c =
     let first : Fills (Joins c.args.previous.now) c.args.colors.now c.fill.new.colors c.args.root UNKNOWN CANDIDATE c.in_ok-candidates.candidates.items = c.in_ok-candidates.ensures in
@@ -27,7 +27,7 @@ name_all-requires c =
     let size : length c.fill.new.colors ≡ length c.args.names.now = first.size ∙ sym c.requires.names_size in
     subst (λ (xs : List ℕ). All (λ b. b < length c.args.names.now) xs) (sym c.deref.ensures.value) (subst (λ (n : ℕ). All (λ b. b < n) c.in_ok-class.class.items) size (found-within second))
 
--- the candidates are within
+-- The candidates are below the number of nodes.
 pub paint_all-requires : goal.paint_all-requires
 paint_all-requires c =
     let first : Fills (Joins c.args.previous.now) c.args.colors.now c.fill.new.colors c.args.root UNKNOWN CANDIDATE c.in_ok-candidates.candidates.items = c.in_ok-candidates.ensures in
@@ -35,7 +35,7 @@ paint_all-requires c =
     let size : length c.args.colors.now ≡ length c.fill-2.new.colors = sym (second.size ∙ first.size) in
     subst (λ (xs : List ℕ). All (λ b. b < length c.fill-2.new.colors) xs) (sym c.deref-2.ensures.value) (subst (λ (n : ℕ). All (λ b. b < n) c.in_ok-candidates.candidates.items) size (found-within first))
 
--- the floods and the names together
+-- The floods and the naming together take the component.
 pub returns : goal.returns
 returns c =
     on_ok_weaker c.paint_all.result whole c.paint_all.ensures

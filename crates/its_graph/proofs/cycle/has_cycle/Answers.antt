@@ -9,7 +9,7 @@ use Rattle.its_graph.proofs.PairLists.{Pair, pair-within}
 use Rattle.its_graph.proofs.Numbering.{apart, cycle-inside, links-within}
 use Rattle.its_graph.proofs.cycle.has_cycle.Goals as goal
 
--- the links are within
+-- The ends of the links are below the limit.
 pub components_below-requires-clause-within : goal.components_below-requires-clause-within
 components_below-requires-clause-within c =
     let n : ℕ = c.symbol_limit-symbols.result in
@@ -18,11 +18,11 @@ components_below-requires-clause-within c =
     let links : c.in_ok-links.links.items ≡ map link_of rules = c.in_ok-links.ensures ∙ ap (λ (rs : List Rule). map link_of rs) c.deref-2.ensures.value in
     subst (λ (es : List Pair). All (λ (e : Pair). (e.0 < n) × (e.1 < n)) es) (sym (c.deref-3.ensures.value ∙ links)) (links-within n rules below)
 
--- there are at most as many components as symbols
+-- There are at most as many components as symbols.
 pub numbers_of-requires-clause-few : goal.numbers_of-requires-clause-few
 numbers_of-requires-clause-few c = omega (arith, ap length c.deref-4.ensures.value, c.in_ok-components.ensures.few, c.symbol_limit-symbols.ensures.few)
 
--- no two have a symbol in common
+-- No two components have a symbol in common.
 pub numbers_of-requires-clause-apart : goal.numbers_of-requires-clause-apart
 numbers_of-requires-clause-apart c =
     let n : ℕ = c.symbol_limit-symbols.result in
@@ -34,7 +34,7 @@ numbers_of-requires-clause-apart c =
     (subst (λ (es : List Pair). IsListing (IsPair es) n (map items_of c.in_ok-components.components.items)) (c.deref-3.ensures.value ∙ links) c.in_ok-components.ensures.listing) in
     apart (IsPair (map link_of rules)) n c.deref-4.result.now (λ a b h. (pair-within n (map link_of rules) a b (links-within n rules below) h).1) listing
 
--- the links are within the numbers
+-- The ends of the links have numbers.
 pub has_link_inside-requires : goal.has_link_inside-requires
 has_link_inside-requires c =
     let n : ℕ = c.symbol_limit-symbols.result in
@@ -45,7 +45,7 @@ has_link_inside-requires c =
     subst (λ (k : ℕ). All (λ (e : Pair). (e.0 < k) × (e.1 < k)) c.deref-6.result.now) (sym size)
     (subst (λ (es : List Pair). All (λ (e : Pair). (e.0 < n) × (e.1 < n)) es) (sym (c.deref-6.ensures.value ∙ links)) (links-within n rules below))
 
--- a link inside a component is a cycle
+-- A link inside a component is a cycle.
 pub returns : goal.returns
 returns c =
     let n : ℕ = c.symbol_limit-symbols.result in

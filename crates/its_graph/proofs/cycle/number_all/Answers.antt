@@ -6,7 +6,7 @@ use Rattle.its_graph.proofs.Filling.{values-at}
 use Rattle.its_graph.proofs.Numbering.{number-more, values-past, component-within}
 use Rattle.its_graph.proofs.cycle.number_all.Goals as goal
 
--- the nodes of a component are within
+-- The nodes of a component are below the number of nodes.
 pub name_all-requires : goal.name_all-requires
 name_all-requires c =
     let i = c.loop-number.number in
@@ -15,7 +15,7 @@ name_all-requires c =
     subst (λ (xs : List ℕ). All (λ b. b < length c.loop-number.numbers) xs) items
     (subst (λ (n : ℕ). All (λ b. b < n) (values_in lists i)) (sym c.loop-number.auto.numbers) (component-within (length c.args.numbers.now) lists i c.requires.apart))
 
--- one component more has its number
+-- The nodes of one more component have its number.
 pub loop-number-preserved : goal.loop-number-preserved
 loop-number-preserved c =
     let i = c.loop-number.number in
@@ -25,6 +25,6 @@ loop-number-preserved c =
     let same : c.name_all.new.names ≡ named i (values_in lists i) c.loop-number.numbers = c.name_all.ensures ∙ ap (λ (xs : List ℕ). named i xs c.loop-number.numbers) (sym items) in
     λ k b low among. ap (λ (xs : List ℕ). get_or xs b 0) same ∙ number-more lists c.loop-number.numbers i apart c.loop-number.invariant k b low among
 
--- past the end there is none
+-- Past the end there is no component.
 pub returns : goal.returns
 returns c = λ k b among. c.loop-number.invariant k b (omega (arith, values-past c.args.components.now k b among)) among

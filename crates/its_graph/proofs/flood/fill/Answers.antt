@@ -6,14 +6,14 @@ use Rattle.its_graph.proofs.PaintedNodes.{Paints, paints_all}
 use Rattle.its_graph.proofs.Filling.{filling_begins, filling_goes_on, filling_ends, values-at}
 use Rattle.its_graph.proofs.flood.fill.Goals as goal
 
--- the start was painted
+-- The start was painted.
 pub loop-done-init : goal.loop-done-init
 loop-done-init c =
     filling_begins (Joins c.args.next.now) c.args.colors.now c.args.start c.args.old c.args.new (record { colors = c.paint.new.colors; found = c.paint.new.found.items })
     c.requires.other c.requires.start_in_range c.requires.start_old
     (c.in_ok-paint.ensures ∙ ap (λ (xs : List ℕ). painted c.args.old c.args.new c.args.start (record { colors = c.args.colors.now; found = xs })) c.new-found.ensures.items)
 
--- the visited node is one of the nodes
+-- The visited node is one of the nodes.
 pub bounds-next-node : goal.bounds-next-node
 bounds-next-node c =
     let node = c.index-node.result.now in
@@ -21,7 +21,7 @@ bounds-next-node c =
     let within : node < length c.args.colors.now = (c.loop-done.invariant.from node found).1 in
     omega (arith, c.requires.one_each)
 
--- the successors are nodes
+-- The successors are nodes.
 pub paint_all-requires : goal.paint_all-requires
 paint_all-requires c =
     let node = c.index-node.result.now in
@@ -33,7 +33,7 @@ paint_all-requires c =
     let size : length c.args.colors.now ≡ length c.loop-done.colors = sym c.loop-done.invariant.size in
     subst (λ (n : ℕ). All (λ b. b < n) c.deref.result.now) size (subst (λ (xs : List ℕ). All (λ b. b < length c.args.colors.now) xs) items (c.requires.edges_in_range node))
 
--- the effect of painting the successors
+-- The effect of painting the successors.
 paints : (c : goal.In_ok-paint_all) → Paints c.args.old c.args.new (values_in c.args.next.now c.index-node.result.now) (record { colors = c.loop-done.colors; found = c.loop-done.found.items }) (record { colors = c.paint_all.new.colors; found = c.paint_all.new.found.items })
 paints c =
     let node = c.index-node.result.now in

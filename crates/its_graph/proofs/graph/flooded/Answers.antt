@@ -9,7 +9,7 @@ use Rattle.its_graph.specs.Floods.{Fills}
 use Rattle.its_graph.proofs.Reaching.{flood-reaches}
 use Rattle.its_graph.proofs.graph.flooded.Goals as goal
 
--- the known nodes are those that are reached
+-- The known nodes are those that are reached.
 pub returns-clause-reached : goal.returns-clause-reached
 returns-clause-reached c =
     let next = c.args.next.now in

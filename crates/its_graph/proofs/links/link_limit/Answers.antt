@@ -4,7 +4,7 @@ use Rattle.std.proofs.lemmas.List.Elements.{All-more, All-weaker, All-same, All-
 use Rattle.its_graph.proofs.PairLists.{Pair}
 use Rattle.its_graph.proofs.links.link_limit.Goals as goal
 
--- one link more is below the limit
+-- The ends of one more link are below the limit.
 pub loop-from-preserved : goal.loop-from-preserved
 loop-from-preserved c =
     let links = c.args.links.now in

@@ -4,7 +4,7 @@ use Rattle.std.proofs.lemmas.List.Elements.{All-more, All-weaker, All-same, All-
 use Rattle.its_model.specs.declared.program.Rule.{Rule}
 use Rattle.its_graph.proofs.links.symbol_limit.Goals as goal
 
--- one rule more is below the limit
+-- The symbols of one more rule are below the limit.
 pub loop-rule-preserved : goal.loop-rule-preserved
 loop-rule-preserved c =
     let limit : ℕ = c.max-limit.result in

@@ -8,7 +8,7 @@ use Rattle.its_graph.proofs.PairLists.{Pair, joins-pairs}
 use Rattle.its_graph.proofs.EdgeTables.{tables-of, leaders-by}
 use Rattle.its_graph.proofs.listing.leaders_in.Goals as goal
 
--- turned round, the edges are within too
+-- The ends of the reversed edges are nodes too.
 pub grouped-requires-2 : goal.grouped-requires-2
 grouped-requires-2 c =
     let n = c.args.nodes in
@@ -16,7 +16,7 @@ grouped-requires-2 c =
     subst (λ (xs : List Pair). All E xs) (sym (c.deref.ensures.value ∙ c.in_ok-swapped.ensures))
     (All-map E swap c.args.edges.now (All-weaker (λ (e : Pair). (e.0 < n) × (e.1 < n)) (λ (e : Pair). e.1 < n) (λ e h. h.1) c.args.edges.now c.requires.within))
 
--- both tables are those of the edges
+-- Both tables are those of the edges.
 pub leaders_of-requires-clause-tables : goal.leaders_of-requires-clause-tables
 leaders_of-requires-clause-tables c =
     let n = c.args.nodes in
@@ -29,7 +29,7 @@ leaders_of-requires-clause-tables c =
     (λ a. ap (λ (t : List (Vec ℕ Global)). values_in t a) c.deref-3.ensures.value ∙ (c.in_ok-previous.ensures.values a ∙ ap (λ (xs : List Pair). values_of xs a) (c.deref.ensures.value ∙ c.in_ok-swapped.ensures))) in
     subst (λ (k : ℕ). AreTables k next previous) (sym size) tables
 
--- the leaders by the table are those by the edges
+-- The leaders by the table are those by the edges.
 pub returns : goal.returns
 returns c =
     let n = c.args.nodes in

@@ -8,7 +8,7 @@ use Rattle.its_graph.proofs.PairLists.{Pair}
 use Rattle.its_graph.proofs.Membership.{members-at, numbered-keys, leaders-placed}
 use Rattle.its_graph.proofs.listing.members_of.Goals as goal
 
--- the positions are within the order
+-- The positions are below the length of the order.
 pub grouped-requires : goal.grouped-requires
 grouped-requires c =
     let leaders = c.args.leaders.now in
@@ -19,7 +19,7 @@ grouped-requires c =
     subst (λ (xs : List Pair). All (λ (e : Pair). e.0 < n) xs) (sym (c.deref-2.ensures.value ∙ (c.in_ok-numbered_by.ensures ∙ ap (λ (xs : List ℕ). numbered xs 0 leaders) (c.deref.ensures.value ∙ same))))
     (numbered-keys positions n leaders 0 (leaders-placed positions leaders order c.note_positions.ensures c.requires.all))
 
--- the values at each position are the members
+-- The values at each position are the members.
 pub returns-clause-members : goal.returns-clause-members
 returns-clause-members c =
     let leaders = c.args.leaders.now in

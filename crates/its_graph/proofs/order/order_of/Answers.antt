@@ -7,13 +7,13 @@ use Rattle.its_graph.proofs.PairLists.{Pair}
 use Rattle.its_graph.proofs.LeaderNeeds.{needs-table, needs-keys, orderable, order-by-edges}
 use Rattle.its_graph.proofs.order.order_of.Goals as goal
 
--- who needs is within
+-- The leaders that have needs are nodes.
 pub grouped-requires : goal.grouped-requires
 grouped-requires c =
     let n : ℕ = length c.args.leaders.now in
     subst (λ (xs : List Pair). All (λ (e : Pair). e.0 < n) xs) (sym (c.deref.ensures.value ∙ c.in_ok-needs_of.ensures)) (needs-keys c.args.leaders.now c.args.edges.now c.requires.leaders_are c.requires.edges_within)
 
--- the table can be put in order
+-- The leaders can be put in order by the table.
 pub sorted-requires-clause-orderable : goal.sorted-requires-clause-orderable
 sorted-requires-clause-orderable c =
     let values : (a : ℕ) → values_in c.in_ok-needs.needs.items a ≡ values_of (needs_among c.args.leaders.now c.args.edges.now) a =
@@ -24,7 +24,7 @@ sorted-requires-clause-orderable c =
 pub sorted-requires-clause-own_leaders : goal.sorted-requires-clause-own_leaders
 sorted-requires-clause-own_leaders c = λ q. subst (λ (xs : List ℕ). Contains xs q ↔ IsLeader c.args.leaders.now q) (sym c.deref-3.ensures.value) (c.in_ok-own_leaders.ensures q)
 
--- the order by the table is the one by the edges
+-- The order by the table is the one by the edges.
 pub returns : goal.returns
 returns c =
     let values : (a : ℕ) → values_in c.deref-2.result.now a ≡ values_of (needs_among c.args.leaders.now c.args.edges.now) a =

@@ -4,7 +4,7 @@ use Rattle.std.proofs.lemmas.Bool.{cases_lt}
 use Rattle.std.proofs.lemmas.List.Elements.{All-push, Contains-append_left, Contains-push}
 use Rattle.its_graph.proofs.roots.roots_of.Goals as goal
 
--- all nodes are in range, and those up to this one are listed
+-- All nodes are in range, and those up to this one are listed.
 pub loop-node-preserved : goal.loop-node-preserved
 loop-node-preserved c =
     let roots = c.loop-node.roots.items in

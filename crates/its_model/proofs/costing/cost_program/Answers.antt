@@ -17,7 +17,7 @@ use Rattle.its_model.proofs.RuleLaws.{rule-found}
 use Rattle.its_model.proofs.CostPrograms.{cost-programs-tell-costs}
 use Rattle.its_model.proofs.costing.cost_program.Goals as goal
 
--- the rule at a number that has a cost is valid, and leaves a symbol of the program
+-- The rule at a number that has a cost is valid, and leaves a symbol of the program.
 source-within : (p : Program) (n : ℕ) (r : Rule) → IsValid (program_of p) → HasCost (program_of p) n → r ≡ get_or p.rules.items (n - 1) r
     → r.source < length p.symbols.items
 source-within p n r v k e =
@@ -25,7 +25,7 @@ source-within p n r v k e =
     let l = subst (λ (w : plain.Rule). w.source < length (program_of p).symbols) (rule-found p n k.rule r k.numbered e) valid.source in
     omega (arith, l, length-map p.symbols.items symbol_of)
 
--- the program built from the rule, its cost and its source is the program of the cost
+-- The program built from the rule, its cost and its source is the program of the cost.
 made : (p : Program) (n : ℕ) (r : Rule) (cost : Expr) (s : Symbol) (q : plain.Program) → IsValid (program_of p) → HasCost (program_of p) n
     → r ≡ get_or p.rules.items (n - 1) r → r.cost ≡ Some cost → s ≡ get_or p.symbols.items r.source s
     → q ≡ cost_program (symbol_of s) (rule_of r) (term_of cost) → IsCostProgram (program_of p) n q

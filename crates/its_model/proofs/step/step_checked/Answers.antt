@@ -14,7 +14,7 @@ use Rattle.its_model.proofs.ListLaws.{mapped-all}
 use Rattle.its_model.proofs.StepLaws.{step-taken, arity-at-most}
 use Rattle.its_model.proofs.step.step_checked.Goals as goal
 
--- an answer without an error is a step
+-- An answer without an error is a step.
 ok_step : (p : plain.Program) (c d : runs.Config) (s : runs.Step) (r : plain.Rule) (x : Result (Unit {0}) StepError) → plain.rule_at p s.rule ≡ Some r
     → (c.at ≡ r.source → length c.values ≡ r.left)
     → MatchResult x (λ _. rule_fault r c s.free ≡ None) (λ e. rule_fault r c s.free ≡ Some (fault_of e))

@@ -1,7 +1,7 @@
 use Rattle.std.proofs.Common.{sym, ap, ◌∙◌, [], ◌∷◌}
 use Rattle.text_core.specs.Readers.{Fault}
 use Rattle.its_text.specs.Kinds.{Kind}
-use Rattle.its_text.specs.FrontFaults.{expansion_faults}
+use Rattle.its_text.specs.StateFaults.{expansion_faults}
 use Rattle.expr_reader.specs.Faults.{fault_of}
 use Rattle.its_reader.proofs.expression.kind_of.Goals as goal
 

@@ -1,5 +1,5 @@
 use Rattle.std.proofs.Common.{ap, ◌∙◌}
-use Rattle.its_text.specs.FrontFaults.{expansion_faults}
+use Rattle.its_text.specs.StateFaults.{expansion_faults}
 use Rattle.its_reader.proofs.expression.refusal_of.Goals as goal
 
 pub returns : goal.returns

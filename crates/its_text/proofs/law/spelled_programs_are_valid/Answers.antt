@@ -1,4 +1,4 @@
--- Words are names, and numbers are those of what was read.
+-- The words of a text are valid names, and its numbers are those that were read.
 use Rattle.its_text.proofs.ValidPrograms.{spelled_valid}
 use Rattle.its_text.proofs.law.spelled_programs_are_valid.Goals as goal
 

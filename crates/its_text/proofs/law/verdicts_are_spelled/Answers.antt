@@ -1,4 +1,4 @@
--- A text is read as what it spells within the limits.
+-- A text is read as a program exactly if it spells it within the limits.
 use Rattle.its_text.proofs.SpelledVerdicts.{verdicts_are_spelled}
 use Rattle.its_text.proofs.law.verdicts_are_spelled.Goals as goal
 

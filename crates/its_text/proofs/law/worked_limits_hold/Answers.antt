@@ -1,4 +1,4 @@
--- It is worked out.
+-- The worked values at the limits hold.
 use Rattle.its_text.proofs.WorkedLimits.{limits_are_worked}
 use Rattle.its_text.proofs.law.worked_limits_hold.Goals as goal
 

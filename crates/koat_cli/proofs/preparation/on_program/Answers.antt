@@ -5,7 +5,7 @@ use Rattle.call_plans.specs.Calls.{seen_of}
 use Rattle.call_plans.specs.OnFiles.{Without}
 use Rattle.model.specs.Programs.{Program}
 use Rattle.call_plans.specs.Plans.{Cases, Answers}
-use Rattle.call_plans.proofs.Behind.{behind_ok, told_ok}
+use Rattle.call_plans.proofs.Behind.{behind_ok, row_of_result}
 use Rattle.koat_cli.specs.ProgramTexts.{programs}
 use Rattle.koat_cli.specs.RequestPlans.{program_answers}
 use Rattle.koat_cli.proofs.preparation.on_program.Goals as goal
@@ -29,4 +29,4 @@ returns-in-Thing-clause-says g c =
     c.of_program.result c.in_ok-said.ensures.keeps_files c.in_ok-said.ensures.keeps_count
     (rw c.in-Thing.is at c.in_ok-said.ensures.fault) c.in_ok-said.ensures.counted (λ last. refl)
     (rw c.in-Thing.is at c.in_ok-said.ensures.gives)
-    (told_ok (seen_of g.F.Shelf after after) (g.F.Shelf.fetches after) (table p) c.of_program.result refl c.of_program.ensures)
+    (row_of_result (seen_of g.F.Shelf after after) (g.F.Shelf.fetches after) (table p) c.of_program.result refl c.of_program.ensures)

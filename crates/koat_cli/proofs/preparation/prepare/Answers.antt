@@ -1,7 +1,7 @@
 use Rattle.std.proofs.Common.{refl, map, string_bytes}
 use Rattle.command_line.specs.declared.request.Request.TheVariants as requests
 use Rattle.command_line.specs.Requests.{OfFile}
-use Rattle.call_plans.proofs.Behind.{told_ok}
+use Rattle.call_plans.proofs.Behind.{row_of_result}
 use Rattle.koat_cli.specs.Calls.{call_of}
 use Rattle.koat_cli.specs.RequestPlans.{number_answers}
 use Rattle.koat_cli.proofs.LawfulPlans.{file_not_last}
@@ -43,7 +43,7 @@ returns-in-Some-OfNumber-clause-says g c =
     let call = call_of g.F.Shelf c.args.words.now c.args.shelf.now c.args.shelf.now in
     said_of call c.in_ok-task.field-0 (requests.OfNumber w.task w.n) c.of_number.result (cc (w.is, w.field-0-is))
     c.in_ok-task.ensures
-    (told_ok call.shelf call.fetches_before (number_answers w.task w.n) c.of_number.result refl c.of_number.ensures)
+    (row_of_result call.shelf call.fetches_before (number_answers w.task w.n) c.of_number.result refl c.of_number.ensures)
 
 pub returns-in-Some-While-clause-says : goal.returns-in-Some-While-clause-says
 returns-in-Some-While-clause-says g c =

@@ -4,7 +4,7 @@ use Rattle.its_model.specs.Views.{name_of, program_of}
 use Rattle.cert_text.specs.OverFirst.{IsOverFirst}
 use Rattle.cert_types.specs.Views.{proof_of}
 use Rattle.analysis_certs.proofs.ProvedFiles.{proved-accepted}
-use Rattle.koat_cli.proofs.ProofFiles.{proof_told}
+use Rattle.koat_cli.proofs.ProofFiles.{proof_file_answered}
 use Rattle.koat_cli.proofs.proving.proved.Goals as goal
 
 pub print-requires : goal.print-requires
@@ -16,6 +16,6 @@ print-requires c =
 
 pub returns : goal.returns
 returns c =
-    proof_told (program_of c.args.program.now) c.args.pivots c.in_ok-found.found c.status_of-status.result
+    proof_file_answered (program_of c.args.program.now) c.args.pivots c.in_ok-found.found c.status_of-status.result
     c.in_ok-text.text.items c.requires c.in_ok-found.ensures.found c.in_ok-found.ensures.holds c.in_ok-found.ensures.reasons
     c.in_ok-found.ensures.lemmas c.status_of-status.ensures c.in_ok-text.ensures

@@ -3,7 +3,7 @@ use Rattle.koat_cli.specs.ReplayTexts.{lines_beside}
 use Rattle.koat_cli.specs.Steps.{place_lines}
 use Rattle.koat_cli.proofs.replay_text.push_greatest.Given as goal
 
--- what is written and what is left make the whole
+-- the written lines and the remaining ones are the whole
 abbrev pub invariant-loop-i : goal.invariant-loop-i
 invariant-loop-i l =
     l.text.items ++ lines_beside (λ rule numbers places. place_lines l.at rule 1 numbers.items places.items) (l.i + 1)

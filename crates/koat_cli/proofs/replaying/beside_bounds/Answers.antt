@@ -3,12 +3,12 @@ use Rattle.its_model.specs.Views.{program_of}
 use Rattle.outcome.specs.Views.{report_of}
 use Rattle.run_replay.specs.ReplayAnswers.{sums_of}
 use Rattle.run_replay.specs.Views.{run_of}
-use Rattle.koat_cli.proofs.ToldTallies.{tally_told}
+use Rattle.koat_cli.proofs.AnsweredTallies.{tally_answered}
 use Rattle.koat_cli.proofs.replaying.beside_bounds.Goals as goal
 
 pub returns : goal.returns
 returns c =
-    tally_told c.replays_are_decided.ensures (program_of c.args.program.now) (run_of c.args.run.now)
+    tally_answered c.replays_are_decided.ensures (program_of c.args.program.now) (run_of c.args.run.now)
     (report_of c.in_ok-found.found) (sums_of c.args.tally.now) c.deref-2.result.now c.in_ok-replay_text.field-0.items
     c.requires.valid c.requires.replayed c.in_ok-found.ensures.found c.in_ok-found.ensures.holds
     c.in_ok-found.ensures.reasons c.in_ok-found.ensures.fits

@@ -5,7 +5,7 @@ use Rattle.its_model.specs.Views.{program_of, config_of, step_of}
 use Rattle.run_replay.specs.Replays.{RunsInRange}
 use Rattle.lasso_check.specs.Lassos.{stem_back}
 use Rattle.lasso_check.specs.Views.{lasso_of}
-use Rattle.lasso_check.proofs.Turns.{stem_runs, closes, few_noted, noted_length, listed_rules}
+use Rattle.lasso_check.proofs.Turns.{stem_runs, closes, few_recorded, recorded_length, listed_rules}
 use Rattle.lasso_check.proofs.Walks.{step_refused}
 use Rattle.lasso_check.proofs.checking.judge.Goals as goal
 
@@ -18,7 +18,7 @@ returns-in-Err-walk_turn c =
 
 pub rules_used-requires : goal.rules_used-requires
 rules_used-requires c =
-    let few = few_noted (program_of c.args.p.now) (lasso_of c.args.l.now) (length c.args.l.now.turn.items)
+    let few = few_recorded (program_of c.args.p.now) (lasso_of c.args.l.now) (length c.args.l.now.turn.items)
     c.in-Ok-walk_turn.turning c.requires.valid c.in-Ok-walk_turn.ensures in
     omega (arith, few, ap length c.deref.ensures.value)
 
@@ -35,5 +35,5 @@ returns c =
     (subst (λ (x : Config). RunsInRange p l.start (stem_back l) x) (sym c.in_ok-before.ensures) stem)
     c.in_default.ensures c.in-Ok-walk_turn.ensures turn (omega (arith, c.requires.turn, turn))
     (λ e. listed_rules p l c.deref.result.now c.in_ok-rules.rules.items
-    (ap length c.deref.ensures.value ∙ noted_length p l n t c.in-Ok-walk_turn.ensures) c.in_ok-rules.ensures
+    (ap length c.deref.ensures.value ∙ recorded_length p l n t c.in-Ok-walk_turn.ensures) c.in_ok-rules.ensures
     (c.deref.ensures.value ∙ e))

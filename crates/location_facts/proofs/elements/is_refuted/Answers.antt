@@ -22,33 +22,33 @@ bounds-prepared_rules-number c =
     c.requires.measured (omega arith) c.index-elements-k.is).rule in
     omega (arith, w.0, w.1, prepared-many (program_of c.args.p.now) c.args.prepared_rules.now c.requires.rows)
 
-pub stands_against-requires-clause-prepared : goal.stands_against-requires-clause-prepared
-stands_against-requires-clause-prepared c =
+pub refutes_fact-requires-clause-prepared : goal.refutes_fact-requires-clause-prepared
+refutes_fact-requires-clause-prepared c =
     prepared_rule-read (program_of c.args.p.now) c.args.prepared_rules.now c.index-elements-k.result.rule c.index-prepared_rules-number.result
     c.requires.valid c.requires.rows
     (measured-at (program_of c.args.p.now) c.args.elements.now c.loop-k.k c.index-elements-k.result
     c.requires.measured (omega arith) c.index-elements-k.is).rule c.index-prepared_rules-number.is
 
-pub stands_against-requires-clause-unknowns : goal.stands_against-requires-clause-unknowns
-stands_against-requires-clause-unknowns c =
+pub refutes_fact-requires-clause-unknowns : goal.refutes_fact-requires-clause-unknowns
+refutes_fact-requires-clause-unknowns c =
     (measured-at (program_of c.args.p.now) c.args.elements.now c.loop-k.k c.index-elements-k.result
     c.requires.measured (omega arith) c.index-elements-k.is).few
 
-pub stands_against-requires-clause-parts : goal.stands_against-requires-clause-parts
-stands_against-requires-clause-parts c =
+pub refutes_fact-requires-clause-parts : goal.refutes_fact-requires-clause-parts
+refutes_fact-requires-clause-parts c =
     (measured-at (program_of c.args.p.now) c.args.elements.now c.loop-k.k c.index-elements-k.result
     c.requires.measured (omega arith) c.index-elements-k.is).parts
 
-pub stands_against-requires-clause-denominator : goal.stands_against-requires-clause-denominator
-stands_against-requires-clause-denominator c =
+pub refutes_fact-requires-clause-denominator : goal.refutes_fact-requires-clause-denominator
+refutes_fact-requires-clause-denominator c =
     (measured-at (program_of c.args.p.now) c.args.elements.now c.loop-k.k c.index-elements-k.result
     c.requires.measured (omega arith) c.index-elements-k.is).den
 
-pub returns-then-stands_against : goal.returns-then-stands_against
-returns-then-stands_against c = λ yes pivots kept on.
+pub returns-then-refutes_fact : goal.returns-then-refutes_fact
+returns-then-refutes_fact c = λ yes pivots kept on.
     let within = (measured-at (program_of c.args.p.now) c.args.elements.now c.loop-k.k c.index-elements-k.result
     c.requires.measured (omega arith) c.index-elements-k.is).rule in
-    let (same, below) = c.stands_against.ensures.0 c.if-stands_against.true in
+    let (same, below) = c.refutes_fact.ensures.0 c.if-refutes_fact.true in
     refuted (program_of c.args.p.now) c.args.prepared_rules.now c.index-elements-k.result c.index-prepared_rules-number.result c.args.fact
     (rule_of c.index-rule.result.now) c.requires.valid c.requires.rows within c.index-prepared_rules-number.is
     (rule-numbered c.args.p.now c.index-elements-k.result.rule c.index-rule.result.now within c.index-rule.ensures)

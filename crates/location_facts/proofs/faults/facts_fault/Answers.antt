@@ -6,7 +6,7 @@ use Rattle.poly_terms.specs.declared.poly.Row.{Row}
 use Rattle.poly_terms.specs.Views.{form_of}
 use Rattle.its_model.specs.Views.{program_of}
 use Rattle.farkas_cert.specs.Sizes.{AreSmall}
-use Rattle.location_facts.specs.CombinedRows.{AreCombined, TellsWrong}
+use Rattle.location_facts.specs.CombinedRows.{AreCombined, FindsWrong}
 use Rattle.location_facts.specs.declared.fact.LocFact.{LocFact}
 use Rattle.location_facts.specs.Faults.{proofs_of}
 use Rattle.location_facts.proofs.CombinedLists.{rows-small}
@@ -19,7 +19,7 @@ first_unshown-requires-clause-small c =
     subst (All (λ (v : Vec Row Global). AreSmall (map form_of v.items))) (sym c.deref-in-None.ensures.value)
     (rows-small (program_of c.args.p.now) c.requires.valid c.args.f.now.kept.items (proofs_of c.args.f.now)
     (proofs-many c.args.f.now ∙ one_each)
-    (subst (TellsWrong (program_of c.args.p.now) c.args.f.now.kept.items (proofs_of c.args.f.now)) c.in-None.is
+    (subst (FindsWrong (program_of c.args.p.now) c.args.f.now.kept.items (proofs_of c.args.f.now)) c.in-None.is
     (c.in_ok-fact.ensures {u = tt})) c.in_ok-rows-in-None.rows.items
     (subst (λ (kept : List LocFact). AreCombined (program_of c.args.p.now) kept c.in_ok-rows-in-None.rows.items)
     c.deref.ensures.value (c.in_ok-rows-in-None.ensures {u = tt})))

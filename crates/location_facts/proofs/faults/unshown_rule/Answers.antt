@@ -48,7 +48,7 @@ pub returns-then-not-shown : goal.returns-then-not-shown
 returns-then-not-shown c = λ kept are. record {
   position = c.loop-k.k;
   proof = c.index-proofs-k.result;
-  stands_for =
+  refutes_for =
       proof-read (program_of c.args.p.now) c.args.fact c.args.proofs.now c.loop-k.k c.index-rule.result.now
       c.index-proofs-k.result c.in_ok-into.into.items (c.in_ok-into.ensures {u = tt}) c.requires.one_each
       (omega arith) c.index-rule.ensures c.index-proofs-k.is;

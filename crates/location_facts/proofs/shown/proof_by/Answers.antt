@@ -9,4 +9,4 @@ pub returns-in-None-clause-verdict : goal.returns-in-None-clause-verdict
 returns-in-None-clause-verdict c rows again =
     none-sound c.args.pivots c.args.asked.prepared_rule.now.unknowns rows
     (row_after (map form_of c.args.asked.prepared_rule.now.new_values.items) c.args.fact) c.args.asked.under.now
-    c.args.earlier (proof_in c.standing_answer.result) c.in-None.is c.standing_answer.ensures.same again
+    c.args.earlier (proof_in c.refuting_answer.result) c.in-None.is c.refuting_answer.ensures.same again

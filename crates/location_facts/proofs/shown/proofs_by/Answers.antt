@@ -6,7 +6,7 @@ use Rattle.its_model.specs.Views.{program_of}
 use Rattle.location_facts.specs.declared.fact.FactProof.{FactProof}
 use Rattle.location_facts.specs.Elements.{IsMeasured, IsElement}
 use Rattle.location_facts.specs.Implied.{AreImplied}
-use Rattle.location_facts.specs.Due.{StandsOf}
+use Rattle.location_facts.specs.Due.{RefutesQueried}
 use Rattle.location_facts.proofs.CombinedLists.{prepared-many}
 use Rattle.location_facts.proofs.ElementRules.{element-measured, element-found}
 use Rattle.location_facts.proofs.DueRules.{under-read, rows-read, answer-sound, rest-same}
@@ -51,13 +51,13 @@ proof_by-requires-clause-rows c =
     c.index-unders-rule.result (into-rule (program_of c.args.search.program.now) c.args.earlier.fact.symbol c.loop-k.k (get_or c.args.into.now c.loop-k.k 0)
     c.args.into.now c.requires.into (omega arith) (number-read c.args.into.now c.loop-k.k (omega arith))) c.requires.under.are c.index-unders-rule.is)
 
-pub returns-in-Against-clause-verdict : goal.returns-in-Against-clause-verdict
-returns-in-Against-clause-verdict c = λ due kept are stand.
+pub returns-in-Refuted-clause-verdict : goal.returns-in-Refuted-clause-verdict
+returns-in-Refuted-clause-verdict c = λ due kept are stand.
     missed-read (program_of c.args.search.program.now) c.args.search.pivots kept c.args.earlier.fact c.loop-k.k (get_or c.args.into.now c.loop-k.k 0)
     c.args.into.now c.requires.into (omega arith) (number-read c.args.into.now c.loop-k.k (omega arith))
     (answer-sound (program_of c.args.search.program.now) c.args.search.prepared_rules.now c.args.search.pivots due kept c.args.earlier.fact
     c.args.earlier.proofs.items c.args.into.now c.loop-k.k (get_or c.args.into.now c.loop-k.k 0) (get_or c.args.search.prepared_rules.now ((get_or c.args.into.now c.loop-k.k 0) - 1) c.index-search-rule.result)
-    c.index-unders-rule.result _ _ c.in-Against.is c.requires.rows c.requires.into
+    c.index-unders-rule.result _ _ c.in-Refuted.is c.requires.rows c.requires.into
     (omega arith) (number-read c.args.into.now c.loop-k.k (omega arith)) (into-rule (program_of c.args.search.program.now) c.args.earlier.fact.symbol c.loop-k.k (get_or c.args.into.now c.loop-k.k 0)
     c.args.into.now c.requires.into (omega arith) (number-read c.args.into.now c.loop-k.k (omega arith))) (ap (λ (x : RuleRows). get_or c.args.search.prepared_rules.now ((get_or c.args.into.now c.loop-k.k 0) - 1) x) c.index-search-rule.is)
     (under-read (program_of c.args.search.program.now) c.args.search.pivots due kept c.args.unders.now (get_or c.args.into.now c.loop-k.k 0)
@@ -66,31 +66,31 @@ returns-in-Against-clause-verdict c = λ due kept are stand.
     c.taken_proof-before.result (c.taken_proof-before.ensures.taken ∙ c.loop-k.invariant.same c.loop-k.k (omega arith))
     c.in_ok-proof.ensures.verdict)
 
-pub returns-in-Against-clause-measured : goal.returns-in-Against-clause-measured
-returns-in-Against-clause-measured c =
+pub returns-in-Refuted-clause-measured : goal.returns-in-Refuted-clause-measured
+returns-in-Refuted-clause-measured c =
     All-cons (IsMeasured (program_of c.args.search.program.now)) _ [] (element-measured (program_of c.args.search.program.now) c.args.search.prepared_rules.now c.args.search.pivots
-    (get_or c.args.into.now c.loop-k.k 0) (get_or c.args.search.prepared_rules.now ((get_or c.args.into.now c.loop-k.k 0) - 1) c.index-search-rule.result) c.args.earlier.fact c.index-unders-rule.result c.in-Against.at
+    (get_or c.args.into.now c.loop-k.k 0) (get_or c.args.search.prepared_rules.now ((get_or c.args.into.now c.loop-k.k 0) - 1) c.index-search-rule.result) c.args.earlier.fact c.index-unders-rule.result c.in-Refuted.at
     (into-rule (program_of c.args.search.program.now) c.args.earlier.fact.symbol c.loop-k.k (get_or c.args.into.now c.loop-k.k 0)
     c.args.into.now c.requires.into (omega arith) (number-read c.args.into.now c.loop-k.k (omega arith)))
-    (subst (StandsOf _ _ c.index-unders-rule.result) c.in-Against.is c.in_ok-proof.ensures.stands)
+    (subst (RefutesQueried _ _ c.index-unders-rule.result) c.in-Refuted.is c.in_ok-proof.ensures.stands)
     (prepared_rule-read (program_of c.args.search.program.now) c.args.search.prepared_rules.now (get_or c.args.into.now c.loop-k.k 0) (get_or c.args.search.prepared_rules.now ((get_or c.args.into.now c.loop-k.k 0) - 1) c.index-search-rule.result)
     c.requires.valid c.requires.rows (into-rule (program_of c.args.search.program.now) c.args.earlier.fact.symbol c.loop-k.k (get_or c.args.into.now c.loop-k.k 0)
     c.args.into.now c.requires.into (omega arith) (number-read c.args.into.now c.loop-k.k (omega arith))) (ap (λ (x : RuleRows). get_or c.args.search.prepared_rules.now ((get_or c.args.into.now c.loop-k.k 0) - 1) x) c.index-search-rule.is)))
     (All-nil (IsMeasured (program_of c.args.search.program.now)))
 
-pub returns-in-Against-clause-elements : goal.returns-in-Against-clause-elements
-returns-in-Against-clause-elements c = λ due kept are stand.
+pub returns-in-Refuted-clause-elements : goal.returns-in-Refuted-clause-elements
+returns-in-Refuted-clause-elements c = λ due kept are stand.
     All-cons (IsElement (program_of c.args.search.program.now) c.args.search.pivots kept) _ [] (element-found (program_of c.args.search.program.now) c.args.search.prepared_rules.now c.args.search.pivots
-    (get_or c.args.into.now c.loop-k.k 0) (get_or c.args.search.prepared_rules.now ((get_or c.args.into.now c.loop-k.k 0) - 1) c.index-search-rule.result) c.args.earlier.fact c.index-unders-rule.result c.in-Against.at
+    (get_or c.args.into.now c.loop-k.k 0) (get_or c.args.search.prepared_rules.now ((get_or c.args.into.now c.loop-k.k 0) - 1) c.index-search-rule.result) c.args.earlier.fact c.index-unders-rule.result c.in-Refuted.at
     (into-rule (program_of c.args.search.program.now) c.args.earlier.fact.symbol c.loop-k.k (get_or c.args.into.now c.loop-k.k 0)
     c.args.into.now c.requires.into (omega arith) (number-read c.args.into.now c.loop-k.k (omega arith)))
-    (subst (StandsOf _ _ c.index-unders-rule.result) c.in-Against.is c.in_ok-proof.ensures.stands) (slice_get due ((get_or c.args.into.now c.loop-k.k 0) - 1)) kept
+    (subst (RefutesQueried _ _ c.index-unders-rule.result) c.in-Refuted.is c.in_ok-proof.ensures.stands) (slice_get due ((get_or c.args.into.now c.loop-k.k 0) - 1)) kept
     (under-read (program_of c.args.search.program.now) c.args.search.pivots due kept c.args.unders.now (get_or c.args.into.now c.loop-k.k 0)
     c.index-unders-rule.result (into-rule (program_of c.args.search.program.now) c.args.earlier.fact.symbol c.loop-k.k (get_or c.args.into.now c.loop-k.k 0)
     c.args.into.now c.requires.into (omega arith) (number-read c.args.into.now c.loop-k.k (omega arith))) are c.index-unders-rule.is)
     (answer-sound (program_of c.args.search.program.now) c.args.search.prepared_rules.now c.args.search.pivots due kept c.args.earlier.fact
     c.args.earlier.proofs.items c.args.into.now c.loop-k.k (get_or c.args.into.now c.loop-k.k 0) (get_or c.args.search.prepared_rules.now ((get_or c.args.into.now c.loop-k.k 0) - 1) c.index-search-rule.result)
-    c.index-unders-rule.result _ _ c.in-Against.is c.requires.rows c.requires.into
+    c.index-unders-rule.result _ _ c.in-Refuted.is c.requires.rows c.requires.into
     (omega arith) (number-read c.args.into.now c.loop-k.k (omega arith)) (into-rule (program_of c.args.search.program.now) c.args.earlier.fact.symbol c.loop-k.k (get_or c.args.into.now c.loop-k.k 0)
     c.args.into.now c.requires.into (omega arith) (number-read c.args.into.now c.loop-k.k (omega arith))) (ap (λ (x : RuleRows). get_or c.args.search.prepared_rules.now ((get_or c.args.into.now c.loop-k.k 0) - 1) x) c.index-search-rule.is)
     (under-read (program_of c.args.search.program.now) c.args.search.pivots due kept c.args.unders.now (get_or c.args.into.now c.loop-k.k 0)

@@ -3,15 +3,15 @@ use Rattle.lp_text.specs.Texts.{lps}
 use Rattle.lp_text.specs.Spelled.{IsTextWithin}
 use Rattle.lp_text.specs.Views.{lp_of, refusal_in}
 use Rattle.lp_text.proofs.LpParts.{lps_lawful}
-use Rattle.lp_text.proofs.LpTexts.{stands_written, written_stands}
+use Rattle.lp_text.proofs.LpTexts.{parsed_written, written_parsed}
 use Rattle.lp_text.proofs.reading.read_written.Goals as goal
 
 pub returns-clause-answer : goal.returns-clause-answer
 returns-clause-answer c =
     tells_right lps lp_of refusal_in lps_lawful (IsTextWithin c.args.bytes.now) c.args.bytes.now
-    (stands_written c.args.bytes.now) c.judge.result c.judge.ensures
+    (parsed_written c.args.bytes.now) c.judge.result c.judge.ensures
 
 pub returns-clause-complete : goal.returns-clause-complete
 returns-clause-complete c = λ p w.
-    tells_yields lps lp_of refusal_in c.args.bytes.now p (written_stands c.args.bytes.now p w) c.judge.result
+    tells_yields lps lp_of refusal_in c.args.bytes.now p (written_parsed c.args.bytes.now p w) c.judge.result
     c.judge.ensures

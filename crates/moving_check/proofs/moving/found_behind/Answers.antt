@@ -3,7 +3,7 @@ use Rattle.std.proofs.lemmas.List.{length-map}
 use Rattle.its_model.specs.Views.{program_of, config_of, step_of}
 use Rattle.lasso_check.specs.Lassos.{turn_back}
 use Rattle.lasso_check.specs.Views.{lasso_of}
-use Rattle.lasso_check.proofs.Turns.{few_noted}
+use Rattle.lasso_check.proofs.Turns.{few_recorded}
 use Rattle.affine_turns.specs.declared.affine.Affine.{Affine}
 use Rattle.affine_turns.specs.Affine.{slopes}
 use Rattle.affine_turns.specs.Turns.{affine_after, first_stop_along}
@@ -13,7 +13,7 @@ use Rattle.moving_check.proofs.moving.found_behind.Goals as goal
 
 pub rules_used-requires : goal.rules_used-requires
 rules_used-requires c =
-    let few = few_noted (program_of c.args.p.now) (lasso_of c.args.l.now) (length c.args.l.now.turn.items) c.args.turning.now
+    let few = few_recorded (program_of c.args.p.now) (lasso_of c.args.l.now) (length c.args.l.now.turn.items) c.args.turning.now
     c.requires.valid c.requires.turned in
     omega (arith, few, ap length c.deref-6.ensures.value)
 

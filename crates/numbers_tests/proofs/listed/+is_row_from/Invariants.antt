@@ -1,6 +1,6 @@
 use Rattle.std.proofs.Common.{length}
 use Rattle.numbers_tests.proofs.listed.+is_row_from.Given as goal
 
--- each call takes a pair off
+-- each call takes one pair off the list
 abbrev pub decreases-is_row_from : goal.decreases-is_row_from
 decreases-is_row_from l = length l.pairs.now

@@ -4,7 +4,7 @@ use Rattle.potential_nodes.specs.Limits.{is_small_counted}
 use Rattle.potential_types.specs.Views.{counted_of}
 use Rattle.potential_types.proofs.limits.all_counted.Given as goal
 
--- what is left decides
+-- whether all counted rules are small depends on those left
 abbrev pub invariant-loop-rule : goal.invariant-loop-rule
 invariant-loop-rule l =
     list_all is_small_counted (map counted_of (drop l.rule-index l.counted))

@@ -4,7 +4,7 @@ use Rattle.potential_nodes.specs.Limits.{is_small_function}
 use Rattle.potential_types.specs.Views.{function_of}
 use Rattle.potential_types.proofs.limits.all_functions.Given as goal
 
--- what is left decides
+-- whether all functions are small depends on those left
 abbrev pub invariant-loop-function : goal.invariant-loop-function
 invariant-loop-function l =
     list_all is_small_function (map function_of (drop l.function-index l.functions))

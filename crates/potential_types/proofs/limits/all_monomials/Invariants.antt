@@ -4,7 +4,7 @@ use Rattle.potential_nodes.specs.Limits.{is_small_monomial}
 use Rattle.poly_terms.specs.Views.{monomials_of}
 use Rattle.potential_types.proofs.limits.all_monomials.Given as goal
 
--- what is left decides
+-- whether all monomials are small depends on those left
 abbrev pub invariant-loop-monomial : goal.invariant-loop-monomial
 invariant-loop-monomial l =
     list_all is_small_monomial (monomials_of (drop l.monomial-index l.monomials))

@@ -3,6 +3,6 @@ use Rattle.std.specs.Prelude.{map}
 use Rattle.poly_terms.specs.Views.{term_of}
 use Rattle.program_copies.proofs.exprs.copied_exprs.Given as goal
 
--- the copies so far are of the expressions passed
+-- the list has copies of the expressions passed
 abbrev pub invariant-loop-expr : goal.invariant-loop-expr
 invariant-loop-expr l = map term_of l.copies.items ≡ map term_of (take l.expr-index l.exprs)

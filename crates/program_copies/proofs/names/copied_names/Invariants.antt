@@ -3,6 +3,6 @@ use Rattle.std.specs.Prelude.{map}
 use Rattle.its_model.specs.Views.{name_of}
 use Rattle.program_copies.proofs.names.copied_names.Given as goal
 
--- the copies so far are of the names passed
+-- the list has copies of the names passed
 abbrev pub invariant-loop-name : goal.invariant-loop-name
 invariant-loop-name l = map name_of l.copies.items ≡ map name_of (take l.name-index l.names)

@@ -3,6 +3,6 @@ use Rattle.std.specs.Prelude.{map}
 use Rattle.its_model.specs.Views.{symbol_of}
 use Rattle.program_copies.proofs.names.copied_symbols.Given as goal
 
--- the copies so far are of the symbols passed
+-- the list has copies of the symbols passed
 abbrev pub invariant-loop-symbol : goal.invariant-loop-symbol
 invariant-loop-symbol l = map symbol_of l.copies.items ≡ map symbol_of (take l.symbol-index l.symbols)

@@ -4,7 +4,7 @@ use Rattle.cert_types.specs.Views.{proof_of}
 use Rattle.cert_text.specs.OverFirst.{IsOverFirst}
 use Rattle.reading_tests.proofs.over_first.are_over_first.Given as goal
 
--- where what is left is so, all is
+-- if the remaining lemmas are over the first n, all are
 abbrev pub invariant-loop-lemma : goal.invariant-loop-lemma
 invariant-loop-lemma l =
     All (λ lemma. IsOverFirst l.n (proof_of lemma)) (drop l.lemma-index l.lemmas)

@@ -4,7 +4,7 @@ use Rattle.refinement.specs.Sections.{passes}
 use Rattle.refined_programs.specs.Affine.{affine_of}
 use Rattle.refined_programs.proofs.spelling.atoms_of.Given as goal
 
--- the facts passed are atoms
+-- the atoms are those of the facts passed
 abbrev pub invariant-loop-fact : goal.invariant-loop-fact
 invariant-loop-fact l =
     map atom_of l.atoms.items ≡ map passes (map affine_of (take l.fact-index l.copy.facts.items))

@@ -4,7 +4,7 @@ use Rattle.refinement.specs.Sections.{rule_along}
 use Rattle.refined_programs.specs.Ends.{end_of, paths_of}
 use Rattle.refined_programs.proofs.spelling.push_rules.Given as goal
 
--- the rules of the ends passed, and behind them those of the others, are the rules of all behind those that were there
+-- the rules of the ends passed and those of the ends left, after the rules before, are all
 abbrev pub invariant-loop-end : goal.invariant-loop-end
 invariant-loop-end l =
     map rule_of l.rules.items

@@ -4,7 +4,7 @@ use Rattle.refinement.specs.Sections.{rule_copies}
 use Rattle.refined_programs.specs.Views.{branch_of, section_of}
 use Rattle.refined_programs.proofs.spelling.rules_of.Given as goal
 
--- the rules of the branches passed, and behind them those of the others, are the rules of all
+-- the rules of the branches passed and those of the branches left are all
 abbrev pub invariant-loop-branch : goal.invariant-loop-branch
 invariant-loop-branch l =
     map rule_of l.rules.items

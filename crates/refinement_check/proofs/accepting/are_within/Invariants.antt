@@ -4,7 +4,7 @@ use Rattle.section_decide.specs.Deciding.{is_within_limits}
 use Rattle.refinement_check.specs.Views.{obligation_of}
 use Rattle.refinement_check.proofs.accepting.are_within.Given as goal
 
--- the obligations that are left decide
+-- whether all obligations are within the limits depends on those left
 abbrev pub invariant-loop-obligation : goal.invariant-loop-obligation
 invariant-loop-obligation l =
     list_all (λ o. is_within_limits o.rule) (map obligation_of (drop l.obligation-index l.obligations))

@@ -6,7 +6,7 @@ use Rattle.section_decide.specs.Deciding.{limit_tests}
 use Rattle.refinement_check.specs.Views.{numbered_end_of, placed}
 use Rattle.refinement_check.proofs.accepting.over_limit.Given as goal
 
--- the ends that are left decide
+-- whether some end is over the limits depends on the ends left
 abbrev pub invariant-loop-i : goal.invariant-loop-i
 invariant-loop-i l =
     first_failing (limit_tests (map copy_of l.copies) (l.i + 1)

@@ -6,7 +6,7 @@ use Rattle.section_decide.specs.Deciding.{limit_tests, certificate_tests, first_
 use Rattle.refinement_check.specs.Views.{numbered_end_of, placed}
 use Rattle.refinement_check.proofs.accepting.unmet_end.Given as goal
 
--- the ends that are left decide, and are within the limits
+-- the first fault is that of the ends left, which are within the limits
 abbrev pub invariant-loop-i : goal.invariant-loop-i
 invariant-loop-i l =
     record {

@@ -3,7 +3,7 @@ use Rattle.std.specs.List.{list_all}
 use Rattle.cert_decide.specs.Numbers.{is_in_limit}
 use Rattle.refinement_check.proofs.certificates.are_within.Given as goal
 
--- the multipliers that are left decide
+-- whether all multipliers are within the limit depends on those left
 abbrev pub invariant-loop-number : goal.invariant-loop-number
 invariant-loop-number l =
     list_all is_in_limit (drop l.number-index l.by) ≡ list_all is_in_limit l.by

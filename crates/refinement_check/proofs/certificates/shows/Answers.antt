@@ -16,12 +16,12 @@ use Rattle.cert_decide.specs.Numbers.{implies}
 use Rattle.cert_decide.proofs.NumberTests.{decides-implies}
 use Rattle.refinement_check.proofs.certificates.shows.Goals as goal
 
--- the rows that are lent are those of the rule
+-- the rows that are borrowed are those of the rule
 rows-same : (rows : List Row) (m : RuleRows) (r : Rule) → rows ≡ m.rows.items → prepared_of m ≡ prepared r
     → map form_of rows ≡ rows_of r
 rows-same rows m r e same = ap (map form_of) e ∙ ap (λ (x : Prepared). x.rows) same
 
--- an answer that says whether multipliers imply -1 is what is computed
+-- the answer whether multipliers imply -1 is the computed one
 shown-by : (v : Bool) (rows fs : List Form) (given by : List ℕ) → rows ≡ fs → given ≡ by
     → IsTrue v ↔ Implies rows given minus_one → v ≡ implies fs by minus_one
 shown-by v rows fs given by e f h =

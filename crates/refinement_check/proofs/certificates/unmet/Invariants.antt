@@ -6,7 +6,7 @@ use Rattle.section_decide.specs.Deciding.{obligation_tests}
 use Rattle.refinement_check.specs.Views.{obligation_of}
 use Rattle.refinement_check.proofs.certificates.unmet.Given as goal
 
--- the obligations that are left decide, and have rows
+-- the first fault is that of the obligations left, whose rules can be prepared
 abbrev pub invariant-loop-obligation : goal.invariant-loop-obligation
 invariant-loop-obligation l =
     record {

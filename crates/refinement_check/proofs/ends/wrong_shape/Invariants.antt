@@ -6,7 +6,7 @@ use Rattle.section_decide.specs.Deciding.{shape_tests}
 use Rattle.refinement_check.specs.Views.{numbered_end_of, placed}
 use Rattle.refinement_check.proofs.ends.wrong_shape.Given as goal
 
--- the ends that are left decide
+-- the first end of a wrong shape is among the ends left
 abbrev pub invariant-loop-i : goal.invariant-loop-i
 invariant-loop-i l =
     first_failing (shape_tests (map copy_of l.copies) (l.i + 1)

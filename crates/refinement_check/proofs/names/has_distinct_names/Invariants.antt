@@ -4,7 +4,7 @@ use Rattle.text_core.specs.Names.{IsName, AreDistinct}
 use Rattle.refinement_check.proofs.Naming.{names_of}
 use Rattle.refinement_check.proofs.names.has_distinct_names.Given as goal
 
--- the names of the copies passed are names and differ, and behind them those of the others are all
+-- the names of the copies passed are names and differ, and with the names of those left they are all
 abbrev pub invariant-loop-copy : goal.invariant-loop-copy
 invariant-loop-copy l =
     record {

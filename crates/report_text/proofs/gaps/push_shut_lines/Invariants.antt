@@ -4,6 +4,6 @@ use Rattle.cert_types.specs.AnswerViews.{shut_of}
 use Rattle.report_text.specs.Reasons.{shut_lines}
 use Rattle.report_text.proofs.gaps.push_shut_lines.Given as goal
 
--- what is written and what is left make the whole
+-- the written text and the remaining one are the whole
 abbrev pub invariant-loop-place : goal.invariant-loop-place
 invariant-loop-place l = l.text.items ++ shut_lines (map symbol_of l.symbols) (map shut_of (drop l.place-index l.shut)) ≡ l.initial.text.items ++ shut_lines (map symbol_of l.symbols) (map shut_of l.shut)

@@ -1,4 +1,4 @@
--- They are.
+-- the worked values
 use Rattle.report_text.proofs.WorkedTexts.{texts_are_worked_out}
 use Rattle.report_text.proofs.law.texts_are_worked_out.Goals as goal
 

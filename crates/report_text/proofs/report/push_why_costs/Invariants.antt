@@ -4,6 +4,6 @@ use Rattle.report_text.specs.Reports.{why_cost}
 use Rattle.report_text.specs.Conditions.{rule_cost_of}
 use Rattle.report_text.proofs.report.push_why_costs.Given as goal
 
--- what is written and what is left make the whole
+-- the written lines and the remaining ones are the whole
 abbrev pub invariant-loop-i : goal.invariant-loop-i
 invariant-loop-i l = l.text.items ++ numbered_lines (λ rule c. why_cost rule (rule_cost_of c)) (l.i + 1) (drop l.i l.costs) ≡ l.initial.text.items ++ numbered_lines (λ rule c. why_cost rule (rule_cost_of c)) 1 l.costs

@@ -4,7 +4,7 @@ use Rattle.signed_bounds.specs.Covers as covers
 use Rattle.signed_within.specs.Views.{counted}
 use Rattle.signed_within.proofs.covering.dominated.Given as goal
 
--- the products that are left decide
+-- whether the products are dominated depends on those left
 abbrev pub invariant-loop-i : goal.invariant-loop-i
 invariant-loop-i l = record {
   decided : covers.dominated expands_to_squares (counted (drop l.i l.ps) (drop l.i l.missing)) (counted l.qs l.rest.items)

@@ -4,7 +4,7 @@ use Rattle.signed_within.specs.Tests.{lists_match}
 use Rattle.signed_within.specs.Views.{signed_at, counted}
 use Rattle.signed_within.proofs.covering.use_up.Given as goal
 
--- what is missing is taken from the products that are left, as all is from all of them
+-- taking what is missing from the products left is taking all from all
 abbrev pub invariant-loop-i : goal.invariant-loop-i
 invariant-loop-i l = record {
   lacking : missing_times (lists_match l.test) l.missing (signed_at l.p.factors.items)

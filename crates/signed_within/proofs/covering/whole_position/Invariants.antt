@@ -5,7 +5,7 @@ use Rattle.signed_within.specs.Views.{signed_at, counted}
 use Rattle.signed_within.proofs.Wholes.{behind}
 use Rattle.signed_within.proofs.covering.whole_position.Given as goal
 
--- no product that was passed is enough
+-- no product that was passed is large enough as a whole
 abbrev pub invariant-loop-i : goal.invariant-loop-i
 invariant-loop-i l =
     behind (counted (take l.i l.qs) (take l.i l.left))

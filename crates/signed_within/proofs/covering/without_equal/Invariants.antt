@@ -5,7 +5,7 @@ use Rattle.signed_within.specs.Tests.{lists_match}
 use Rattle.signed_within.specs.Views.{products_at, counted}
 use Rattle.signed_within.proofs.covering.without_equal.Given as goal
 
--- what is missing of the products passed and of those that are left, and what these use up, are as for all
+-- the numbers missing of the products passed and of those left, and the numbers that these leave, are those of all
 abbrev pub invariant-loop-p : goal.invariant-loop-p
 invariant-loop-p l = record {
   lacking : counted (take l.p-index l.ps) l.missing.items

@@ -8,7 +8,7 @@ use Rattle.signed_bounds.specs.Safe.{expands_to_squares}
 use Rattle.signed_bounds.specs.Fits.{all_fit}
 use Rattle.signed_within.proofs.fitting.+fits.Goals as goal
 
--- no parts fit others just where there are no others
+-- no parts fit other parts exactly if there are none of these
 nothing_fits : (ys : List Signed) → (length ys == 0) ≡ all_fit expands_to_squares NoParts (parts_of (signeds_of ys))
 nothing_fits [] = refl
 nothing_fits (y ∷ ys) = eqb-suc-zero (length ys)

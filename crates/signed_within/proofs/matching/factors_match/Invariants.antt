@@ -3,7 +3,7 @@ use Rattle.signed_within.specs.Tests.{lists_match}
 use Rattle.signed_within.specs.Views.{signed_at}
 use Rattle.signed_within.proofs.matching.factors_match.Given as goal
 
--- the factors that are left decide
+-- whether the lists match depends on the factors left
 abbrev pub invariant-loop-i : goal.invariant-loop-i
 invariant-loop-i l =
     lists_match l.test (signed_at (drop l.i l.factors)) (signed_at l.left.items)

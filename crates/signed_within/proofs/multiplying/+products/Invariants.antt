@@ -6,13 +6,13 @@ use Rattle.signed_bounds.specs.Products.{times_sum, number_sum_of_product, produ
 use Rattle.signed_within.specs.Views.{products_at}
 use Rattle.signed_within.proofs.multiplying.+products.Given as goal
 
--- what is done, and the products of the parts that are left, are all
+-- the products so far and those of the parts left are all
 abbrev pub invariant-products_of_sum-loop-part : goal.invariant-products_of_sum-loop-part
 invariant-products_of_sum-loop-part l =
     products_at l.products.items ++ products_of_sum (parts_of (signeds_of (drop l.part-index l.parts)))
     ≡ products_of_sum (parts_of (signeds_of l.parts))
 
--- what is done times the parts that are left is the whole product, and its numbers are within the limit
+-- the products so far times those of the parts left are the whole product, and their numbers are within the limit
 abbrev pub invariant-products_of_product-loop-part : goal.invariant-products_of_product-loop-part
 invariant-products_of_product-loop-part l = record {
   made : multiplied_by_parts (parts_of (signeds_of (drop l.part-index l.parts))) (products_at l.products.items)

@@ -3,7 +3,7 @@ use Rattle.signed_bounds.specs.Products.{multiplied}
 use Rattle.signed_within.specs.Views.{products_at}
 use Rattle.signed_within.proofs.multiplying.multiplied.Given as goal
 
--- what is done, and what the products that are left give, are all
+-- the products so far and those that the products left give are all
 abbrev pub invariant-loop-p : goal.invariant-loop-p
 invariant-loop-p l =
     products_at l.products.items ++ multiplied (products_at (drop l.p-index l.ps)) (products_at l.qs)

@@ -1,4 +1,4 @@
--- It is worked out.
+-- The worked values hold.
 use Rattle.text_core.proofs.WorkedLines.{worked_lines}
 use Rattle.text_core.proofs.law.worked_lines_hold.Goals as goal
 

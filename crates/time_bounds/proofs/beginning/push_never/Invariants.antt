@@ -4,7 +4,7 @@ use Rattle.bound_derivations.specs.Views.{derivations_of}
 use Rattle.time_bounds.specs.Beginning.{never_derivations}
 use Rattle.time_bounds.proofs.beginning.push_never.Given as goal
 
--- what is done and what is left is all
+-- the finished part and the rest are the whole list
 abbrev pub invariant-loop-position : goal.invariant-loop-position
 invariant-loop-position l =
     derivations_of l.derivations.items

@@ -5,7 +5,7 @@ use Rattle.time_bounds.specs.CostEntries.{AreCostEntries}
 use Rattle.time_bounds.specs.Questions.{program_in}
 use Rattle.time_bounds.proofs.costing.cost_entries.Given as goal
 
--- the entries of the rules so far, with their lemmas, of which there is at most one a rule
+-- the entries of the rules so far, with their lemmas, at most one for each rule
 abbrev pub invariant-loop-i : goal.invariant-loop-i
 invariant-loop-i l = record {
   one_each : length l.costs.items ≡ l.i;

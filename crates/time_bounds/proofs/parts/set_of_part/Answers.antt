@@ -5,7 +5,7 @@ use Rattle.time_bounds.proofs.SetLaws.{open_rule}
 use Rattle.time_bounds.proofs.PartSets.{found_more, open_copy}
 use Rattle.time_bounds.proofs.parts.set_of_part.Goals as goal
 
--- what was found is right for this rule too
+-- the stored set is right for this rule
 pub returns-in-Some-clause-set : goal.returns-in-Some-clause-set
 returns-in-Some-clause-set c =
     let p = program_of c.args.cx.now.program.now in
@@ -18,7 +18,7 @@ returns-in-Some-clause-set c =
     open_copy p tab c.args.rule c.in-Some.known c.in_ok-copy.copy c.in_ok-copy.ensures.set c.in_ok-copy.ensures.shut
     (c.requires.parts.found c.args.rule c.args.part c.in-Some.known open_is.untimed c.requires.part there)
 
--- what is made of this rule is right for the others
+-- the set computed for this rule is right for the others of its component
 pub returns-clause-parts : goal.returns-clause-parts
 returns-clause-parts c =
     let p = program_of c.args.cx.now.program.now in

@@ -14,7 +14,7 @@ use Rattle.cert_types.specs.AnswerViews.{gap_of}
 use Rattle.cert_types.specs.Views.{rank_of}
 use Rattle.rank_search.specs.declared.answer.RankAnswer.{RankAnswer}
 use Rattle.rank_search.specs.rule_questions.ProgramQuestions.{forms_at}
-use Rattle.bound_fixpoint.specs.Answers.{Lacks, TellsRanking}
+use Rattle.bound_fixpoint.specs.Answers.{Lacks, AnswersRanking}
 use Rattle.outcome.specs.Reports.{NoFunction, TimeHitLimit, TimeLarge}
 use Rattle.bound_fixpoint.specs.Searches.{OfTime}
 use Rattle.size_bounds.specs.Tables.{bounds_in}
@@ -43,7 +43,7 @@ returns-in-Large-clause-said c =
       untimed_none b c.args.rule c.requires.untimed,
       time-sound p b c.args.cx.now.pivots c.args.cx.now.empties.items c.args.rule c.args.asked (Lacks (OfTime (TimeLarge c.in-Large.nodes)))
           c.requires.ready.empties m.asked m.answered
-          (subst (λ (a : RankAnswer). TellsRanking (setting_of p) b (ranking_of a) (Lacks (OfTime (TimeLarge c.in-Large.nodes)))) (sym c.in-Ranked.is)
+          (subst (λ (a : RankAnswer). AnswersRanking (setting_of p) b (ranking_of a) (Lacks (OfTime (TimeLarge c.in-Large.nodes)))) (sym c.in-Ranked.is)
           (large-sound p b node c.in-Large.nodes (sym (ap answer_of c.in-Large.is) ∙ large))),
     )
 
@@ -61,7 +61,7 @@ returns-in-NoRank-clause-said c =
       untimed_none b c.args.rule c.requires.untimed,
       time-sound p b c.args.cx.now.pivots c.args.cx.now.empties.items c.args.rule c.args.asked (Lacks (OfTime (NoFunction n))) c.requires.ready.empties
           m.asked m.answered
-          (subst (λ (a : RankAnswer). TellsRanking (setting_of p) b (ranking_of a) (Lacks (OfTime (NoFunction n)))) (sym c.in-NoRank.is)
+          (subst (λ (a : RankAnswer). AnswersRanking (setting_of p) b (ranking_of a) (Lacks (OfTime (NoFunction n)))) (sym c.in-NoRank.is)
           (ap (λ (g : Gap). Lacks (OfTime (NoFunction g))) last)),
     )
 
@@ -84,7 +84,7 @@ returns-clause-said c =
       untimed_none b c.args.rule c.requires.untimed,
       time-sound p b c.args.cx.now.pivots c.args.cx.now.empties.items c.args.rule c.args.asked (Lacks (OfTime (TimeHitLimit c.in-OutOfLimits.limit_hit)))
           c.requires.ready.empties m.asked m.answered
-          (subst (λ (a : RankAnswer). TellsRanking (setting_of p) b (ranking_of a) (Lacks (OfTime (TimeHitLimit c.in-OutOfLimits.limit_hit)))) (sym c.in-OutOfLimits.is) refl),
+          (subst (λ (a : RankAnswer). AnswersRanking (setting_of p) b (ranking_of a) (Lacks (OfTime (TimeHitLimit c.in-OutOfLimits.limit_hit)))) (sym c.in-OutOfLimits.is) refl),
     )
 
 pub unreachable-requires : goal.unreachable-requires

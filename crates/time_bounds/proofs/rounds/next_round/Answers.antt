@@ -13,7 +13,7 @@ use Rattle.time_bounds.specs.Questions.{program_in}
 use Rattle.time_bounds.specs.RoundsMade.{known_with}
 use Rattle.time_bounds.specs.EarlierAnswers.{WereAttempts}
 use Rattle.time_bounds.proofs.CandidateComponents.{are_components, live_components}
-use Rattle.time_bounds.proofs.StandingAnswers.{grown-itself, grown-by, were-wider, asked_still}
+use Rattle.time_bounds.proofs.TrueAnswers.{grown-itself, grown-by, were-wider, asked_still}
 use Rattle.time_bounds.proofs.rounds.next_round.Goals as goal
 
 pub times_of_round-requires-clause-one_each : goal.times_of_round-requires-clause-one_each

@@ -8,7 +8,7 @@ use Rattle.time_bounds.specs.RoundsMade.{known_with}
 use Rattle.time_bounds.specs.EarlierAnswers.{WereAttempts}
 use Rattle.time_bounds.proofs.AnsweredQuestions.{none_kept}
 use Rattle.time_bounds.proofs.MadeRounds.{round_made, round_kept, same_derivations, fewer_missing}
-use Rattle.time_bounds.proofs.StandingAnswers.{were-none}
+use Rattle.time_bounds.proofs.TrueAnswers.{were-none}
 use Rattle.time_bounds.proofs.rounds.rounds.Goals as goal
 
 pub loop-kept-init : goal.loop-kept-init

@@ -5,7 +5,7 @@ use Rattle.size_bounds.specs.Tables.{table_of}
 use Rattle.time_bounds.specs.Shutting.{shut_from}
 use Rattle.time_bounds.proofs.sets.shut_places.Given as goal
 
--- those so far and those of the symbols that are left make all
+-- the shut places so far and those of the remaining symbols are all
 abbrev pub invariant-loop-mark : goal.invariant-loop-mark
 invariant-loop-mark l =
     places_of l.shut.items

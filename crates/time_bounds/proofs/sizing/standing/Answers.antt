@@ -2,7 +2,7 @@ use Rattle.std.proofs.Common.{◌≡◌, ◌<◌, length, get_or, subst, arith}
 use Rattle.size_bounds.specs.Tables.{table_of}
 use Rattle.time_bounds.specs.declared.sizing.ComponentAttempt.{ComponentAttempt}
 use Rattle.time_bounds.specs.declared.sizing.ComponentAttempt.TheVariants.{Failed}
-use Rattle.time_bounds.proofs.StandingAnswers.{read-at, again-at}
+use Rattle.time_bounds.proofs.TrueAnswers.{read-at, again-at}
 use Rattle.time_bounds.proofs.sizing.standing.Goals as goal
 
 pub returns-in-Failed : goal.returns-in-Failed

@@ -7,7 +7,7 @@ use Rattle.cert_types.specs.declared.side_bound.ResultVariable.{ResultVariable}
 use Rattle.time_bounds.specs.Candidates.{result_variables_in}
 use Rattle.time_bounds.specs.Questions.{program_in}
 use Rattle.time_bounds.specs.RoundsMade.{known_with}
-use Rattle.time_bounds.proofs.StandingAnswers.{some_holds, lacks-still}
+use Rattle.time_bounds.proofs.TrueAnswers.{some_holds, lacks-still}
 use Rattle.time_bounds.proofs.TablesOver.{bounds_same}
 use Rattle.time_bounds.proofs.ComponentTries.{known_step, failed_step}
 use Rattle.time_bounds.proofs.sizing.try_component.Goals as goal

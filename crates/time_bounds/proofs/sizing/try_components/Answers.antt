@@ -16,7 +16,7 @@ use Rattle.time_bounds.specs.RoundsMade.{known_with, AreSizesMade}
 use Rattle.time_bounds.specs.EarlierAnswers.{WereAttempts}
 use Rattle.time_bounds.proofs.CandidateComponents.{within_all}
 use Rattle.time_bounds.proofs.SizeRounds.{tries_more, were-append, one_at, one_before, uniform_with}
-use Rattle.time_bounds.proofs.StandingAnswers.{grown-itself, grown-by, were-wider, standing-there}
+use Rattle.time_bounds.proofs.TrueAnswers.{grown-itself, grown-by, were-wider, standing-there}
 use Rattle.time_bounds.proofs.TablesOver.{table_with}
 use Rattle.time_bounds.proofs.sizing.try_components.Goals as goal
 

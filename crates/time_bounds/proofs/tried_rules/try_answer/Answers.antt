@@ -10,7 +10,7 @@ use Rattle.rank_search.specs.declared.answer.RankAnswer.{RankAnswer}
 use Rattle.bound_fixpoint.specs.Derivations.{RankBy}
 use Rattle.outcome.specs.Reports.{NoFunction, TimeHitLimit, TimeLarge}
 use Rattle.bound_fixpoint.specs.Searches.{OfTime}
-use Rattle.bound_fixpoint.specs.Answers.{Answer, Found, TellsRanking}
+use Rattle.bound_fixpoint.specs.Answers.{Answer, Found, AnswersRanking}
 use Rattle.size_bounds.specs.Tables.{bounds_in}
 use Rattle.time_bounds.specs.ProgramRules.{ranking_of}
 use Rattle.time_bounds.specs.Questions.{HasShape, program_in}
@@ -33,7 +33,7 @@ returns-in_ok-premises-in-Rewritten c =
       c.requires.untimed,
       time-sound p b c.args.cx.now.pivots c.args.cx.now.empties.items c.args.rule c.args.asked told c.requires.ready.empties c.requires.asked
           c.requires.answered
-          (subst (λ (a : RankAnswer). TellsRanking (setting_of p) b (ranking_of a) told) (sym c.in-Ranked.is)
+          (subst (λ (a : RankAnswer). AnswersRanking (setting_of p) b (ranking_of a) told) (sym c.in-Ranked.is)
           (found-sound p b node premises (bound_of c.in-Rewritten.bound) (sym (ap answer_of c.in-Rewritten.is) ∙ fits) c.in_ok-premises-in-Rewritten.ensures)),
     )
 

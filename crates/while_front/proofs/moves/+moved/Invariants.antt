@@ -5,8 +5,8 @@ use Rattle.while_tree.specs.Views.{statements_of}
 use Rattle.while_front.specs.Views.{move_of}
 use Rattle.while_front.proofs.moves.+moved.Given as goal
 
--- the moves so far, and then those of the statements left, are those that were there and those of all statements; the
--- statements left can be numbered
+-- The moves so far, and then those of the statements left, are those at the start and those of all statements; the
+-- statements left can be numbered.
 abbrev pub invariant-push_moves-loop-stmt : goal.invariant-push_moves-loop-stmt
 invariant-push_moves-loop-stmt l =
     (map move_of l.moves.items ++ moves l.here l.after (statements_of (drop l.stmt-index l.body))

@@ -4,7 +4,7 @@ use Rattle.its_model.specs.Views.{atom_of}
 use Rattle.while_front.specs.Views.{move_of}
 use Rattle.while_front.proofs.moves.push_negated.Given as goal
 
--- the atoms passed have a move each
+-- Each atom passed has a move.
 abbrev pub invariant-loop-atom : goal.invariant-loop-atom
 invariant-loop-atom l =
     map move_of l.moves.items

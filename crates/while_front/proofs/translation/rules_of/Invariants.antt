@@ -4,7 +4,7 @@ use Rattle.its_model.specs.Views.{name_of, rule_of}
 use Rattle.while_front.specs.Views.{move_of}
 use Rattle.while_front.proofs.translation.rules_of.Given as goal
 
--- the moves passed are rules
+-- The list has the rules of the moves passed.
 abbrev pub invariant-loop-taken : goal.invariant-loop-taken
 invariant-loop-taken l =
     map rule_of l.rules.items ≡ map (rule_of_move (map name_of l.inputs) l.points) (map move_of l.yielded)

@@ -3,7 +3,7 @@ use Rattle.text_grammar.specs.text_core.Names.{position_of}
 use Rattle.its_model.specs.Views.{name_of}
 use Rattle.while_text.proofs.names.number_of.Given as goal
 
--- the name is none of those passed
+-- The name is none of those passed.
 abbrev pub invariant-loop-name : goal.invariant-loop-name
 invariant-loop-name l =
     (l.number ≡ l.name-index) × (l.number + position_of l.bytes (map name_of (drop l.name-index l.names))

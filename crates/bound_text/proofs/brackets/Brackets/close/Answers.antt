@@ -4,7 +4,7 @@ use Rattle.bound_text.specs.declared.state.Opened.{Opened}
 use Rattle.bound_text.proofs.ViewLaws.{rounds_popped, outer_popped}
 use Rattle.bound_text.proofs.brackets.Brackets.close.Goals as goal
 
--- where none is taken, none was there
+-- if no bracket was closed, none was open
 none_there : (r : Option Opened) (n m : ℕ) → MatchOption r ((n ≡ 0) × (m ≡ 0)) (λ _. m + 1 ≡ n) → MatchOption r (n ≡ 0) (λ _. ⊤)
 none_there None n m h = h.0
 none_there (Some x) n m h = tt

@@ -10,11 +10,11 @@ returns-in-Some c =
     let l = c.args.self.now in
     c.bound_from.ensures
     ∙ (ap (λ (rs : List (Bor Fact)). bound_at (facts_at rs) (Some c.in-Some.position.now)) c.deref.ensures.value
-    ∙ (ap (bound_at (facts_at l.facts.items)) (c.in-Some.ensures.value ∙ l.times_told.each c.args.rule)
+    ∙ (ap (bound_at (facts_at l.facts.items)) (c.in-Some.ensures.value ∙ l.times_stated.each c.args.rule)
     ∙ time-found (facts_at l.facts.items) c.args.rule))
 
 pub returns-in-None : goal.returns-in-None
 returns-in-None c =
     let l = c.args.self.now in
-    ap (bound_at (facts_at l.facts.items)) (c.in-None.ensures.value ∙ l.times_told.each c.args.rule)
+    ap (bound_at (facts_at l.facts.items)) (c.in-None.ensures.value ∙ l.times_stated.each c.args.rule)
     ∙ time-found (facts_at l.facts.items) c.args.rule

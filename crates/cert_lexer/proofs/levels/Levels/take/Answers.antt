@@ -1,7 +1,7 @@
 use Rattle.std.proofs.Common.{◌≤◌, length, arith}
 use Rattle.bound_text.specs.Printing.{piece_of}
 use Rattle.cert_lexer.specs.Outlines.{innermost_frame}
-use Rattle.cert_lexer.specs.Shadows.{frames_in}
+use Rattle.cert_lexer.specs.Representation.{frames_in}
 use Rattle.cert_lexer.proofs.LevelsLaws.{taken_behind}
 use Rattle.cert_lexer.proofs.levels.Levels.take.Goals as goal
 

@@ -2,7 +2,7 @@ use Rattle.std.proofs.Common.{◌∷◌, ◌++◌, [], ap, sym, subst, ◌∙◌
 use Rattle.std.specs.Option.{option_map}
 use Rattle.std.specs.Prelude.{suc}
 use Rattle.bound_text.specs.Inside.{Marks}
-use Rattle.cert_lexer.specs.Shadows.{Holds}
+use Rattle.cert_lexer.specs.Representation.{Holds}
 use Rattle.cert_lexer.proofs.ShallowLaws.{capped_deeper, one_deeper, one_less}
 use Rattle.cert_lexer.proofs.levels.PartLevels.push_deeper.Goals as goal
 

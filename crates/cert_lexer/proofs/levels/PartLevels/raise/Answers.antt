@@ -2,8 +2,8 @@ use Rattle.std.proofs.Common.{◌≡◌, ◌++◌, length, min, take, drop, subs
 use Rattle.std.specs.Prelude.{Bool}
 use Rattle.bound_text.specs.Inside.{Marks}
 use Rattle.cert_lexer.specs.Levels.{raised, raised_from}
-use Rattle.cert_lexer.specs.Shadows.{Held, Holds}
-use Rattle.cert_lexer.proofs.ShallowLaws.{held_front, held_raised}
+use Rattle.cert_lexer.specs.Representation.{Held, Holds}
+use Rattle.cert_lexer.proofs.ShallowLaws.{held_prefix, held_raised}
 use Rattle.cert_lexer.proofs.levels.PartLevels.raise.Goals as goal
 
 pub returns : goal.returns
@@ -22,4 +22,4 @@ returns c = λ marks at e h.
     c.args.self.now.deep c.push_deeper.new.self.deep marks c.args.start at (omega (arith, o, p, q)) e h front tail
     (subst (λ (ms : Marks). Holds c.push_deeper.new.self (c.split_off.new.self.items ++ raised ms)) c.deref.ensures.value
     (c.in_ok-push_deeper.ensures c.split_off.new.self.items
-    (held_front old c.split_off.new.self.items c.args.self.now.deep marks (min (length old) c.args.start) h front))))
+    (held_prefix old c.split_off.new.self.items c.args.self.now.deep marks (min (length old) c.args.start) h front))))

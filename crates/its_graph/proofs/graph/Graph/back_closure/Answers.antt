@@ -16,7 +16,7 @@ use Rattle.its_graph.proofs.SetMembers.{in-set, members-ascending, is_rule}
 use Rattle.its_graph.proofs.Arrivals.{rule-at-link}
 use Rattle.its_graph.proofs.graph.Graph.back_closure.Goals as goal
 
--- the kept links, turned round, are within
+-- The ends of the kept links, reversed, are below the number of symbols.
 pub grouped-requires : goal.grouped-requires
 grouped-requires c =
     let g = c.args.self.now in
@@ -26,7 +26,7 @@ grouped-requires c =
     subst (λ (xs : List Pair). All (λ (e : Pair). e.0 < n) xs) (sym links)
     (All-weaker (λ (e : Pair). (e.0 < n) × (e.1 < n)) (λ (e : Pair). e.0 < n) (λ e h. h.0) (map swap kept) (swap-within n kept (kept-within n c.args.untimed.now 1 g.links.items c.requires.graph.1.links_within)))
 
--- the values of the table are nodes
+-- The values of the table are nodes.
 pub flooded-requires-clause-edges_within : goal.flooded-requires-clause-edges_within
 flooded-requires-clause-edges_within c =
     let g = c.args.self.now in
@@ -37,13 +37,13 @@ flooded-requires-clause-edges_within c =
     let values : (a : ℕ) → values_in c.deref-4.result.now a ≡ values_of (map swap kept) a = λ a. ap (λ (t : List (Vec ℕ Global)). values_in t a) c.deref-4.ensures.value ∙ (c.in_ok-previous.ensures.values a ∙ ap (λ (xs : List Pair). values_of xs a) links) in
     λ a. subst (λ (k : ℕ). All (λ b. b < k) (values_in c.deref-4.result.now a)) (sym size) (kept-values n (map swap kept) c.deref-4.result.now (swap-within n kept (kept-within n c.args.untimed.now 1 g.links.items c.requires.graph.1.links_within)) values a)
 
--- the numbers ascend
+-- The numbers ascend.
 pub returns-clause-ascending : goal.returns-clause-ascending
 returns-clause-ascending c =
     IfOk-weaker c.members.result (λ (found : Vec ℕ Global). found.items ≡ members_from c.args.untimed.now c.deref-6.result.now c.args.rule 1 c.deref-5.result.now) (λ (found : Vec ℕ Global). IsStrictlyIncreasing found.items)
     (λ found e. subst (λ (xs : List ℕ). IsStrictlyIncreasing xs) (sym e) (members-ascending c.args.untimed.now c.deref-6.result.now c.args.rule 1 c.deref-5.result.now).0) c.members.ensures
 
--- the numbers are those of the set
+-- The numbers are those of the set.
 pub returns-clause-members : goal.returns-clause-members
 returns-clause-members c =
     IfOk-weaker c.members.result (λ (found : Vec ℕ Global). found.items ≡ members_from c.args.untimed.now c.deref-6.result.now c.args.rule 1 c.deref-5.result.now)

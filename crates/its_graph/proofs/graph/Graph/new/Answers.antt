@@ -11,7 +11,7 @@ use Rattle.its_graph.proofs.Numbering.{links-within, links-ends}
 use Rattle.its_graph.proofs.Arrivals.{arrivals-within, below-symbols}
 use Rattle.its_graph.proofs.graph.Graph.new.Goals as goal
 
--- the keys of the arrivals are symbols
+-- The keys of the arrivals are symbols.
 pub grouped-requires : goal.grouped-requires
 grouped-requires c =
     let n : ℕ = c.max-symbols.result in
@@ -22,7 +22,7 @@ grouped-requires c =
     let pairs : c.deref-4.result.now ≡ arrivals c.args.p.now.start (map link_of rules) = c.deref-4.ensures.value ∙ (c.in_ok-arrivals_of.ensures ∙ ap (λ (xs : List Pair). arrivals c.args.p.now.start xs) (c.deref-3.ensures.value ∙ links)) in
     subst (λ (xs : List Pair). All (λ (e : Pair). e.0 < n) xs) (sym pairs) (arrivals-within n c.args.p.now.start (map link_of rules) (omega (arith, c.max.ensures, c.max-symbols.ensures)) (links-within n rules below))
 
--- the parts are those of the program
+-- The fields of the graph are those of the program.
 pub returns : goal.returns
 returns c =
     let n : ℕ = c.max-symbols.result in

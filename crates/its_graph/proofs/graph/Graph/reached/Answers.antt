@@ -14,13 +14,13 @@ use Rattle.its_graph.proofs.KeptLinks.{uncut-size, uncut-flags, kept-within, kep
 use Rattle.its_graph.proofs.Reaching.{same-paths, both-ways}
 use Rattle.its_graph.proofs.graph.Graph.reached.Goals as goal
 
--- there is a flag for each rule and the entry
+-- There is a flag for each rule and one for the entry.
 pub allowed_links-requires : goal.allowed_links-requires
 allowed_links-requires c =
     let n = c.len.result in
     omega (arith, ap length c.deref.ensures.value, ap length (c.deref-2.ensures.value ∙ c.in_ok-allowed.ensures), uncut-size n c.args.cut.now, c.len.ensures, c.args.self.now.links.ok.0)
 
--- the kept links are within
+-- The ends of the kept links are below the number of symbols.
 pub grouped-requires : goal.grouped-requires
 grouped-requires c =
     let g = c.args.self.now in
@@ -29,7 +29,7 @@ grouped-requires c =
     subst (λ (xs : List Pair). All (λ (e : Pair). e.0 < n) xs) (sym links)
     (All-weaker (λ (e : Pair). (e.0 < n) × (e.1 < n)) (λ (e : Pair). e.0 < n) (λ e h. h.0) (kept_links c.deref-2.result.now 1 g.links.items) (kept-within n c.deref-2.result.now 1 g.links.items c.requires.1.links_within))
 
--- the values of the table are nodes
+-- The values of the table are nodes.
 pub flooded-requires-clause-edges_within : goal.flooded-requires-clause-edges_within
 flooded-requires-clause-edges_within c =
     let g = c.args.self.now in
@@ -40,7 +40,7 @@ flooded-requires-clause-edges_within c =
     let values : (a : ℕ) → values_in c.deref-4.result.now a ≡ values_of kept a = λ a. ap (λ (t : List (Vec ℕ Global)). values_in t a) c.deref-4.ensures.value ∙ (c.in_ok-next.ensures.values a ∙ ap (λ (xs : List Pair). values_of xs a) links) in
     λ a. subst (λ (k : ℕ). All (λ b. b < k) (values_in c.deref-4.result.now a)) (sym size) (kept-values n kept c.deref-4.result.now (kept-within n c.deref-2.result.now 1 g.links.items c.requires.1.links_within) values a)
 
--- the flooded symbols are the reached ones
+-- The flooded symbols are the reached ones.
 pub returns-clause-reached : goal.returns-clause-reached
 returns-clause-reached c =
     IfOk-weaker c.flooded.result (λ (seen : Vec Bool Global). (b : ℕ) → (get_or seen.items b false ≡ true) ↔ Path (Joins c.deref-4.result.now) c.args.self.now.start b)

@@ -4,17 +4,17 @@ use Rattle.std.proofs.lemmas.Result.{on_ok_weaker}
 use Rattle.its_graph.proofs.Sorting.{listed, popped-open, fewer-unmarked}
 use Rattle.its_graph.proofs.order.Sorting.list.Goals as goal
 
--- the leader is within
+-- The leader is a node.
 pub index_mut-requires : goal.index_mut-requires
 index_mut-requires c = let at = popped-open c.args.needs.now c.args.leaders.now c.args.leader c.args.self.now c.requires.popped in let e = c.args.self.now.is_listed.ok.0 in omega (arith, at.0, e)
 
--- those that waited have to settle
+-- The leaders that waited have to settle.
 pub settle_all-requires-clause-sorting : goal.settle_all-requires-clause-sorting
 settle_all-requires-clause-sorting c =
     listed c.args.needs.now c.args.leaders.now c.requires.orderable c.args.leader c.args.self.now _ c.deref.result.now c.requires.popped
     refl refl refl c.in_ok-push.ensures.items c.take_from-waiting.ensures.size c.take_from-waiting.ensures.values (c.deref.ensures.value ∙ c.take_from-waiting.ensures.taken)
 
--- one mark more is set
+-- One more mark is set.
 pub returns-clause-fewer : goal.returns-clause-fewer
 returns-clause-fewer c =
     let at = popped-open c.args.needs.now c.args.leaders.now c.args.leader c.args.self.now c.requires.popped in

@@ -5,7 +5,7 @@ use Rattle.its_graph.proofs.Elements.{Contains-first}
 use Rattle.its_graph.proofs.Sorting.{settled, needs-within}
 use Rattle.its_graph.proofs.order.Sorting.settle_all.Goals as goal
 
--- the leader that settles next is within
+-- The leader that settles next is a node.
 pub settle-requires-clause-within : goal.settle-requires-clause-within
 settle-requires-clause-within c =
     let xs = c.args.unsettled.now in
@@ -16,7 +16,7 @@ settle-requires-clause-within c =
 pub settle-requires-clause-needs_within : goal.settle-requires-clause-needs_within
 settle-requires-clause-needs_within c = needs-within c.args.needs.now c.args.leaders.now c.requires.orderable (get_or c.args.unsettled.now c.loop-leader.leader-index 0)
 
--- one leader more has settled
+-- One more leader has settled.
 pub loop-leader-preserved : goal.loop-leader-preserved
 loop-leader-preserved c =
     let xs = c.args.unsettled.now in

@@ -4,7 +4,7 @@ use Rattle.its_graph.specs.Groups.{values_in}
 use Rattle.its_graph.proofs.Filling.{values-at}
 use Rattle.its_graph.proofs.roots.Walk.go_on.Goals as goal
 
--- a successor of one of the nodes is one of them
+-- A successor of one of the nodes is one of them.
 pub enter-requires-clause-within : goal.enter-requires-clause-within
 enter-requires-clause-within c =
     let next = c.args.next.now in

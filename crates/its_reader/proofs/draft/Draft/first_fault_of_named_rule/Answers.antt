@@ -2,7 +2,7 @@ use Rattle.its_reader.specs.Faults.{maybe_fault}
 use Rattle.its_reader.proofs.FaultTestLaws.{one_more}
 use Rattle.its_reader.specs.Views.{maybe_of}
 use Rattle.its_text.specs.Kinds.{Limit, LongName}
-use Rattle.its_text.specs.FrontFaults.{fault_if, long_name}
+use Rattle.its_text.specs.StateFaults.{fault_if, long_name}
 use Rattle.its_reader.specs.FaultTests.{rule_faults}
 use Rattle.its_reader.proofs.draft.Draft.first_fault_of_named_rule.Goals as goal
 

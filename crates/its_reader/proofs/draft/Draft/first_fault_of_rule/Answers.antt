@@ -3,7 +3,7 @@ use Rattle.text_core.specs.Reading.{first_among}
 use Rattle.its_text.specs.Grammar.{programs}
 use Rattle.its_reader.specs.Faults.{maybe_fault}
 use Rattle.its_text.specs.Kinds.{Limit, TooManyRules}
-use Rattle.its_text.specs.FrontFaults.{fault_if}
+use Rattle.its_text.specs.StateFaults.{fault_if}
 use Rattle.its_reader.proofs.draft.Draft.first_fault_of_rule.Goals as goal
 
 pub returns : goal.returns

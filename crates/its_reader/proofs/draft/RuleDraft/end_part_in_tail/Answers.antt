@@ -1,6 +1,6 @@
 use Rattle.std.proofs.Common.{refl, sym, ap, ◌∙◌, ◌&&◌}
 use Rattle.its_text.specs.Kinds.{ArityDiffers}
-use Rattle.its_text.specs.FrontFaults.{fault_if}
+use Rattle.its_text.specs.StateFaults.{fault_if}
 use Rattle.its_reader.proofs.PartEndLaws.{tail_guarding, tail_holds}
 use Rattle.its_reader.proofs.draft.RuleDraft.end_part_in_tail.Goals as goal
 

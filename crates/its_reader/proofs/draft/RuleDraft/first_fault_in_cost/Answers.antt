@@ -2,7 +2,7 @@ use Rattle.std.proofs.Common.{ap, ◌∙◌}
 use Rattle.text_core.specs.Reading.{first_among}
 use Rattle.its_text.specs.Grammar.{programs}
 use Rattle.its_text.specs.Kinds.{Limit, LongName}
-use Rattle.its_text.specs.FrontFaults.{fault_if, long_name}
+use Rattle.its_text.specs.StateFaults.{fault_if, long_name}
 use Rattle.its_reader.specs.Views.{maybe_of}
 use Rattle.its_reader.specs.Faults.{maybe_fault}
 use Rattle.its_reader.specs.FaultTests.{going_if, is_costing}

@@ -3,7 +3,7 @@ use Rattle.text_core.specs.Reading.{first_among}
 use Rattle.its_text.specs.Grammar.{programs}
 use Rattle.its_reader.specs.Faults.{maybe_fault}
 use Rattle.its_text.specs.Kinds.{Syntax, ManyTargets, Limit, TooManyArguments, LongName}
-use Rattle.its_text.specs.FrontFaults.{fault_if, is_open, long_name}
+use Rattle.its_text.specs.StateFaults.{fault_if, is_open, long_name}
 use Rattle.its_reader.specs.FaultTests.{going_if, is_within, names_one, wants_target_name, names_many, is_in_argument}
 use Rattle.its_reader.specs.FaultTests.{begins_full, can_read_argument}
 use Rattle.its_reader.proofs.FaultTestLaws.{four_first_fault, one_more_behind}

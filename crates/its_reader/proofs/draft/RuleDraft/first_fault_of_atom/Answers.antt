@@ -6,7 +6,7 @@ use Rattle.its_reader.specs.FaultTests.{step_faults, truth_in}
 use Rattle.its_reader.proofs.FaultTestLaws.{one_more}
 use Rattle.its_reader.specs.Views.{maybe_of}
 use Rattle.its_text.specs.Kinds.{Limit, LongName}
-use Rattle.its_text.specs.FrontFaults.{fault_if, long_name}
+use Rattle.its_text.specs.StateFaults.{fault_if, long_name}
 use Rattle.its_reader.specs.Tests.{inner_next}
 use Rattle.expr_reader.specs.GuardParts.{piece_in}
 use Rattle.its_reader.proofs.draft.RuleDraft.first_fault_of_atom.Goals as goal

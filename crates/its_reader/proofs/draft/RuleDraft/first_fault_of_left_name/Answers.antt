@@ -3,7 +3,7 @@ use Rattle.text_core.specs.Reading.{first_among}
 use Rattle.its_text.specs.Grammar.{programs}
 use Rattle.its_reader.specs.Faults.{maybe_fault}
 use Rattle.its_text.specs.Kinds.{LeftNotVariable, LeftRepeated, Limit, TooManyArguments}
-use Rattle.its_text.specs.FrontFaults.{fault_if, is_operator}
+use Rattle.its_text.specs.StateFaults.{fault_if, is_operator}
 use Rattle.its_reader.proofs.FaultTestLaws.{three_first_fault}
 use Rattle.its_reader.specs.Views.{maybe_of}
 use Rattle.std.specs.Prelude.{nat_le, length}

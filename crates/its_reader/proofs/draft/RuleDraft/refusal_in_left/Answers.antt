@@ -1,6 +1,6 @@
 use Rattle.std.proofs.Common.{ap, ◌∙◌, ◌&&◌}
 use Rattle.its_text.specs.Kinds.{ArityDiffers}
-use Rattle.its_text.specs.FrontFaults.{fault_if}
+use Rattle.its_text.specs.StateFaults.{fault_if}
 use Rattle.its_reader.proofs.draft.RuleDraft.refusal_in_left.Goals as goal
 
 pub returns : goal.returns

@@ -2,13 +2,13 @@ use Rattle.std.proofs.Common.{◌≡◌, true, false}
 use Rattle.its_model.specs.Views.{program_of}
 use Rattle.its_reader.specs.its_text.Answers.{verdict}
 use Rattle.its_reader.proofs.its_text.SpelledVerdicts.{verdict_spells}
-use Rattle.koat_cli.proofs.ReadPrograms.{read_stands, refused_first}
+use Rattle.koat_cli.proofs.ReadPrograms.{read_program_parsed, refused_first}
 use Rattle.koat_cli.proofs.program_reader.ProgramsReader.read.Goals as goal
 
 pub returns-in-Ok : goal.returns-in-Ok
 returns-in-Ok c =
     verdict_spells c.args.bytes.now (program_of c.in-Ok.program)
-    (read_stands (verdict c.args.bytes.now) c.in-Ok.program c.in-Ok.ensures.says)
+    (read_program_parsed (verdict c.args.bytes.now) c.in-Ok.program c.in-Ok.ensures.says)
 
 pub returns-in_ok-refusal-in-Err : goal.returns-in_ok-refusal-in-Err
 returns-in_ok-refusal-in-Err c =

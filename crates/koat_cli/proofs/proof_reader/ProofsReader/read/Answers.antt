@@ -1,4 +1,4 @@
-use Rattle.cert_text.specs.Told.{refusal_in}
+use Rattle.cert_text.specs.StatedErrors.{refusal_in}
 use Rattle.check_text.specs.Texts.{proof_refusal_text}
 use Rattle.koat_cli.proofs.Statements.{found_stated}
 use Rattle.koat_cli.proofs.proof_reader.ProofsReader.read.Goals as goal

@@ -5,7 +5,7 @@ use Rattle.lasso_check.specs.declared.file.Lasso.{Lasso}
 use Rattle.lasso_check.specs.Lassos.{run_along}
 use Rattle.lasso_check.specs.Views.{lasso_of}
 use Rattle.lasso_check.proofs.Walks.{turn_step, own_step, both_length}
-use Rattle.lasso_check.proofs.Turns.{turned_next, noted_length}
+use Rattle.lasso_check.proofs.Turns.{turned_next, recorded_length}
 use Rattle.lasso_check.proofs.turning.Turning.step_on.Goals as goal
 
 -- a position behind the stem is one of both parts
@@ -21,8 +21,8 @@ in_both l i n e low = omega (arith, e, low, both_length l)
 
 pub index_mut-requires : goal.index_mut-requires
 index_mut-requires c =
-    let noted = noted_length (program_of c.args.p.now) (lasso_of c.args.lasso.now) c.args.i c.args.self.now c.requires.turned in
-    omega (arith, c.in-Ok.ensures.rule.0, c.in-Ok.ensures.rule.1, noted, length-map c.args.p.now.rules.items rule_of)
+    let recorded = recorded_length (program_of c.args.p.now) (lasso_of c.args.lasso.now) c.args.i c.args.self.now c.requires.turned in
+    omega (arith, c.in-Ok.ensures.rule.0, c.in-Ok.ensures.rule.1, recorded, length-map c.args.p.now.rules.items rule_of)
 
 pub returns-in-Ok : goal.returns-in-Ok
 returns-in-Ok c =

@@ -3,7 +3,7 @@ use Rattle.poly_terms.specs.Views.{term_of}
 use Rattle.refined_programs.specs.Affine.{with_products, affine_term}
 use Rattle.refined_programs.proofs.affine.Affine.expr.Given as goal
 
--- the products of the coefficients left, behind the sum so far, are the form
+-- the sum so far and the products of the coefficients left are the form
 abbrev pub invariant-loop-i : goal.invariant-loop-i
 invariant-loop-i l =
     with_products (term_of l.sum) l.i (drop l.i l.self.coefs.items)

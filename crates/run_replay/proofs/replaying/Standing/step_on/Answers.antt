@@ -9,7 +9,7 @@ use Rattle.its_model.specs.Views.{program_of, config_of, step_of}
 use Rattle.run_replay.specs.declared.file.RunFile.{RunFile}
 use Rattle.run_replay.specs.declared.replaying.Standing.{Standing}
 use Rattle.run_replay.specs.Views.{run_of}
-use Rattle.run_replay.specs.ReplayAnswers.{first_steps, sums_of, Notes, StandsBehind}
+use Rattle.run_replay.specs.ReplayAnswers.{first_steps, sums_of, Notes, ReplayIsAfter}
 use Rattle.run_replay.proofs.ReplayFaults.{replay_steps}
 use Rattle.run_replay.proofs.ReplayStands.{IsNotable, notable, first_length, bad_first, refuses, stands_next}
 use Rattle.run_replay.proofs.replaying.Standing.step_on.Goals as goal
@@ -25,7 +25,7 @@ read_within steps i low = omega (arith, low, length-map steps step_of)
 
 -- what the tally so far offers to a step that is taken
 offers : (p : Program) (run : RunFile) (i : ℕ) (s : Standing) (x : Step) (d : Config)
-    → StandsBehind (program_of p) (run_of run) i s
+    → ReplayIsAfter (program_of p) (run_of run) i s
     → runs.IsStep (program_of p) (config_of s.walk.here) (step_of x) (config_of d)
     → IsNotable (sums_of s.tally) (step_of x) (first_steps (run_of run) i) d.values.items
 offers p run i s x d h step =

@@ -12,11 +12,11 @@ returns-clause-known c = λ es k.
     progressed (program_of c.args.self.now.program.now) c.args.self.now.text.now es c.args.token.piece
     (draft_of c.args.self.now.draft) (draft_of c.take.new.self) c.args.self.now.broken c.breaks-self.result k c.in_ok-take.ensures
     (c.breaks-self.ensures
-    ∙ ap (λ (o : Option SectionKind). c.args.self.now.broken || is_some o) c.against_piece-kind.ensures)
+    ∙ ap (λ (o : Option SectionKind). c.args.self.now.broken || is_some o) c.fault_of_piece-kind.ensures)
 
 pub returns-clause-shown : goal.returns-clause-shown
 returns-clause-shown c = λ es k.
     c.shown_fault-shown.ensures
-    ∙ ap (λ (o : Option SectionKind). shown_at c.args.self.now.broken o c.args.token.at) c.against_piece-kind.ensures
+    ∙ ap (λ (o : Option SectionKind). shown_at c.args.self.now.broken o c.args.token.at) c.fault_of_piece-kind.ensures
     ∙ shown_behind (program_of c.args.self.now.program.now) c.args.self.now.text.now es (draft_of c.args.self.now.draft)
     c.args.self.now.broken c.args.token.piece c.args.token.at k

@@ -1,0 +1,13 @@
+pub mod GroundLaws
+pub mod TakingLaws
+pub mod RefusalLaws
+pub mod StageLaws
+pub mod KeyLaws
+pub mod PartLaws
+pub mod LevelLaws
+pub mod MissingLaws
+pub mod SizeLaws
+pub mod ListLaws
+pub mod PhaseTables
+pub mod MoveLaws
+pub mod NeverLaws

@@ -1,0 +1,22 @@
+use Rattle.std.proofs.Common.{◌∙◌, sym, arith}
+use Rattle.potential_nodes.specs.Falls.{amount_check}
+use Rattle.check_potentials.specs.Grounds.{plain_ground}
+use Rattle.potential_types.specs.Views.{payment_of}
+use Rattle.check_potentials.proofs.RefusalLaws.{refused_passed, refused_found, refused_none}
+use Rattle.check_potentials.proofs.falls.unshown_amount.Goals as goal
+
+pub returns-then-not-is_shown : goal.returns-then-not-is_shown
+returns-then-not-is_shown c =
+    refused_found (amount_check (plain_ground c.args.ground)) payment_of c.args.payments.now
+    c.loop-payment.payment-index c.payment-item.result c.loop-payment-test.true c.payment-item.is
+    (sym c.in_ok-is_shown.ensures ∙ c.if-not-is_shown.true) c.loop-payment.invariant
+
+pub loop-payment-preserved : goal.loop-payment-preserved
+loop-payment-preserved c =
+    refused_passed (amount_check (plain_ground c.args.ground)) payment_of c.args.payments.now
+    c.loop-payment.payment-index c.payment-item.result c.loop-payment-test.true c.payment-item.is
+    (sym c.in_ok-is_shown.ensures ∙ c.if-not-is_shown.false) c.loop-payment.invariant
+
+pub returns : goal.returns
+returns c = refused_none (amount_check (plain_ground c.args.ground)) payment_of c.args.payments.now
+    c.loop-payment.payment-index (omega arith) c.loop-payment.invariant

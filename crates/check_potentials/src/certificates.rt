@@ -1,0 +1,111 @@
+//! Certificates: whether multiples of rows and of products of rows show that an expression is never negative.
+
+ghost use Rattle.std.specs.Prelude.{◌≡◌, IfOk};
+ghost use Rattle.poly_terms.specs.Views.{term_of};
+ghost use Rattle.signed_bounds.specs.Safe.{expands_to_squares as expands};
+ghost use Rattle.potential_nodes.specs.Certificates.{shows as is_shown, summand_term, rest as what_is_left};
+ghost use Rattle.potential_nodes.specs.Certificates.{are_opposite as is_opposite, all_opposite as each_opposite};
+ghost use Rattle.check_potentials.specs.Grounds.{row_terms_of};
+ghost use Rattle.potential_types.specs.Views.{summand_of, summands_of};
+
+use crate::expressions::row_at;
+use poly_terms::{Expr, Memory, Row};
+use potential_types::Summand;
+use signed_within::expands_to_squares;
+use std::alloc::Global;
+
+/// Whether the summands show the goal over the rows: the two rows that each summand says are opposites have a sum of at
+/// most 0, and the goal less all summands expands to squares.
+///
+/// # Errors
+///
+/// `Memory` where an allocation fails.
+pub(crate) fn shows(
+    alloc: Global,
+    rows: &[Row],
+    summands: &[Summand],
+    goal: Expr,
+) -> Result<bool, Memory>
+    ensures { IfOk result (λ r. r
+        ≡ is_shown expands (row_terms_of rows.now) (summands_of summands.now) (term_of goal)) }
+{
+    if !all_opposite(alloc, rows, summands)? {
+        return Ok(false);
+    }
+    let left = rest(alloc, rows, summands, goal)?;
+    expands_to_squares(alloc, &left)
+}
+
+// Whether the rows that each summand says are opposites have a sum of at most 0.
+fn all_opposite(alloc: Global, rows: &[Row], summands: &[Summand]) -> Result<bool, Memory>
+    ensures { IfOk result (λ r. r ≡ each_opposite expands (row_terms_of rows.now) (summands_of summands.now)) }
+{
+    for summand in summands {
+        if !are_opposite(alloc, rows, *summand)? {
+            return Ok(false);
+        }
+    }
+    Ok(true)
+}
+
+fn are_opposite(alloc: Global, rows: &[Row], summand: Summand) -> Result<bool, Memory>
+    ensures { IfOk result (λ r. r ≡ is_opposite expands (row_terms_of rows.now) (summand_of summand)) }
+{
+    match summand {
+        Summand::OneRow { .. } | Summand::TwoRows { .. } => Ok(true),
+        Summand::ZeroRow { row, opposite, .. } => {
+            let first = row_at(alloc, rows, row)?;
+            let second = row_at(alloc, rows, opposite)?;
+            let sum = Expr::sum(alloc, first, second)?;
+            let negated = Expr::negation(alloc, sum)?;
+            expands_to_squares(alloc, &negated)
+        }
+    }
+}
+
+// The goal less each summand.
+fn rest(alloc: Global, rows: &[Row], summands: &[Summand], goal: Expr) -> Result<Expr, Memory>
+    ensures { IfOk result (λ e. term_of e
+        ≡ what_is_left (row_terms_of rows.now) (summands_of summands.now) (term_of goal)) }
+{
+    match summands.split_first() {
+        None => Ok(goal),
+        Some((summand, others)) => {
+            let term = summand_expr(alloc, rows, *summand)?;
+            let left = Expr::difference(alloc, goal, term)?;
+            rest(alloc, rows, others, left)
+        }
+    }
+}
+
+// A summand as an expression.
+fn summand_expr(alloc: Global, rows: &[Row], summand: Summand) -> Result<Expr, Memory>
+    ensures { IfOk result (λ e. term_of e ≡ summand_term (row_terms_of rows.now) (summand_of summand)) }
+{
+    match summand {
+        Summand::OneRow { times, row } => {
+            let row = row_at(alloc, rows, row)?;
+            Expr::product(alloc, Expr::Num(times as i128), row)
+        }
+        Summand::TwoRows {
+            times,
+            first,
+            second,
+        } => {
+            let first = row_at(alloc, rows, first)?;
+            let second = row_at(alloc, rows, second)?;
+            let product = Expr::product(alloc, first, second)?;
+            Expr::product(alloc, Expr::Num(times as i128), product)
+        }
+        Summand::ZeroRow {
+            times,
+            row,
+            variable,
+            ..
+        } => {
+            let row = row_at(alloc, rows, row)?;
+            let product = Expr::product(alloc, Expr::Var(variable), row)?;
+            Expr::product(alloc, Expr::Num(times as i128), product)
+        }
+    }
+}

@@ -1,5 +1,0 @@
-use Rattle.location_facts.proofs.ProgramAnswers.{answers-tell-implied}
-use Rattle.location_facts.proofs.laws.answers_tell_implied.Goals as goal
-
-pub returns : goal.returns
-returns c = answers-tell-implied

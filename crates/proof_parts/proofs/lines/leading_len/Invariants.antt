@@ -1,0 +1,18 @@
+use Rattle.std.proofs.Common.{◌≡◌, ◌≤◌, ◌-◌, ◌++◌, length, take, drop}
+use Rattle.std.specs.List.{concat}
+use Rattle.text_core.specs.Prefixes.{prefix, rest}
+use Rattle.proof_parts.specs.Lines.{lines_of}
+use Rattle.proof_parts.specs.Kinds.{is_line_of}
+use Rattle.proof_parts.proofs.lines.leading_len.Given as goal
+
+-- the lines passed are of the kind, and what is left decides which others are
+abbrev pub invariant-loop-at : goal.invariant-loop-at
+invariant-loop-at l = record {
+  within : l.at ≤ length l.bytes;
+  front : take l.at l.bytes ++ concat (prefix (is_line_of l.kind) (lines_of (drop l.at l.bytes)))
+      ≡ concat (prefix (is_line_of l.kind) (lines_of l.bytes));
+  back : rest (is_line_of l.kind) (lines_of (drop l.at l.bytes)) ≡ rest (is_line_of l.kind) (lines_of l.bytes);
+}
+
+abbrev pub decreases-loop-at : goal.decreases-loop-at
+decreases-loop-at l = length l.bytes - l.at
